@@ -1,0 +1,139 @@
+-- What each entry point answers: number, values and every lent buffer, of what went in.
+use Prim.Native.Nat.{ℕ, zero, suc, _/_}
+use mathlib.Core.Bool.{Bool, true, false}
+use mathlib.Core.List.{List, [], _∷_}
+use lib.Dec.{ltb}
+use lib.IntN.{ℤ}
+use lib.ListN.{length, drop}
+use Rattle.rules.specs.Words.{put, integerAt}
+use Rattle.rules.specs.Records.{Record, recordCount}
+use Rattle.rules.specs.Kinds.{Language, source, target}
+use Rattle.rules.specs.Checker.{check, inputsFault, memoryFault, observationFault}
+use Rattle.rules.specs.Nodes.{sourceProgram, targetProgram}
+use Rattle.rules.specs.Memory.{Memory, startMemory, countFree}
+use Rattle.rules.specs.Observation.{Observation, startObservation}
+use Rattle.rules.specs.Plain.{Outcome, finished, ended, run, startVariables}
+use Rattle.rules.specs.Watched.{WatchedOutcome, watch, startTemporaries}
+use Rattle.rules.specs.Watched as watched
+use Rattle.rules.specs.Translation.{translation}
+use Rattle.rules.specs.Layout.{memoryImage, observationImage}
+use Rattle.rules.specs.declared.Checked.{Checked}
+use Rattle.rules.specs.declared.Checked.the-variants as checked
+use Rattle.rules.specs.declared.Answer.{Answer}
+
+-- `record` is the refused record, the source statement of an ending, or a translation's record count
+abbrev pub answer : ℕ → ℕ → ℕ → ℕ → Answer
+answer k n fuel free = record { number = k; «record» = n; fuel = fuel; «free_cells» = free }
+
+-- "The checker answers 0 with record 0 for an accepted table." "Numbers 1–22 return the number and record (0 where none)"
+abbrev pub checkedAnswer : Checked → Answer
+checkedAnswer checked.Accepted = answer 0 0 0 0
+checkedAnswer (checked.Refused k n) = answer k n 0 0
+
+abbrev pub checkSource : List ℕ → Answer
+checkSource t = checkedAnswer (check source t)
+
+abbrev pub checkTarget : List ℕ → Answer
+checkTarget t = checkedAnswer (check target t)
+
+-- a translation's answer and its lent output
+pub record Translated : Type 0 where
+  pub answer : Answer
+  pub out : List ℕ
+
+-- "20 output shorter than the translation"; "A translation returns 0 and its record count; bytes past it stay."
+abbrev pub translatedInto : List ℕ → List ℕ → Translated
+translatedInto bytes out =
+    elim (ltb (length out) (length bytes)) [
+    true ↦ record { answer = answer 20 0 0 0; out = out }
+    | false ↦ record { answer = answer 0 (recordCount bytes) 0 0; out = put out 0 bytes } ]
+
+abbrev pub translatedBy : Checked → List ℕ → List ℕ → Translated
+translatedBy checked.Accepted t out = translatedInto (translation t) out
+translatedBy (checked.Refused k n) t out = record { answer = answer k n 0 0; out = out }
+
+abbrev pub translateSource : List ℕ → List ℕ → Translated
+translateSource t out = translatedBy (check source t) t out
+
+-- the inputs' numbers: n of them, and all
+abbrev pub numbersIn : ℕ → List ℕ → List ℤ
+numbersIn zero i = []
+numbersIn (suc n) i = integerAt i 0 ∷ numbersIn n (drop 8 i)
+
+abbrev pub inputsOf : List ℕ → List ℤ
+inputsOf i = numbersIn (length i / 8) i
+
+-- "Endings return number, source statement, fuel left, free cells. 0 finished (statement 0)."
+abbrev pub endingOf : Outcome → Answer
+endingOf (finished m f) = answer 0 0 f (countFree (m .cells))
+endingOf (ended c s m f) = answer c s f (countFree (m .cells))
+
+abbrev pub memoryAfter : Outcome → Memory
+memoryAfter (finished m f) = m
+memoryAfter (ended c s m f) = m
+
+-- a plain run's answer and its lent memory
+pub record PlainRun : Type 0 where
+  pub answer : Answer
+  pub memory : List ℕ
+
+abbrev pub plainRefused : ℕ → ℕ → List ℕ → PlainRun
+plainRefused k n memory = record { answer = answer k n 0 0; memory = memory }
+
+-- "A run clears both memories": what the memory held before counts for nothing
+abbrev pub plainOutcome : List ℕ → List ℕ → ℕ → Outcome
+plainOutcome t i f = run (sourceProgram t) startVariables (startMemory (inputsOf i)) f
+
+abbrev pub plainEnded : Outcome → PlainRun
+plainEnded o = record { answer = endingOf o; memory = memoryImage (memoryAfter o) }
+
+abbrev pub plainBy : Checked → List ℕ → List ℕ → ℕ → List ℕ → PlainRun
+plainBy (checked.Refused k n) t i f memory = plainRefused k n memory
+plainBy checked.Accepted t i f memory =
+    elim (inputsFault i) [ true ↦ plainRefused 9 0 memory | false ↦
+    elim (memoryFault memory) [ true ↦ plainRefused 21 0 memory | false ↦ plainEnded (plainOutcome t i f) ] ]
+
+abbrev pub runPlain : List ℕ → List ℕ → ℕ → List ℕ → PlainRun
+runPlain t i f memory = plainBy (check source t) t i f memory
+
+-- the same of a watched run
+abbrev pub watchedEndingOf : WatchedOutcome → Answer
+watchedEndingOf (watched.finished m o τ f) = answer 0 0 f (countFree (m .cells))
+watchedEndingOf (watched.ended c s m o τ f) = answer c s f (countFree (m .cells))
+
+abbrev pub watchedMemoryAfter : WatchedOutcome → Memory
+watchedMemoryAfter (watched.finished m o τ f) = m
+watchedMemoryAfter (watched.ended c s m o τ f) = m
+
+abbrev pub observationAfter : WatchedOutcome → Observation
+observationAfter (watched.finished m o τ f) = o
+observationAfter (watched.ended c s m o τ f) = o
+
+pub record WatchedRun : Type 0 where
+  pub answer : Answer
+  pub memory : List ℕ
+  pub observation : List ℕ
+
+abbrev pub watchedRefused : ℕ → ℕ → List ℕ → List ℕ → WatchedRun
+watchedRefused k n memory observation = record { answer = answer k n 0 0; memory = memory; observation = observation }
+
+abbrev pub watchedOutcome : List ℕ → List ℕ → ℕ → WatchedOutcome
+watchedOutcome t i f =
+    watch (targetProgram t) startVariables (startMemory (inputsOf i)) (startObservation (length i / 8)) startTemporaries f
+
+abbrev pub watchedEnded : WatchedOutcome → WatchedRun
+watchedEnded w = record {
+  answer = watchedEndingOf w;
+  memory = memoryImage (watchedMemoryAfter w);
+  observation = observationImage (observationAfter w) }
+
+abbrev pub watchedBy : Checked → List ℕ → List ℕ → ℕ → List ℕ → List ℕ → WatchedRun
+watchedBy (checked.Refused k n) t i f memory observation = watchedRefused k n memory observation
+watchedBy checked.Accepted t i f memory observation =
+    elim (inputsFault i) [ true ↦ watchedRefused 9 0 memory observation | false ↦
+    elim (memoryFault memory) [ true ↦ watchedRefused 21 0 memory observation | false ↦
+    elim (observationFault observation) [ true ↦ watchedRefused 22 0 memory observation | false ↦
+    watchedEnded (watchedOutcome t i f) ] ] ]
+
+abbrev pub runWatched : List ℕ → List ℕ → ℕ → List ℕ → List ℕ → WatchedRun
+runWatched t i f memory observation = watchedBy (check target t) t i f memory observation

@@ -1,0 +1,21 @@
+-- Document 01 as definitions, in its order.
+pub mod Sizes
+pub mod Words
+pub mod Records
+pub mod Kinds
+pub mod Checker
+pub mod Trees
+pub mod TargetTrees
+pub mod Nodes
+pub mod Numbers
+pub mod Memory
+pub mod Evaluation
+pub mod Plain
+pub mod Past
+pub mod Observation
+pub mod Watched
+pub mod Translation
+pub mod Layout
+pub mod Answers
+pub mod Listing
+pub mod Cases

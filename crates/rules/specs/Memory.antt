@@ -1,0 +1,237 @@
+-- The execution memory: its blocks and cells, and what a statement does to them.
+use Prim.Native.Nat.{ℕ, zero, suc, _+_, _-_}
+use mathlib.Core.Bool.{Bool, true, false, cond}
+use mathlib.Core.List.{List, [], _∷_, _++_, map}
+use lib.Dec.{ltb}
+use lib.IntN.{ℤ, pos, negsuc}
+use lib.ListN.{length, getD, set, replicate}
+use Rattle.rules.specs.Sizes.{nameCount, cellCount}
+use Rattle.rules.specs.Checker.{lowest}
+use Rattle.rules.specs.declared.Pointer.{Pointer}
+use Rattle.rules.specs.declared.Value.{Value}
+use Rattle.rules.specs.declared.Value.the-variants as value
+use Rattle.rules.specs.declared.Evaluated.{Evaluated}
+use Rattle.rules.specs.declared.Evaluated.the-variants as evaluated
+use Rattle.rules.specs.declared.Found.{Found}
+use Rattle.rules.specs.declared.Found.the-variants as found
+use Rattle.rules.specs.declared.Located.{Located}
+use Rattle.rules.specs.declared.Located.the-variants as located
+use Rattle.rules.specs.declared.Search.{Search}
+use Rattle.rules.specs.declared.Search.the-variants as search
+use Rattle.rules.specs.declared.Block.{Block}
+use Rattle.rules.specs.declared.Block.the-variants as block
+use Rattle.rules.specs.declared.Recorded.{Recorded}
+use Rattle.rules.specs.declared.Recorded.the-variants as recorded
+use Rattle.rules.specs.declared.Cell.{Cell}
+use Rattle.rules.specs.declared.Cell.the-variants as cell
+
+-- block records by name from 1, cells from 0
+pub record Memory : Type 0 where
+  pub blocks : List Block
+  pub cells : List Cell
+
+-- what both memories ask of a block: whether it is live, and where
+abbrev pub recordedOf : Block → Recorded
+recordedOf block.Unused = recorded.Unused
+recordedOf (block.Fixed first n) = recorded.Live first n
+recordedOf (block.Freeable first n) = recorded.Live first n
+recordedOf block.Dead = recorded.Dead
+
+-- a list's element by a name: names count from 1, and d stands for a name that has no record
+abbrev pub named : {A : Type 0} → List A → ℕ → A → A
+named l zero d = d
+named l (suc k) d = getD l k d
+
+abbrev pub rename : {A : Type 0} → List A → ℕ → A → List A
+rename l zero x = l
+rename l (suc k) x = set l k x
+
+abbrev pub blockOf : Memory → ℕ → Block
+blockOf m k = named (m .blocks) k block.Dead
+
+abbrev pub cellOf : Memory → ℕ → Cell
+cellOf m i = getD (m .cells) i cell.Free
+
+-- "Valid: the block is live and the offset inside."
+abbrev pub locatedIn : Recorded → ℤ → Located
+locatedIn recorded.Unused o = located.Dead
+locatedIn (recorded.Live first n) (pos o) = cond (ltb o n) (located.At (first + o)) located.Outside
+locatedIn (recorded.Live first n) (negsuc o) = located.Outside
+locatedIn recorded.Dead o = located.Dead
+
+unfoldable pub locate : Memory → Pointer → Located
+locate m p = locatedIn (recordedOf (blockOf m (p .name))) (p .offset)
+
+-- "42 cell in a dead block or outside"
+abbrev pub atCell : {A : Type 0} → (ℕ → A) → (ℕ → A) → Located → A
+atCell at stop (located.At i) = at i
+atCell at stop located.Dead = stop 42
+atCell at stop located.Outside = stop 42
+
+-- "41 undefined cell read"; no pointer leads to a free cell
+abbrev pub defined : Cell → Evaluated
+defined cell.Free = evaluated.Stopped 41
+defined (cell.Holds o value.Undefined) = evaluated.Stopped 41
+defined (cell.Holds o (value.Integer z)) = evaluated.Value (value.Integer z)
+defined (cell.Holds o (value.Pointer p)) = evaluated.Value (value.Pointer p)
+
+abbrev pub readCell : Memory → Pointer → Evaluated
+readCell m p = atCell (λ i. defined (cellOf m i)) evaluated.Stopped (locate m p)
+
+-- a change of the memory, or a stop with the memory as it is then
+pub data Change : Type 0 where
+  changed : Memory → Change
+  stopped : ℕ → Memory → Change
+
+-- a store keeps the cell's owner
+abbrev pub setCell : Memory → ℕ → Cell → Memory
+setCell m i c = record { blocks = m .blocks; cells = set (m .cells) i c }
+
+abbrev pub storeCell : Memory → Pointer → Value → Change
+storeCell m p v =
+    atCell (λ i. changed (setCell m i (cell.Holds (p .name) v))) (λ k. stopped k m) (locate m p)
+
+-- "A block gets the lowest run of free cells that holds it": n places from s on are free
+unfoldable pub allFree : (ℕ → Bool) → ℕ → ℕ → Bool
+allFree p s zero = true
+allFree p s (suc n) = elim (p s) [ true ↦ allFree p (suc s) n | false ↦ false ]
+
+unfoldable pub lowestRun : (ℕ → Bool) → ℕ → Search
+lowestRun p n = lowest (λ s. allFree p s n) 0 (suc cellCount - n)
+
+abbrev pub isFree : Cell → Bool
+isFree cell.Free = true
+isFree (cell.Holds o v) = false
+
+abbrev pub freeRun : Memory → ℕ → Search
+freeRun m n = lowestRun (λ i. isFree (cellOf m i)) n
+
+-- "Block names 1–255 are given in rising order and never again."
+abbrev pub isUnused : Block → Bool
+isUnused block.Unused = true
+isUnused (block.Fixed first n) = false
+isUnused (block.Freeable first n) = false
+isUnused block.Dead = false
+
+abbrev pub nextName : Memory → Search
+nextName m = lowest (λ k. isUnused (blockOf m k)) 1 nameCount
+
+-- n places from s on take x
+abbrev pub fill : {A : Type 0} → List A → ℕ → ℕ → A → List A
+fill [] s n x = []
+fill (y ∷ ys) zero zero x = y ∷ ys
+fill (y ∷ ys) zero (suc n) x = x ∷ fill ys zero n x
+fill (y ∷ ys) (suc s) n x = y ∷ fill ys s n x
+
+-- a block of 42 is freeable, that of a let is fixed
+pub data Use : Type 0 where
+  fixed freeable : Use
+
+abbrev pub blockFor : Use → ℕ → ℕ → Block
+blockFor fixed first n = block.Fixed first n
+blockFor freeable first n = block.Freeable first n
+
+abbrev pub withBlock : Memory → Use → ℕ → ℕ → ℕ → Memory
+withBlock m u k first n = record {
+  blocks = rename (m .blocks) k (blockFor u first n);
+  cells = fill (m .cells) first n (cell.Holds k value.Undefined) }
+
+-- a new block's name and the memory with it, or "31 all names given", then "30 no run of free cells long enough"
+pub data Made : Type 0 where
+  made : ℕ → Memory → Made
+  unmade : ℕ → Made
+
+abbrev pub makeAt : Memory → Use → ℕ → Search → Search → Made
+makeAt m u n search.Nothing run = unmade 31
+makeAt m u n (search.At k) search.Nothing = unmade 30
+makeAt m u n (search.At k) (search.At first) = made k (withBlock m u k first n)
+
+abbrev pub makeBlock : Memory → Use → ℕ → Made
+makeBlock m u n = makeAt m u n (nextName m) (freeRun m n)
+
+-- a block's end: its cells are free again, its name is dead
+abbrev pub withoutCells : Memory → ℕ → Recorded → Memory
+withoutCells m k recorded.Unused = m
+withoutCells m k (recorded.Live first n) = record {
+  blocks = rename (m .blocks) k block.Dead;
+  cells = fill (m .cells) first n cell.Free }
+withoutCells m k recorded.Dead = m
+
+abbrev pub endBlock : Memory → ℕ → Memory
+endBlock m k = withoutCells m k (recordedOf (blockOf m k))
+
+-- by what evaluating gave
+abbrev pub onValue : {A : Type 0} → Evaluated → (ℕ → A) → (Value → A) → A
+onValue (evaluated.Value v) stop next = next v
+onValue (evaluated.Stopped k) stop next = stop k
+
+abbrev pub onPlace : {A : Type 0} → Found → (ℕ → A) → (Pointer → A) → A
+onPlace (found.Place p) stop next = next p
+onPlace (found.Stopped k) stop next = stop k
+
+-- by the sort of a value: "40 wrong sort of value"
+abbrev pub onInteger : {A : Type 0} → Value → (ℕ → A) → (ℤ → A) → A
+onInteger value.Undefined stop next = stop 40
+onInteger (value.Integer z) stop next = next z
+onInteger (value.Pointer p) stop next = stop 40
+
+abbrev pub onPointer : {A : Type 0} → Value → (ℕ → A) → (Pointer → A) → A
+onPointer value.Undefined stop next = stop 40
+onPointer (value.Integer z) stop next = stop 40
+onPointer (value.Pointer p) stop next = next p
+
+-- "41 place A takes expression B"
+abbrev pub assigned : Memory → Found → Evaluated → Change
+assigned m f e = onPlace f (λ k. stopped k m) (λ p. onValue e (λ k. stopped k m) (λ v. storeCell m p v))
+
+-- "Statement 42 makes the block first and then stores the pointer."
+abbrev pub storeNew : Memory → Pointer → Made → Change
+storeNew m p (made k m₁) = storeCell m₁ p (value.Pointer (record { name = k; offset = pos 0 }))
+storeNew m p (unmade c) = stopped c m
+
+-- "45 size below 1"; "at a new block 45, 31, 30 after 40"
+abbrev pub newOfSize : Memory → Pointer → ℤ → Change
+newOfSize m p (pos zero) = stopped 45 m
+newOfSize m p (pos (suc n)) = storeNew m p (makeBlock m freeable (suc n))
+newOfSize m p (negsuc n) = stopped 45 m
+
+-- "42 place A takes a new block of B cells"
+abbrev pub allocated : Memory → Found → Evaluated → Change
+allocated m f e =
+    onPlace f (λ k. stopped k m) (λ p.
+    onValue e (λ k. stopped k m) (λ v.
+    onInteger v (λ k. stopped k m) (λ z. newOfSize m p z)))
+
+-- "46 free of a pointer to anything but the first cell of a live freeable block"
+abbrev pub freeOf : Memory → ℕ → Block → Change
+freeOf m k block.Unused = stopped 46 m
+freeOf m k (block.Fixed first n) = stopped 46 m
+freeOf m k (block.Freeable first n) = changed (endBlock m k)
+freeOf m k block.Dead = stopped 46 m
+
+abbrev pub freeAt : Memory → ℕ → ℤ → Change
+freeAt m k (pos zero) = freeOf m k (blockOf m k)
+freeAt m k (pos (suc o)) = stopped 46 m
+freeAt m k (negsuc o) = stopped 46 m
+
+abbrev pub freed : Memory → Evaluated → Change
+freed m e =
+    onValue e (λ k. stopped k m) (λ v.
+    onPointer v (λ k. stopped k m) (λ p. freeAt m (p .name) (p .offset)))
+
+-- the number of free cells
+abbrev pub one : Bool → ℕ
+one true = 1
+one false = 0
+
+unfoldable pub countFree : List Cell → ℕ
+countFree [] = 0
+countFree (c ∷ cs) = one (isFree c) + countFree cs
+
+-- "block 1 is its cell, pointing to block 2, which holds the inputs .. Neither can be freed."
+unfoldable pub startMemory : List ℤ → Memory
+startMemory inputs = record {
+  blocks = block.Fixed 0 1 ∷ block.Fixed 1 (length inputs) ∷ replicate (nameCount - 2) block.Unused;
+  cells =
+    cell.Holds 1 (value.Pointer (record { name = 2; offset = pos 0 }))
+    ∷ (map (λ z. cell.Holds 2 (value.Integer z)) inputs ++ replicate (cellCount - 1 - length inputs) cell.Free) }

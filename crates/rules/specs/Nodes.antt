@@ -1,0 +1,234 @@
+-- The tree that each record of a table is, by a left fold: node n is made of record n and of the nodes before it.
+use Prim.Native.Nat.{ℕ, zero, suc}
+use mathlib.Core.Bool.{Bool, true, false, _&&_}
+use mathlib.Core.List.{List, [], _∷_, _++_}
+use mathlib.Core.Option.{Option, none, some}
+use mathlib.Core.Path.{_≡_}
+use lib.Dec.{ltb, leb, eqb}
+use lib.IntN.{ℤ, pos, natAbs}
+use lib.ListN.{getD}
+use Rattle.rules.specs.Records.{Record, recordCount, kindOf, recordAt}
+use Rattle.rules.specs.Kinds.{Language, source, target, sortNumber, Field, unnamed, child, number, Form, formOf}
+use Rattle.rules.specs.Kinds.{expression, place, term, predicate, statement}
+use Rattle.rules.specs.Checker.{recordFault}
+use Rattle.rules.specs.Trees.{Operator, add, subtract, multiply, divide, nearest, atMost, equal, shift, Query, valid, initialised, base, offset, blockLength, Expression, literal, read, address, operation, shifted, Place, variable, pointed, temporary, Term, value, asked, combined, Predicate, holds, compared, negated, both, either, Statement}
+use Rattle.rules.specs.Trees as tree
+use Rattle.rules.specs.TargetTrees.{TargetStatement}
+use Rattle.rules.specs.TargetTrees as target-tree
+
+-- operators and queries by their numbers; 8 and 5 stand for what no accepted record has
+abbrev pub operatorOf : ℕ → Operator
+operatorOf zero = shift
+operatorOf (suc zero) = add
+operatorOf (suc (suc zero)) = subtract
+operatorOf (suc (suc (suc zero))) = multiply
+operatorOf (suc (suc (suc (suc zero)))) = divide
+operatorOf (suc (suc (suc (suc (suc zero))))) = nearest
+operatorOf (suc (suc (suc (suc (suc (suc zero)))))) = atMost
+operatorOf (suc (suc (suc (suc (suc (suc (suc zero))))))) = equal
+operatorOf (suc (suc (suc (suc (suc (suc (suc (suc n)))))))) = shift
+
+abbrev pub queryOf : ℕ → Query
+queryOf zero = blockLength
+queryOf (suc zero) = valid
+queryOf (suc (suc zero)) = initialised
+queryOf (suc (suc (suc zero))) = base
+queryOf (suc (suc (suc (suc zero)))) = offset
+queryOf (suc (suc (suc (suc (suc n))))) = blockLength
+
+-- what a record is, S being the language's statements; junk where it breaks the rules
+pub data Node (T S : Type 0) : Type 0 where
+  expressionNode : Expression T → Node T S
+  placeNode : Place T → Node T S
+  termNode : Term → Node T S
+  predicateNode : Predicate → Node T S
+  statementNode : S → Node T S
+  junk : Node T S
+
+abbrev pub nodeSort : {T S : Type 0} → Node T S → ℕ
+nodeSort (expressionNode e) = sortNumber expression
+nodeSort (placeNode p) = sortNumber place
+nodeSort (termNode t) = sortNumber term
+nodeSort (predicateNode p) = sortNumber predicate
+nodeSort (statementNode s) = sortNumber statement
+nodeSort junk = 0
+
+-- the tree of a node of the right sort; the other cases never count
+abbrev pub asExpression : {T S : Type 0} → Node T S → Expression T
+asExpression (expressionNode e) = e
+asExpression (placeNode p) = literal (pos 0)
+asExpression (termNode t) = literal (pos 0)
+asExpression (predicateNode p) = literal (pos 0)
+asExpression (statementNode s) = literal (pos 0)
+asExpression junk = literal (pos 0)
+
+abbrev pub asPlace : {T S : Type 0} → Node T S → Place T
+asPlace (expressionNode e) = variable 0
+asPlace (placeNode p) = p
+asPlace (termNode t) = variable 0
+asPlace (predicateNode p) = variable 0
+asPlace (statementNode s) = variable 0
+asPlace junk = variable 0
+
+abbrev pub asTerm : {T S : Type 0} → Node T S → Term
+asTerm (expressionNode e) = value (literal (pos 0))
+asTerm (placeNode p) = value (literal (pos 0))
+asTerm (termNode t) = t
+asTerm (predicateNode p) = value (literal (pos 0))
+asTerm (statementNode s) = value (literal (pos 0))
+asTerm junk = value (literal (pos 0))
+
+abbrev pub asPredicate : {T S : Type 0} → Node T S → Predicate
+asPredicate (expressionNode e) = holds valid (value (literal (pos 0)))
+asPredicate (placeNode p) = holds valid (value (literal (pos 0)))
+asPredicate (termNode t) = holds valid (value (literal (pos 0)))
+asPredicate (predicateNode p) = p
+asPredicate (statementNode s) = holds valid (value (literal (pos 0)))
+asPredicate junk = holds valid (value (literal (pos 0)))
+
+abbrev pub asStatement : {T S : Type 0} → S → Node T S → S
+asStatement d (expressionNode e) = d
+asStatement d (placeNode p) = d
+asStatement d (termNode t) = d
+asStatement d (predicateNode p) = d
+asStatement d (statementNode s) = s
+asStatement d junk = d
+
+-- an expression or a place of the record's kind; `temporaryOf` makes place 12
+abbrev pub expressionOf : {T S : Type 0} → (ℕ → Node T S) → Record → Node T S → Node T S → Node T S
+expressionOf temporaryOf r a b =
+    elim (eqb (r .kind) 1) [ true ↦ expressionNode (literal (r .literal)) | false ↦
+    elim (eqb (r .kind) 2) [ true ↦ expressionNode (read (asPlace a)) | false ↦
+    elim (eqb (r .kind) 3) [ true ↦ expressionNode (address (asPlace a)) | false ↦
+    elim (eqb (r .kind) 4) [ true ↦ expressionNode (operation (operatorOf (r .mark)) (asExpression a) (asExpression b)) | false ↦
+    elim (eqb (r .kind) 5) [ true ↦ expressionNode (shifted (asExpression a) (asExpression b)) | false ↦
+    elim (eqb (r .kind) 10) [ true ↦ placeNode (variable (r .mark)) | false ↦
+    elim (eqb (r .kind) 11) [ true ↦ placeNode (pointed (asExpression a)) | false ↦ temporaryOf (r .mark) ] ] ] ] ] ] ]
+
+abbrev pub SourceNode : Type 0
+SourceNode = Node ⊥ Statement
+
+abbrev pub TargetNode : Type 0
+TargetNode = Node ℕ TargetStatement
+
+abbrev pub sourceStatement : SourceNode → Statement
+sourceStatement x = asStatement (tree.skip 0) x
+
+abbrev pub targetStatement : TargetNode → TargetStatement
+targetStatement x = asStatement (target-tree.skip 0) x
+
+-- record n of a source table, of its fields and its children's nodes
+abbrev pub sourceOf : ℕ → Record → SourceNode → SourceNode → SourceNode → SourceNode
+sourceOf n r a b c =
+    elim (eqb (r .kind) 20) [ true ↦ termNode (value (asExpression a)) | false ↦
+    elim (eqb (r .kind) 21) [ true ↦ termNode (asked base (asTerm a)) | false ↦
+    elim (eqb (r .kind) 22) [ true ↦ termNode (asked offset (asTerm a)) | false ↦
+    elim (eqb (r .kind) 23) [ true ↦ termNode (asked blockLength (asTerm a)) | false ↦
+    elim (eqb (r .kind) 24) [ true ↦ termNode (combined (operatorOf (r .mark)) (asTerm a) (asTerm b)) | false ↦
+    elim (eqb (r .kind) 30) [ true ↦ predicateNode (holds valid (asTerm a)) | false ↦
+    elim (eqb (r .kind) 31) [ true ↦ predicateNode (holds initialised (asTerm a)) | false ↦
+    elim (eqb (r .kind) 32) [ true ↦ predicateNode (compared (operatorOf (r .mark)) (asTerm a) (asTerm b)) | false ↦
+    elim (eqb (r .kind) 33) [ true ↦ predicateNode (negated (asPredicate a)) | false ↦
+    elim (eqb (r .kind) 34) [ true ↦ predicateNode (both (asPredicate a) (asPredicate b)) | false ↦
+    elim (eqb (r .kind) 35) [ true ↦ predicateNode (either (asPredicate a) (asPredicate b)) | false ↦
+    elim (eqb (r .kind) 40) [ true ↦ statementNode (tree.skip n) | false ↦
+    elim (eqb (r .kind) 41) [ true ↦ statementNode (tree.assign n (asPlace a) (asExpression b)) | false ↦
+    elim (eqb (r .kind) 42) [ true ↦ statementNode (tree.new n (asPlace a) (asExpression b)) | false ↦
+    elim (eqb (r .kind) 43) [ true ↦ statementNode (tree.free n (asExpression a)) | false ↦
+    elim (eqb (r .kind) 44) [ true ↦ statementNode (tree.sequence n (sourceStatement a) (sourceStatement b)) | false ↦
+    elim (eqb (r .kind) 45) [
+      true ↦ statementNode (tree.branch n (asExpression a) (sourceStatement b) (sourceStatement c)) | false ↦
+    elim (eqb (r .kind) 46) [ true ↦ statementNode (tree.while n (asExpression a) (sourceStatement b)) | false ↦
+    elim (eqb (r .kind) 47) [ true ↦ statementNode (tree.letIn n (r .mark) (sourceStatement a)) | false ↦
+    elim (eqb (r .kind) 48) [ true ↦ statementNode (tree.assert n (asPredicate a)) | false ↦
+    expressionOf (λ m. junk) r a b ] ] ] ] ] ] ] ] ] ] ] ] ] ] ] ] ] ] ] ]
+
+-- record of a target table; s is its literal, a statement's number
+abbrev pub targetOf : ℕ → Record → TargetNode → TargetNode → TargetNode → TargetNode
+targetOf s r a b c =
+    elim (eqb (r .kind) 40) [ true ↦ statementNode (target-tree.skip s) | false ↦
+    elim (eqb (r .kind) 41) [ true ↦ statementNode (target-tree.assign s (asPlace a) (asExpression b)) | false ↦
+    elim (eqb (r .kind) 42) [ true ↦ statementNode (target-tree.new s (asPlace a) (asExpression b)) | false ↦
+    elim (eqb (r .kind) 43) [ true ↦ statementNode (target-tree.free s (asExpression a)) | false ↦
+    elim (eqb (r .kind) 44) [
+      true ↦ statementNode (target-tree.sequence s (targetStatement a) (targetStatement b)) | false ↦
+    elim (eqb (r .kind) 45) [
+      true ↦ statementNode (target-tree.branch s (asExpression a) (targetStatement b) (targetStatement c)) | false ↦
+    elim (eqb (r .kind) 46) [ true ↦ statementNode (target-tree.while s (asExpression a) (targetStatement b)) | false ↦
+    elim (eqb (r .kind) 47) [ true ↦ statementNode (target-tree.letIn s (r .mark) (targetStatement a)) | false ↦
+    elim (eqb (r .kind) 60) [ true ↦ statementNode (target-tree.takeAddress s (r .mark) (asPlace a)) | false ↦
+    elim (eqb (r .kind) 61) [ true ↦ statementNode (target-tree.takeValue s (r .mark) (asExpression a)) | false ↦
+    elim (eqb (r .kind) 63) [ true ↦ statementNode (target-tree.takeOperation s (r .mark) (operatorOf (r .c))) | false ↦
+    elim (eqb (r .kind) 64) [ true ↦ statementNode (target-tree.takeQuery s (r .mark) (queryOf (r .c))) | false ↦
+    elim (eqb (r .kind) 65) [ true ↦ statementNode (target-tree.takeNot s (r .mark)) | false ↦
+    elim (eqb (r .kind) 66) [
+      true ↦ statementNode (target-tree.branchOn s (r .mark) (targetStatement b) (targetStatement c)) | false ↦
+    elim (eqb (r .kind) 67) [ true ↦ statementNode (target-tree.assertOn s (r .mark)) | false ↦
+    elim (eqb (r .kind) 68) [ true ↦ statementNode (target-tree.storeBlock s (r .mark)) | false ↦
+    elim (eqb (r .kind) 69) [ true ↦ statementNode (target-tree.deleteBlock s (r .mark)) | false ↦
+    elim (eqb (r .kind) 70) [ true ↦ statementNode (target-tree.initialise s (r .mark)) | false ↦
+    expressionOf (λ m. placeNode (temporary m)) r a b ] ] ] ] ] ] ] ] ] ] ] ] ] ] ] ] ] ]
+
+abbrev pub NodeOf : Language → Type 0
+NodeOf source = SourceNode
+NodeOf target = TargetNode
+
+abbrev pub buildNode : (l : Language) → ℕ → Record → NodeOf l → NodeOf l → NodeOf l → NodeOf l
+buildNode source n r a b c = sourceOf n r a b c
+buildNode target n r a b c = targetOf (natAbs (r .literal)) r a b c
+
+abbrev pub junkNode : (l : Language) → NodeOf l
+junkNode source = junk
+junkNode target = junk
+
+abbrev pub sortOfNode : (l : Language) → NodeOf l → ℕ
+sortOfNode source x = nodeSort x
+sortOfNode target x = nodeSort x
+
+-- a child's node is of the sort that the form asks for
+abbrev pub nodeFits : (l : Language) → Field → NodeOf l → Bool
+nodeFits l unnamed x = true
+nodeFits l (child s) x = eqb (sortOfNode l x) (sortNumber s)
+nodeFits l (number p) x = true
+
+abbrev pub nodesFit : (l : Language) → Option Form → NodeOf l → NodeOf l → NodeOf l → Bool
+nodesFit l none a b c = false
+nodesFit l (some f) a b c = nodeFits l (f .a) a && nodeFits l (f .b) b && nodeFits l (f .c) c
+
+abbrev pub guarded : (l : Language) → Bool → NodeOf l → NodeOf l
+guarded l true x = x
+guarded l false x = junkNode l
+
+-- record n with its children's nodes: junk where the table has no record n, where it breaks rules 3–5, or where a
+-- child's node is junk
+abbrev pub nodeFrom : (l : Language) → List ℕ → ℕ → NodeOf l → NodeOf l → NodeOf l → NodeOf l
+nodeFrom l t n a b c =
+    guarded l
+      (ltb 0 n && leb n (recordCount t) && eqb (recordFault l t n) 0 && nodesFit l (formOf l (kindOf t n)) a b c)
+      (buildNode l n (recordAt t n) a b c)
+
+abbrev pub nodeIn : (l : Language) → List (NodeOf l) → ℕ → NodeOf l
+nodeIn l ns x = getD ns x (junkNode l)
+
+-- node n, given the nodes 0 .. n - 1
+unfoldable pub makeNode : (l : Language) → List ℕ → ℕ → List (NodeOf l) → NodeOf l
+makeNode l t n ns =
+    nodeFrom l t n (nodeIn l ns (recordAt t n .a)) (nodeIn l ns (recordAt t n .b)) (nodeIn l ns (recordAt t n .c))
+
+abbrev pub withNext : (l : Language) → List ℕ → ℕ → List (NodeOf l) → List (NodeOf l)
+withNext l t n ns = ns ++ (makeNode l t n ns ∷ [])
+
+-- the nodes 0 .. n - 1
+unfoldable pub nodes : (l : Language) → List ℕ → ℕ → List (NodeOf l)
+nodes l t zero = []
+nodes l t (suc n) = withNext l t n (nodes l t n)
+
+unfoldable pub nodeAt : (l : Language) → List ℕ → ℕ → NodeOf l
+nodeAt l t n = makeNode l t n (nodes l t n)
+
+-- "The last record is a statement"
+abbrev pub sourceProgram : List ℕ → Statement
+sourceProgram t = sourceStatement (nodeAt source t (recordCount t))
+
+abbrev pub targetProgram : List ℕ → TargetStatement
+targetProgram t = targetStatement (nodeAt target t (recordCount t))

@@ -1,0 +1,130 @@
+-- The operators on values.
+use Prim.Native.Nat.{ℕ, _+_, _*_, _/_, _^_}
+use mathlib.Core.Bool.{Bool, true, false, not, Bool·beq, cond, _&&_}
+use lib.Dec.{ltb, eqb}
+use lib.IntN.{ℤ, pos, negsuc, negℤ, natAbs, _+ℤ_, _-ℤ_, _*ℤ_}
+use lib.Signed.{leZ}
+use Rattle.rules.specs.Trees.{Operator, add, subtract, multiply, divide, nearest, atMost, equal, shift}
+use Rattle.rules.specs.declared.Pointer.{Pointer}
+use Rattle.rules.specs.declared.Value.{Value}
+use Rattle.rules.specs.declared.Value.the-variants as value
+use Rattle.rules.specs.declared.Evaluated.{Evaluated}
+use Rattle.rules.specs.declared.Evaluated.the-variants as evaluated
+use Rattle.rules.specs.declared.Test.{Test}
+use Rattle.rules.specs.declared.Test.the-variants as test
+use Rattle.rules.specs.declared.Number.{Number}
+use Rattle.rules.specs.declared.Number.the-variants as number
+
+-- a signed 64-bit number: −2^63 .. 2^63 − 1
+abbrev pub inRange : ℤ → Bool
+inRange (pos n) = ltb n (2 ^ 63)
+inRange (negsuc n) = ltb n (2 ^ 63)
+
+abbrev pub ranged : ℤ → Number
+ranged z = cond (inRange z) (number.Is z) number.Overflow
+
+abbrev pub isNegative : ℤ → Bool
+isNegative (pos n) = false
+isNegative (negsuc n) = true
+
+-- the number of a sign and a magnitude
+abbrev pub signed : Bool → ℕ → ℤ
+signed false n = pos n
+signed true n = negℤ (pos n)
+
+abbrev pub signsDiffer : ℤ → ℤ → Bool
+signsDiffer x y = not (Bool·beq (isNegative x) (isNegative y))
+
+-- magnitudes divided: "toward zero", and "to nearest with halves away from zero"
+abbrev pub towardZero : ℕ → ℕ → ℕ
+towardZero x y = x / y
+
+abbrev pub toNearest : ℕ → ℕ → ℕ
+toNearest x y = (2 * x + y) / (2 * y)
+
+-- "44 zero divisor" before "43 overflow"
+abbrev pub divided : (ℕ → ℕ → ℕ) → ℤ → ℤ → Number
+divided rounded x y =
+    cond (eqb (natAbs y) 0) number.ZeroDivisor (ranged (signed (signsDiffer x y) (rounded (natAbs x) (natAbs y))))
+
+abbrev pub sameInteger : ℤ → ℤ → Bool
+sameInteger (pos x) (pos y) = eqb x y
+sameInteger (pos x) (negsuc y) = false
+sameInteger (negsuc x) (pos y) = false
+sameInteger (negsuc x) (negsuc y) = eqb x y
+
+-- "two pointers (same name and offset)"
+abbrev pub samePointer : Pointer → Pointer → Bool
+samePointer p q = eqb (p .name) (q .name) && sameInteger (p .offset) (q .offset)
+
+-- "43 overflow. 44 zero divisor."
+abbrev pub stopNumber : {A : Type 0} → (ℤ → A) → (ℕ → A) → Number → A
+stopNumber is stop (number.Is z) = is z
+stopNumber is stop number.Overflow = stop 43
+stopNumber is stop number.ZeroDivisor = stop 44
+
+abbrev pub integerValue : ℤ → Evaluated
+integerValue z = evaluated.Value (value.Integer z)
+
+abbrev pub numbered : Number → Evaluated
+numbered n = stopNumber integerValue evaluated.Stopped n
+
+-- "Operators 6 and 7 and queries 1 and 2 give 1 or 0."
+abbrev pub truth : Bool → Value
+truth true = value.Integer (pos 1)
+truth false = value.Integer (pos 0)
+
+abbrev pub truthValue : Bool → Evaluated
+truthValue b = evaluated.Value (truth b)
+
+-- "operators 1–6 take integers"; a shift takes a pointer first: "40 wrong sort of value"
+unfoldable pub onIntegers : Operator → ℤ → ℤ → Evaluated
+onIntegers add x y = numbered (ranged (x +ℤ y))
+onIntegers subtract x y = numbered (ranged (x -ℤ y))
+onIntegers multiply x y = numbered (ranged (x *ℤ y))
+onIntegers divide x y = numbered (divided towardZero x y)
+onIntegers nearest x y = numbered (divided toNearest x y)
+onIntegers atMost x y = truthValue (leZ x y)
+onIntegers equal x y = truthValue (sameInteger x y)
+onIntegers shift x y = evaluated.Stopped 40
+
+-- "A shift may leave the block": only the offset's 64 bits are asked
+abbrev pub moved : Pointer → Number → Evaluated
+moved p n = stopNumber (λ z. evaluated.Value (value.Pointer (record { name = p .name; offset = z }))) evaluated.Stopped n
+
+unfoldable pub onPointerAndInteger : Operator → Pointer → ℤ → Evaluated
+onPointerAndInteger shift p y = moved p (ranged (p .offset +ℤ y))
+onPointerAndInteger add p y = evaluated.Stopped 40
+onPointerAndInteger subtract p y = evaluated.Stopped 40
+onPointerAndInteger multiply p y = evaluated.Stopped 40
+onPointerAndInteger divide p y = evaluated.Stopped 40
+onPointerAndInteger nearest p y = evaluated.Stopped 40
+onPointerAndInteger atMost p y = evaluated.Stopped 40
+onPointerAndInteger equal p y = evaluated.Stopped 40
+
+-- "Equality takes two integers or two pointers"
+unfoldable pub onPointers : Operator → Pointer → Pointer → Evaluated
+onPointers equal p q = truthValue (samePointer p q)
+onPointers add p q = evaluated.Stopped 40
+onPointers subtract p q = evaluated.Stopped 40
+onPointers multiply p q = evaluated.Stopped 40
+onPointers divide p q = evaluated.Stopped 40
+onPointers nearest p q = evaluated.Stopped 40
+onPointers atMost p q = evaluated.Stopped 40
+onPointers shift p q = evaluated.Stopped 40
+
+-- an operator on two values
+unfoldable pub operate : Operator → Value → Value → Evaluated
+operate o value.Undefined y = evaluated.Stopped 40
+operate o (value.Integer x) value.Undefined = evaluated.Stopped 40
+operate o (value.Integer x) (value.Integer y) = onIntegers o x y
+operate o (value.Integer x) (value.Pointer q) = evaluated.Stopped 40
+operate o (value.Pointer p) value.Undefined = evaluated.Stopped 40
+operate o (value.Pointer p) (value.Integer y) = onPointerAndInteger o p y
+operate o (value.Pointer p) (value.Pointer q) = onPointers o p q
+
+-- "Conditions are integers, true when not 0"
+abbrev pub tested : Value → Test
+tested value.Undefined = test.Stopped 40
+tested (value.Integer z) = cond (sameInteger z (pos 0)) test.No test.Yes
+tested (value.Pointer p) = test.Stopped 40

@@ -1,0 +1,97 @@
+// The types that code and definitions share. Document 01 is quoted where it names them.
+
+// "a pointer with its block name and offset"; the offset may lie outside the block.
+pub struct Pointer {
+    pub name: u16,
+    pub offset: i64,
+}
+
+// "A value is an integer, a pointer with its block name and offset, or undefined."
+pub enum Value {
+    Undefined,
+    Integer(i64),
+    Pointer(Pointer),
+}
+
+// What evaluating gives: a value, or the number of the ending.
+pub enum Evaluated {
+    Value(Value),
+    Stopped(u32),
+}
+
+// What finding a place gives: where it is, or the number of the ending.
+pub enum Found {
+    Place(Pointer),
+    Stopped(u32),
+}
+
+// "Conditions are integers, true when not 0".
+pub enum Test {
+    Yes,
+    No,
+    Stopped(u32),
+}
+
+// What an operator on integers gives.
+pub enum Number {
+    Is(i64),
+    Overflow,
+    ZeroDivisor,
+}
+
+// Where a pointer leads: a cell, or none because its block is not live or its offset outside.
+pub enum Located {
+    At(usize),
+    Dead,
+    Outside,
+}
+
+// The lowest of several numbers that pass a test, if one does.
+pub enum Search {
+    At(usize),
+    Nothing,
+}
+
+// A block of the execution memory: "0 unused, 1 live and fixed, 2 live and freeable, 3 dead".
+// A live one has its first cell and its length.
+pub enum Block {
+    Unused,
+    Fixed(u16, u16),
+    Freeable(u16, u16),
+    Dead,
+}
+
+// A block of the observation memory: "0 unused, 1 live, 2 dead".
+pub enum Recorded {
+    Unused,
+    Live(u16, u16),
+    Dead,
+}
+
+// A cell is free, or has an owner and a value.
+pub enum Cell {
+    Free,
+    Holds(u16, Value),
+}
+
+// A temporary is "empty at first".
+pub enum Temporary {
+    Empty,
+    Holds(Value),
+}
+
+// What the checker says: a refusal has the number and the record.
+pub enum Checked {
+    Accepted,
+    Refused(u32, u32),
+}
+
+// What an entry point returns. `record` is the refused record, the source statement of an ending,
+// or a translation's record count.
+#[repr(C)]
+pub struct Answer {
+    pub number: u32,
+    pub record: u32,
+    pub fuel: u32,
+    pub free_cells: u32,
+}

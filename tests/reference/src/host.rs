@@ -1,0 +1,48 @@
+//! What a host does around the entry points: it owns the buffers and lends them.
+
+use crate::answer::Answer;
+use crate::limits::{EXECUTION_BYTES, OBSERVATION_BYTES};
+use crate::plain::run_plain;
+use crate::record::table;
+use crate::translator::translation;
+use crate::watched::run_watched;
+
+/// What a lent byte holds before a call, so that an untouched one is known again.
+pub const GUARD: u8 = 0xA5;
+
+/// Inputs as the host hands them over, 8 bytes each.
+pub fn inputs(values: &[i64]) -> Vec<u8> {
+    values.iter().flat_map(|value| value.to_le_bytes()).collect()
+}
+
+/// A plain run on a memory of its own: the answer and the memory's bytes.
+pub fn plain(table: &[u8], inputs: &[u8], fuel: u32) -> (Answer, Vec<u8>) {
+    let mut memory = vec![GUARD; EXECUTION_BYTES];
+    let answer = run_plain(table, inputs, fuel, &mut memory);
+    (answer, memory)
+}
+
+/// A watched run on memories of its own: the answer and the bytes of both.
+pub fn watched(table: &[u8], inputs: &[u8], fuel: u32) -> (Answer, Vec<u8>, Vec<u8>) {
+    let mut memory = vec![GUARD; EXECUTION_BYTES];
+    let mut observation = vec![GUARD; OBSERVATION_BYTES];
+    let answer = run_watched(table, inputs, fuel, &mut memory, &mut observation);
+    (answer, memory, observation)
+}
+
+/// The bytes of a translation, or the refusal by 1–8.
+pub fn translated(source: &[u8]) -> Result<Vec<u8>, Answer> {
+    translation(source).map(|translation| table(&translation.records))
+}
+
+/// The observation memory that mirrors an execution memory, byte by byte: "for its block states
+/// 0, 1, 2, 3 the observation states are 0, 1, 1, 2, with equal first and length".
+pub fn mirror(memory: &[u8]) -> Vec<u8> {
+    let (blocks, cells) = memory.split_at(memory.len().min(EXECUTION_BYTES - 1024 * 16));
+    let mut observation = blocks.to_vec();
+    for block in observation.chunks_mut(8) {
+        block[0] = [0, 1, 1, 2][usize::from(block[0] % 4)];
+    }
+    observation.extend(cells.chunks(16).map(|cell| u8::from(cell[0] >= 2)));
+    observation
+}

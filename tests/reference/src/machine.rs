@@ -1,0 +1,109 @@
+//! The state of a run, and the evaluation of expressions and places in it.
+
+use crate::answer::{self, Answer, EMPTY_TEMPORARY};
+use crate::limits::{INPUTS, INPUT_BYTES, TEMPORARIES, VARIABLES};
+use crate::memory::Memory;
+use crate::record::Record;
+use crate::value::{operate, Pointer, Value};
+
+/// Where a run stopped before its end: the ending's number and its source statement.
+#[derive(Debug, Clone, Copy, PartialEq, Eq)]
+pub struct Stop {
+    pub number: u32,
+    pub statement: u32,
+}
+
+/// How a record tells the source statement it belongs to.
+#[derive(Debug, Clone, Copy, PartialEq, Eq)]
+pub enum Labels {
+    RecordNumber,
+    Literal,
+}
+
+pub struct Machine<'table> {
+    records: &'table [Record],
+    labels: Labels,
+    pub memory: Memory,
+    pub variables: [u32; VARIABLES],
+    pub temporaries: [Option<Value>; TEMPORARIES],
+    pub fuel: u32,
+}
+
+impl<'table> Machine<'table> {
+    /// The cleared start: variable 0 is block 1, every temporary is empty.
+    pub fn new(records: &'table [Record], labels: Labels, memory: Memory, fuel: u32) -> Self {
+        let mut variables = [0; VARIABLES];
+        variables[0] = 1;
+        let temporaries = [None; TEMPORARIES];
+        Machine { records, labels, memory, variables, temporaries, fuel }
+    }
+
+    pub fn last(&self) -> u16 {
+        self.records.len() as u16
+    }
+
+    pub fn record(&self, number: u16) -> Record {
+        let index = usize::from(number).wrapping_sub(1);
+        self.records.get(index).copied().unwrap_or_default()
+    }
+
+    /// The source statement that record `number` is or came from.
+    pub fn statement(&self, number: u16) -> u32 {
+        match self.labels {
+            Labels::RecordNumber => u32::from(number),
+            Labels::Literal => self.record(number).literal as u32,
+        }
+    }
+
+    pub fn stop(&self, number: u32, record: u16) -> Stop {
+        Stop { number, statement: self.statement(record) }
+    }
+
+    pub fn answer(&self, end: Result<(), Stop>) -> Answer {
+        let (number, record) = match end {
+            Ok(()) => (answer::FINISHED, 0),
+            Err(stop) => (stop.number, stop.statement),
+        };
+        Answer { number, record, fuel: self.fuel, free_cells: self.memory.free_cells() }
+    }
+
+    /// "Evaluation goes A, then B, then the operation."
+    pub fn evaluate(&self, number: u16) -> Result<Value, u32> {
+        let record = self.record(number);
+        match record.kind {
+            1 => Ok(Value::Integer(record.literal)),
+            2 => self.memory.read(self.place(record.a)?),
+            3 => Ok(Value::Pointer(self.place(record.a)?)),
+            kind => {
+                let left = self.evaluate(record.a)?;
+                let right = self.evaluate(record.b)?;
+                operate(if kind == 4 { record.mark } else { 8 }, left, right)
+            }
+        }
+    }
+
+    /// Places 11 and 12 take a pointer "as soon as the place is worked out".
+    pub fn place(&self, number: u16) -> Result<Pointer, u32> {
+        let record = self.record(number);
+        match record.kind {
+            10 => Ok(Pointer { name: self.variables[usize::from(record.mark)], offset: 0 }),
+            11 => self.evaluate(record.a)?.pointer(),
+            _ => self.temporary(record.mark)?.pointer(),
+        }
+    }
+
+    pub fn temporary(&self, number: u8) -> Result<Value, u32> {
+        let temporary = self.temporaries.get(usize::from(number)).copied().flatten();
+        temporary.ok_or(EMPTY_TEMPORARY)
+    }
+}
+
+/// The inputs, or 9: "no multiple of 8 bytes, none, or over 256".
+pub fn inputs_from(bytes: &[u8]) -> Result<Vec<i64>, Answer> {
+    let count = bytes.len() / INPUT_BYTES;
+    if !bytes.len().is_multiple_of(INPUT_BYTES) || count == 0 || count > INPUTS {
+        return Err(Answer::of(answer::INPUTS, 0));
+    }
+    let input = |bytes: &[u8]| bytes.iter().rev().fold(0_u64, |sum, &b| sum << 8 | u64::from(b));
+    Ok(bytes.chunks(INPUT_BYTES).map(|bytes| input(bytes) as i64).collect())
+}

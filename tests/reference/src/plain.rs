@@ -1,0 +1,67 @@
+//! The plain run: a source table on an execution memory.
+
+use crate::answer::{self, Answer};
+use crate::checker::check;
+use crate::grammar::Language;
+use crate::limits::EXECUTION_BYTES;
+use crate::machine::{inputs_from, Labels, Machine, Stop};
+use crate::memory::Memory;
+use crate::predicates::holds;
+use crate::record::Record;
+use crate::room::with_room;
+use crate::statements::{run, Own};
+
+/// Statement 48, stopping at the first assertion that is false.
+struct Asserting;
+
+impl Own for Asserting {
+    fn run_own(&mut self, machine: &mut Machine, number: u16) -> Result<(), Stop> {
+        match holds(machine, machine.record(number).a) {
+            Ok(true) => Ok(()),
+            Ok(false) => Err(machine.stop(answer::ASSERTION_FALSE, number)),
+            Err(fault) => Err(machine.stop(fault, number)),
+        }
+    }
+}
+
+/// Refusals 1–8, 9, 21 in this order; a refused run writes nothing.
+pub fn run_plain(table: &[u8], inputs: &[u8], fuel: u32, memory: &mut [u8]) -> Answer {
+    let (records, inputs) = match admit(table, inputs, Language::Source) {
+        Ok(admitted) => admitted,
+        Err(refusal) => return refusal,
+    };
+    if memory.len() != EXECUTION_BYTES {
+        return Answer::of(answer::EXECUTION_LENGTH, 0);
+    }
+    let (answer, after) = run_accepted(&records, &inputs, fuel, &mut Asserting);
+    memory.copy_from_slice(&after.image());
+    answer
+}
+
+/// The records and inputs of a run, or its refusal by 1–9.
+pub fn admit(
+    table: &[u8],
+    inputs: &[u8],
+    language: Language,
+) -> Result<(Vec<Record>, Vec<i64>), Answer> {
+    let records = check(table, language)?;
+    let inputs = inputs_from(inputs)?;
+    Ok((records, inputs))
+}
+
+/// Runs an accepted source table from its cleared start to its ending.
+pub fn run_accepted<O: Own + Send>(
+    records: &[Record],
+    inputs: &[i64],
+    fuel: u32,
+    own: &mut O,
+) -> (Answer, Memory) {
+    // Inputs that passed 9 always fit the cleared memory.
+    let memory = Memory::with_inputs(inputs).unwrap_or(Memory::cleared());
+    let mut machine = Machine::new(records, Labels::RecordNumber, memory, fuel);
+    with_room(records, move || {
+        let last = machine.last();
+        let end = run(&mut machine, own, last);
+        (machine.answer(end), machine.memory)
+    })
+}

@@ -1,0 +1,81 @@
+//! Operators 1 to 7 at their ends, and operator 5 by what it means.
+
+use reference::numbers::operate;
+
+#[test]
+fn overflow_is_43_at_the_first_value_outside_64_bits() {
+    assert_eq!(operate(1, i64::MAX - 1, 1), Ok(i64::MAX));
+    assert_eq!(operate(1, i64::MAX, 1), Err(43));
+    assert_eq!(operate(1, i64::MIN, -1), Err(43));
+    assert_eq!(operate(2, i64::MIN, 0), Ok(i64::MIN));
+    assert_eq!(operate(2, i64::MIN, 1), Err(43));
+    assert_eq!(operate(2, 0, i64::MIN), Err(43));
+    assert_eq!(operate(2, -1, i64::MIN), Ok(i64::MAX));
+    assert_eq!(operate(3, 1 << 62, 2), Err(43));
+    assert_eq!(operate(3, 1 << 62, -2), Ok(i64::MIN));
+    assert_eq!(operate(3, i64::MIN, i64::MIN), Err(43));
+}
+
+#[test]
+fn a_zero_divisor_is_44_for_both_divisions() {
+    for left in [i64::MIN, -1, 0, 1, i64::MAX] {
+        assert_eq!(operate(4, left, 0), Err(44));
+        assert_eq!(operate(5, left, 0), Err(44));
+    }
+}
+
+#[test]
+fn at_most_and_equal_give_1_or_0() {
+    assert_eq!(operate(6, 3, 3), Ok(1));
+    assert_eq!(operate(6, i64::MIN, i64::MAX), Ok(1));
+    assert_eq!(operate(6, 4, 3), Ok(0));
+    assert_eq!(operate(7, -1, -1), Ok(1));
+    assert_eq!(operate(7, -1, 1), Ok(0));
+}
+
+#[test]
+fn operator_5_is_exact_at_halves_and_at_the_ends() {
+    let cases = [
+        (3, 2, 2),
+        (-3, 2, -2),
+        (3, -2, -2),
+        (-3, -2, 2),
+        (1, 2, 1),
+        (-1, 2, -1),
+        (i64::MAX, 2, 1 << 62),
+        (i64::MIN, 2, -(1 << 62)),
+        (i64::MIN + 1, 2, -(1 << 62)),
+        (i64::MAX, i64::MIN, -1),
+        (i64::MIN, i64::MAX, -1),
+        (1 << 62, i64::MIN, -1),
+        ((1 << 62) - 1, i64::MIN, 0),
+        (i64::MIN, 1, i64::MIN),
+    ];
+    for (left, right, quotient) in cases {
+        assert_eq!(operate(5, left, right), Ok(quotient), "{left} by {right}");
+    }
+}
+
+#[test]
+fn operator_5_is_nearest_on_every_small_pair() {
+    for left in -60_i64..=60 {
+        for right in (-25_i64..=25).filter(|&right| right != 0) {
+            let quotient = operate(5, left, right).unwrap();
+            // The distance to the exact quotient, in units of 1 / (2 |right|), is at most a half,
+            // and at a half the result is the one farther from zero.
+            let twice = 2 * (quotient * right - left).abs();
+            assert!(twice <= right.abs(), "{left} by {right}");
+            if twice == right.abs() {
+                assert!((quotient * right).abs() > left.abs(), "{left} by {right}");
+            }
+        }
+    }
+}
+
+#[test]
+fn operator_4_drops_the_fraction() {
+    for (left, right, quotient) in [(7, 2, 3), (-7, 2, -3), (7, -2, -3), (-7, -2, 3), (1, 3, 0)] {
+        assert_eq!(operate(4, left, right), Ok(quotient));
+    }
+    assert_eq!(operate(4, i64::MIN, 1), Ok(i64::MIN));
+}

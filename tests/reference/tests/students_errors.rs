@@ -1,0 +1,106 @@
+//! The four errors students make: each program's outcome tells right from wrong.
+
+use reference::builder::Builder;
+use reference::host::{inputs, mirror, plain, translated, watched};
+
+/// Number and statement of both runs of a source on inputs 7, 9.
+fn end(source: &[u8]) -> (u32, u32) {
+    let inputs = inputs(&[7, 9]);
+    let (answer, memory) = plain(source, &inputs, 10);
+    let target = translated(source).expect("accepted");
+    let (watched_answer, watched_memory, observation) = watched(&target, &inputs, 10);
+    assert_eq!((answer, &memory), (watched_answer, &watched_memory));
+    if matches!(answer.number, 0 | 33) {
+        assert_eq!(observation, mirror(&memory));
+    }
+    (answer.number, answer.record)
+}
+
+#[test]
+fn marking_after_the_store_by_reading_p_again_breaks_where_p_points_to_itself() {
+    let mut b = Builder::target(4);
+    let place = b.variable(1);
+    let expression = b.address_of_variable(1);
+    let aim = b.take(place, expression);
+    let pointer = b.read_variable(1);
+    let place = b.pointed(pointer);
+    let five = b.literal(5);
+    let store = b.take(place, five);
+    // The wrong translation takes the address only now, when p is 5 and no pointer.
+    let pointer = b.read_variable(1);
+    let place = b.pointed(pointer);
+    b.label = 9;
+    let late = b.add(60, 0, [place, 0, 0]);
+    let body = b.sequence(&[aim, store, late]);
+    b.let_in(1, body);
+    let (wrong, _, _) = watched(&b.table(), &inputs(&[7, 9]), 10);
+    assert_eq!((wrong.number, wrong.record), (40, 9));
+}
+
+#[test]
+fn a_dead_name_is_not_used_again() {
+    let mut b = Builder::source();
+    let place = b.variable(1);
+    let size = b.literal(1);
+    let first = b.take_new(place, size);
+    let place = b.variable(2);
+    let old = b.read_variable(1);
+    let keep = b.take(place, old);
+    let pointer = b.read_variable(1);
+    let free = b.free(pointer);
+    let place = b.variable(1);
+    let size = b.literal(1);
+    let second = b.take_new(place, size);
+    // Same first cell, other name: the kept pointer stays dead and equals nothing new.
+    let old = b.read_variable(2);
+    let old = b.term(old);
+    let valid = b.valid(old);
+    let invalid = b.not(valid);
+    let new = b.read_variable(1);
+    let new = b.term(new);
+    let old = b.read_variable(2);
+    let old = b.term(old);
+    let same = b.compare(7, new, old);
+    let differ = b.not(same);
+    let predicate = b.and(invalid, differ);
+    let assertion = b.assert(predicate);
+    let body = b.sequence(&[first, keep, free, second, assertion]);
+    let inner = b.let_in(2, body);
+    b.let_in(1, inner);
+    assert_eq!(end(&b.table()), (0, 0));
+}
+
+#[test]
+fn valid_is_not_initialised() {
+    let program = |kind: u8| {
+        let mut b = Builder::source();
+        let place = b.variable(1);
+        let size = b.literal(1);
+        let new = b.take_new(place, size);
+        let pointer = b.read_variable(1);
+        let term = b.term(pointer);
+        let predicate = b.add(kind, 0, [term, 0, 0]);
+        let assertion = b.assert(predicate);
+        let body = b.then(new, assertion);
+        b.let_in(1, body);
+        (b.table(), u32::from(assertion))
+    };
+    assert_eq!(end(&program(30).0), (0, 0));
+    let (table, assertion) = program(31);
+    assert_eq!(end(&table), (33, assertion));
+}
+
+#[test]
+fn a_stop_within_the_evaluation_is_41_and_not_33() {
+    let mut b = Builder::source();
+    let undefined = b.read_variable(1);
+    let left = b.term(undefined);
+    let one = b.literal(1);
+    let right = b.term(one);
+    let predicate = b.compare(7, left, right);
+    let falsehood = b.compare_literals(7, 0, 1);
+    let both = b.and(predicate, falsehood);
+    let assertion = b.assert(both);
+    b.let_in(1, assertion);
+    assert_eq!(end(&b.table()), (41, u32::from(assertion)));
+}

@@ -1,0 +1,189 @@
+//! The cases worked on paper, P1 to P10, and R1.
+
+use reference::builder::Builder;
+use reference::host::{inputs, plain, translated, watched};
+use reference::listing::listing;
+use reference::numbers::operate;
+use reference::Answer;
+
+/// Both runs of a source on inputs 7, 9 and fuel 10; they must agree.
+fn both(source: &[u8]) -> (Answer, Vec<u8>) {
+    let inputs = inputs(&[7, 9]);
+    let (answer, memory) = plain(source, &inputs, 10);
+    let target = translated(source).expect("accepted");
+    let (watched_answer, watched_memory, _) = watched(&target, &inputs, 10);
+    assert_eq!(answer, watched_answer);
+    assert_eq!(memory, watched_memory);
+    (answer, memory)
+}
+
+fn number(source: &[u8]) -> u32 {
+    both(source).0.number
+}
+
+/// Variable 0 takes `left operator right`.
+fn calculation(operator: u8, left: i64, right: i64) -> Vec<u8> {
+    let mut b = Builder::source();
+    let place = b.variable(0);
+    let left = b.literal(left);
+    let right = b.literal(right);
+    let result = b.operator(operator, left, right);
+    b.take(place, result);
+    b.table()
+}
+
+/// What variable 0 holds, an integer, after a run that finished.
+fn result(operator: u8, left: i64, right: i64) -> i64 {
+    let (answer, memory) = both(&calculation(operator, left, right));
+    assert_eq!((answer.number, answer.record), (0, 0));
+    let cell = &memory[255 * 8..255 * 8 + 16];
+    assert_eq!(cell[..8], [2, 1, 0, 0, 0, 0, 0, 0]);
+    i64::from_le_bytes(cell[8..].try_into().unwrap())
+}
+
+#[test]
+fn p1_the_listing_of_a_validity_assertion() {
+    let mut b = Builder::source();
+    let place = b.variable(0);
+    let expression = b.read(place);
+    let term = b.term(expression);
+    let predicate = b.valid(term);
+    b.assert(predicate);
+    let lines = "1 10 0 0 0 0 0\n2 2 0 1 0 0 0\n3 61 1 2 0 0 5\n4 64 0 0 0 1 5\n\
+                 5 44 0 3 4 0 5\n6 67 0 0 0 0 5\n7 44 0 5 6 0 5\n";
+    assert_eq!(listing(&b.table()), lines);
+}
+
+#[test]
+fn p2_operator_5_takes_halves_away_from_zero() {
+    for (left, right, quotient) in [(7, 2, 4), (-7, 2, -4), (5, 2, 3), (1, 3, 0)] {
+        assert_eq!(operate(5, left, right), Ok(quotient));
+        assert_eq!(result(5, left, right), quotient);
+    }
+}
+
+#[test]
+fn p3_operator_4_divides_toward_zero() {
+    assert_eq!(operate(4, -7, 2), Ok(-3));
+    assert_eq!(result(4, -7, 2), -3);
+}
+
+#[test]
+fn p4_the_lowest_value_by_minus_one_overflows_and_by_zero_has_no_divisor() {
+    for operator in [4, 5] {
+        assert_eq!(number(&calculation(operator, i64::MIN, -1)), 43);
+        assert_eq!(number(&calculation(operator, i64::MIN, 0)), 44);
+    }
+}
+
+#[test]
+fn p5_input_offsets_0_and_1_are_valid_and_their_neighbours_are_not() {
+    for (offset, expected) in [(-1, 33), (0, 0), (1, 0), (2, 33)] {
+        let mut b = Builder::source();
+        let expression = b.shifted_variable(0, offset);
+        let term = b.term(expression);
+        let predicate = b.valid(term);
+        b.assert(predicate);
+        assert_eq!(number(&b.table()), expected, "offset {offset}");
+    }
+}
+
+#[test]
+fn p6_a_fresh_variable_is_valid_and_not_initialised() {
+    let mut b = Builder::source();
+    let expression = b.address_of_variable(9);
+    let term = b.term(expression);
+    let valid = b.valid(term);
+    let expression = b.address_of_variable(9);
+    let term = b.term(expression);
+    let initialised = b.initialised(term);
+    let not_initialised = b.not(initialised);
+    let both_hold = b.and(valid, not_initialised);
+    let assertion = b.assert(both_hold);
+    b.let_in(9, assertion);
+    assert_eq!(number(&b.table()), 0);
+}
+
+#[test]
+fn p7_a_variable_that_points_to_itself_can_be_stored_through() {
+    let mut b = Builder::source();
+    let place = b.variable(1);
+    let expression = b.address_of_variable(1);
+    let aim = b.take(place, expression);
+    let pointer = b.read_variable(1);
+    let place = b.pointed(pointer);
+    let five = b.literal(5);
+    let store = b.take(place, five);
+    let body = b.then(aim, store);
+    b.let_in(1, body);
+    assert_eq!(number(&b.table()), 0);
+}
+
+#[test]
+fn p8_inside_one_let_1020_cells_fit_1021_do_not_and_0_is_no_size() {
+    for (size, expected) in [(1020, 0), (1021, 30), (1, 0), (0, 45), (-1, 45), (i64::MAX, 30)] {
+        let mut b = Builder::source();
+        let place = b.variable(1);
+        let size_literal = b.literal(size);
+        let new = b.take_new(place, size_literal);
+        b.let_in(1, new);
+        let (answer, _) = both(&b.table());
+        assert_eq!(answer.number, expected, "size {size}");
+        let statement = if expected == 0 { 0 } else { u32::from(new) };
+        assert_eq!(answer.record, statement);
+    }
+}
+
+#[test]
+fn p9_a_new_block_after_a_free_has_the_same_first_cell_and_the_next_name() {
+    let mut b = Builder::source();
+    let place = b.variable(0);
+    let size = b.literal(5);
+    let first = b.take_new(place, size);
+    let pointer = b.read_variable(0);
+    let free = b.free(pointer);
+    let place = b.variable(0);
+    let size = b.literal(5);
+    let second = b.take_new(place, size);
+    b.sequence(&[first, free, second]);
+    let (answer, memory) = both(&b.table());
+    assert_eq!(answer, Answer { number: 0, record: 0, fuel: 10, free_cells: 1024 - 8 });
+    assert_eq!(memory[2 * 8..3 * 8], [3, 0, 0, 0, 0, 0, 0, 0]);
+    assert_eq!(memory[3 * 8..4 * 8], [2, 0, 3, 0, 5, 0, 0, 0]);
+    assert_eq!(memory[255 * 8..255 * 8 + 3], [3, 1, 4]);
+}
+
+#[test]
+fn p10_false_and_a_read_of_an_undefined_cell_is_false() {
+    let mut b = Builder::source();
+    let falsehood = b.compare_literals(7, 0, 1);
+    let undefined = b.read_variable(1);
+    let left = b.term(undefined);
+    let one = b.literal(1);
+    let right = b.term(one);
+    let stopping = b.compare(7, left, right);
+    let both_hold = b.and(falsehood, stopping);
+    let neither = b.not(both_hold);
+    let assertion = b.assert(neither);
+    b.let_in(1, assertion);
+    assert_eq!(number(&b.table()), 0);
+}
+
+#[test]
+fn r1_lets_in_a_loop_use_the_names_up_at_the_254th_test() {
+    let mut b = Builder::source();
+    let one = b.literal(1);
+    let skip = b.skip();
+    let body = b.let_in(1, skip);
+    let turns = b.while_do(one, body);
+    let source = b.table();
+    let target = translated(&source).expect("accepted");
+    let inputs = inputs(&[7, 9]);
+    let ends = |fuel| (plain(&source, &inputs, fuel).0, watched(&target, &inputs, fuel).0);
+    let names = Answer { number: 31, record: u32::from(body), fuel: 46, free_cells: 1021 };
+    assert_eq!(ends(300), (names, names));
+    let fuel = Answer { number: 32, record: u32::from(turns), fuel: 0, free_cells: 1021 };
+    assert_eq!(ends(0), (fuel, fuel));
+    assert_eq!(ends(253), (fuel, fuel));
+    assert_eq!(ends(254).0.number, 31);
+}
