@@ -1,8 +1,6 @@
 //! Refusals 1 to 7 of a target table, each at its boundary.
 
-mod common;
-
-use common::{target_forms, Around, Rules};
+use crate::forms::{target_forms, Around, Rules};
 use reference::builder::Builder;
 use reference::checker::{check_source, check_target};
 use reference::record::{table, Record};

@@ -1,8 +1,6 @@
 //! Refusals 1 to 8 of a source table, each at its boundary.
 
-mod common;
-
-use common::{source_forms, Around, Rules};
+use crate::forms::{source_forms, Around, Rules};
 use reference::builder::Builder;
 use reference::checker::check_source;
 use reference::record::{table, Record};

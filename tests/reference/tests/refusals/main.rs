@@ -1,0 +1,5 @@
+//! Every refusal of a table at its exact boundary.
+
+mod forms;
+mod sources;
+mod targets;
