@@ -19,3 +19,4 @@ pub mod Layout
 pub mod Answers
 pub mod Listing
 pub mod Cases
+pub mod Demand3

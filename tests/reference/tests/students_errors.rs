@@ -35,6 +35,22 @@ fn marking_after_the_store_by_reading_p_again_breaks_where_p_points_to_itself() 
     b.let_in(1, body);
     let (wrong, _, _) = watched(&b.table(), &inputs(&[7, 9]), 10);
     assert_eq!((wrong.number, wrong.record), (40, 9));
+    assert_eq!(end(&self_pointing()), (0, 0));
+}
+
+/// let p, p = &p, *p = 5.
+fn self_pointing() -> Vec<u8> {
+    let mut b = Builder::source();
+    let place = b.variable(1);
+    let expression = b.address_of_variable(1);
+    let aim = b.take(place, expression);
+    let pointer = b.read_variable(1);
+    let place = b.pointed(pointer);
+    let five = b.literal(5);
+    let store = b.take(place, five);
+    let body = b.then(aim, store);
+    b.let_in(1, body);
+    b.table()
 }
 
 #[test]

@@ -1,0 +1,54 @@
+-- "Demand 3 in full", as one statement over every accepted source table, inputs, fuel and old memories.
+use Prim.Native.Nat.{ℕ, _*_, _≤_, _<_}
+use mathlib.Core.Bool.{Bool, true, false}
+use mathlib.Core.List.{List}
+use mathlib.Core.Logic.{_⊎_, _≢_}
+use mathlib.Core.Path.{_≡_}
+use lib.ListN.{length, getD}
+use Rattle.rules.specs.Sizes.{memoryLength, observationLength}
+use Rattle.rules.specs.Records.{recordCount}
+use Rattle.rules.specs.Kinds.{source, target}
+use Rattle.rules.specs.Checker.{check, inputsFault}
+use Rattle.rules.specs.Nodes.{sourceProgram}
+use Rattle.rules.specs.Memory.{startMemory}
+use Rattle.rules.specs.Plain.{Outcome, startVariables}
+use Rattle.rules.specs.Past.{PastOutcome, runPast, atFirstFalse}
+use Rattle.rules.specs.Observation.{mirror}
+use Rattle.rules.specs.Translation.{translation}
+use Rattle.rules.specs.Layout.{memoryOf, observationImage}
+use Rattle.rules.specs.Answers.{PlainRun, WatchedRun, inputsOf, plainEnded, runPlain, runWatched}
+use Rattle.rules.specs.declared.Checked.the-variants.{Accepted}
+
+-- what the host hands over: bytes
+abbrev pub Bytes : List ℕ → Type 0
+Bytes l = (k : ℕ) → getD l k 0 < 256
+
+-- "Take the source table run by these rules with one change": the run that goes on past false assertions
+abbrev pub pastOutcome : List ℕ → List ℕ → ℕ → PastOutcome
+pastOutcome t i f = runPast (sourceProgram t) startVariables (startMemory (inputsOf i)) f
+
+-- what plain run p, watched run w of the translation, and the run that goes on past false assertions owe one another
+pub record Agreement (t i : List ℕ) (f : ℕ) (p : PlainRun) (w : WatchedRun) : Type 0 where
+  -- "The translation is refused by none of 1–8." "At most 14 target records come from each source record."
+  pub accepted : check target (translation t) ≡ Accepted
+  pub bounded : recordCount (translation t) ≤ 14 * recordCount t
+  -- "the same ending, statement, fuel left, free cells and execution memory byte for byte"
+  pub same-answer : w .answer ≡ p .answer
+  pub same-memory : w .memory ≡ p .memory
+  -- "Both runs end 33 at the first that is false, with fuel left and memory as then; with none, both end as this run does."
+  pub first-false : p ≡ plainEnded (atFirstFalse (pastOutcome t i f))
+  -- "after a finish or such a stop the observation memory names exactly the live blocks, lengths and initialised cells"
+  pub exact :
+    (p .answer .number ≡ 0) ⊎ (p .answer .number ≡ 33) → w .observation ≡ observationImage (mirror (memoryOf (p .memory)))
+  -- "From translated programs 48 and 49 never come."
+  pub never-48 : w .answer .number ≢ 48
+  pub never-49 : w .answer .number ≢ 49
+
+-- "One claim over every accepted source table, inputs and fuel, each run taken from its cleared start to its ending":
+-- "Both get the same inputs and fuel, and memories of their own of the lengths that 21 and 22 ask"
+abbrev pub Demand3 : Type 0
+Demand3 =
+    (t i : List ℕ) (f : ℕ) (memory memory₁ observation : List ℕ)
+    → Bytes t → Bytes i → check source t ≡ Accepted → inputsFault i ≡ false
+    → length memory ≡ memoryLength → length memory₁ ≡ memoryLength → length observation ≡ observationLength
+    → Agreement t i f (runPlain t i f memory) (runWatched (translation t) i f memory₁ observation)
