@@ -35,9 +35,12 @@ plain rs = runPlain (tableBytes rs) inputs 0 (replicate memoryLength 0)
 unfoldable pub watched : List Record → WatchedRun
 watched rs = runWatched (translation (tableBytes rs)) inputs 0 (replicate memoryLength 0) (replicate observationLength 0)
 
--- the ending of a program, plain and watched
+-- the ending of a program, plain, and plain and watched
+unfoldable pub ending : List Record → ℕ
+ending rs = plain rs .answer .number
+
 unfoldable pub endings : List Record → List ℕ
-endings rs = plain rs .answer .number ∷ watched rs .answer .number ∷ []
+endings rs = ending rs ∷ watched rs .answer .number ∷ []
 
 -- what a value or a stop shows as a number
 abbrev pub shown : Evaluated → ℤ
@@ -108,7 +111,7 @@ worked =
     ∷ map pos (endings (p5 (pos 0)) ++ endings (p5 (pos 1)) ++ endings (p5 (negsuc 0)) ++ endings (p5 (pos 2)))
     ∷ map pos (endings p6)
     ∷ map pos (endings p7)
-    ∷ map pos (endings (p8 1020) ++ endings (p8 1021) ++ endings (p8 0))
+    ∷ map pos (ending (p8 1020) ∷ ending (p8 1021) ∷ ending (p8 0) ∷ [])
     ∷ map pos (endings p9 ++ blockAfter (p8 6) 4 ++ blockAfter p9 4 ++ blockAfter p9 5)
     ∷ map pos (endings p10)
     ∷ []
@@ -133,7 +136,7 @@ onPaper =
     ∷ map pos (0 ∷ 0 ∷ 0 ∷ 0 ∷ 33 ∷ 33 ∷ 33 ∷ 33 ∷ [])
     ∷ map pos (0 ∷ 0 ∷ [])
     ∷ map pos (0 ∷ 0 ∷ [])
-    ∷ map pos (0 ∷ 0 ∷ 30 ∷ 30 ∷ 45 ∷ 45 ∷ [])
+    ∷ map pos (0 ∷ 30 ∷ 45 ∷ [])
     ∷ map pos
       ((0 ∷ 0 ∷ []) ++ (2 ∷ 0 ∷ 4 ∷ 0 ∷ 6 ∷ 0 ∷ 0 ∷ 0 ∷ [])
       ++ (3 ∷ 0 ∷ 0 ∷ 0 ∷ 0 ∷ 0 ∷ 0 ∷ 0 ∷ []) ++ (2 ∷ 0 ∷ 4 ∷ 0 ∷ 6 ∷ 0 ∷ 0 ∷ 0 ∷ []))

@@ -15,7 +15,12 @@ impl Answer {
 
     /// An answer without a run behind it: its fuel and free cells are 0.
     pub const fn of(number: u32, record: u32) -> Answer {
-        Answer { number, record, fuel: 0, free_cells: 0 }
+        Answer {
+            number,
+            record,
+            fuel: 0,
+            free_cells: 0,
+        }
     }
 }
 

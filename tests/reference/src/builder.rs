@@ -16,7 +16,10 @@ impl Builder {
     }
 
     pub fn target(label: i64) -> Builder {
-        Builder { records: Vec::new(), label }
+        Builder {
+            records: Vec::new(),
+            label,
+        }
     }
 
     pub fn len(&self) -> usize {
@@ -42,11 +45,22 @@ impl Builder {
 
     pub fn add(&mut self, kind: u8, mark: u8, [a, b, c]: [u16; 3]) -> u16 {
         let literal = if kind >= 40 { self.label } else { 0 };
-        self.push(Record { kind, mark, a, b, c, literal })
+        self.push(Record {
+            kind,
+            mark,
+            a,
+            b,
+            c,
+            literal,
+        })
     }
 
     pub fn literal(&mut self, literal: i64) -> u16 {
-        self.push(Record { kind: 1, literal, ..Record::default() })
+        self.push(Record {
+            kind: 1,
+            literal,
+            ..Record::default()
+        })
     }
 
     pub fn variable(&mut self, variable: u8) -> u16 {
@@ -92,6 +106,35 @@ impl Builder {
         self.shift(pointer, by)
     }
 
+    /// A variable takes a literal.
+    pub fn take_literal(&mut self, variable: u8, literal: i64) -> u16 {
+        let place = self.variable(variable);
+        let value = self.literal(literal);
+        self.take(place, value)
+    }
+
+    /// A variable takes a new block of a literal size.
+    pub fn new_in(&mut self, variable: u8, size: i64) -> u16 {
+        let place = self.variable(variable);
+        let size = self.literal(size);
+        self.take_new(place, size)
+    }
+
+    /// Free of what a variable points to.
+    pub fn free_variable(&mut self, variable: u8) -> u16 {
+        let pointer = self.read_variable(variable);
+        self.free(pointer)
+    }
+
+    /// A variable takes its own value less 1.
+    pub fn decrease(&mut self, variable: u8) -> u16 {
+        let place = self.variable(variable);
+        let value = self.read_variable(variable);
+        let one = self.literal(1);
+        let less = self.operator(2, value, one);
+        self.take(place, less)
+    }
+
     /// Read of what a variable points to.
     pub fn read_pointed(&mut self, variable: u8) -> u16 {
         let pointer = self.read_variable(variable);
@@ -101,6 +144,23 @@ impl Builder {
 
     pub fn term(&mut self, expression: u16) -> u16 {
         self.add(20, 0, [expression, 0, 0])
+    }
+
+    pub fn literal_term(&mut self, literal: i64) -> u16 {
+        let expression = self.literal(literal);
+        self.term(expression)
+    }
+
+    /// The term of a variable's value.
+    pub fn variable_term(&mut self, variable: u8) -> u16 {
+        let expression = self.read_variable(variable);
+        self.term(expression)
+    }
+
+    /// The term of a variable's address.
+    pub fn address_term(&mut self, variable: u8) -> u16 {
+        let expression = self.address_of_variable(variable);
+        self.term(expression)
     }
 
     pub fn base(&mut self, term: u16) -> u16 {
@@ -133,10 +193,8 @@ impl Builder {
 
     /// Literal compared with literal: a predicate whose truth is known.
     pub fn compare_literals(&mut self, operator: u8, left: i64, right: i64) -> u16 {
-        let left = self.literal(left);
-        let left = self.term(left);
-        let right = self.literal(right);
-        let right = self.term(right);
+        let left = self.literal_term(left);
+        let right = self.literal_term(right);
         self.compare(operator, left, right)
     }
 
@@ -192,9 +250,10 @@ impl Builder {
     pub fn sequence(&mut self, statements: &[u16]) -> u16 {
         match statements.split_last() {
             None => self.skip(),
-            Some((last, earlier)) => {
-                earlier.iter().rev().fold(*last, |rest, &part| self.then(part, rest))
-            }
+            Some((last, earlier)) => earlier
+                .iter()
+                .rev()
+                .fold(*last, |rest, &part| self.then(part, rest)),
         }
     }
 }

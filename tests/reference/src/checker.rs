@@ -6,11 +6,15 @@ use crate::limits::{RECORD_BYTES, SOURCE_RECORDS, TARGET_RECORDS, TEMPORARIES};
 use crate::record::{records, Record};
 
 pub fn check_source(table: &[u8]) -> Answer {
-    check(table, Language::Source).err().unwrap_or(Answer::ACCEPTED)
+    check(table, Language::Source)
+        .err()
+        .unwrap_or(Answer::ACCEPTED)
 }
 
 pub fn check_target(table: &[u8]) -> Answer {
-    check(table, Language::Target).err().unwrap_or(Answer::ACCEPTED)
+    check(table, Language::Target)
+        .err()
+        .unwrap_or(Answer::ACCEPTED)
 }
 
 /// The records of an accepted table, or the refusal.
@@ -62,8 +66,7 @@ fn children_hold(records: &[Record], number: usize) -> bool {
     let asked = grammar::children(record.kind);
     record.fields().iter().zip(asked).all(|(&child, asked)| {
         let child = usize::from(child);
-        asked.is_none()
-            || child < number && grammar::sort(records[child - 1].kind) == asked
+        asked.is_none() || child < number && grammar::sort(records[child - 1].kind) == asked
     })
 }
 
@@ -96,7 +99,11 @@ fn scope_offenders(records: &[Record]) -> Vec<usize> {
         if record.kind == 10 && !in_scope || record.kind == 47 && in_scope {
             offenders.push(number);
         }
-        let below = if record.kind == 47 { scope | variable } else { scope };
+        let below = if record.kind == 47 {
+            scope | variable
+        } else {
+            scope
+        };
         for child in grammar::child_numbers(record) {
             scopes[usize::from(child)] = below;
         }

@@ -65,7 +65,9 @@ pub fn children(kind: u8) -> [Option<Sort>; 3] {
 pub fn child_numbers(record: &Record) -> impl Iterator<Item = u16> {
     let sorts = children(record.kind);
     let fields = record.fields();
-    (0..3).filter(move |&at| sorts[at].is_some()).map(move |at| fields[at])
+    (0..3)
+        .filter(move |&at| sorts[at].is_some())
+        .map(move |at| fields[at])
 }
 
 /// Whether mark, field C of 63 and 64, literal and the presence of children keep the rules.

@@ -12,7 +12,10 @@ pub const GUARD: u8 = 0xA5;
 
 /// Inputs as the host hands them over, 8 bytes each.
 pub fn inputs(values: &[i64]) -> Vec<u8> {
-    values.iter().flat_map(|value| value.to_le_bytes()).collect()
+    values
+        .iter()
+        .flat_map(|value| value.to_le_bytes())
+        .collect()
 }
 
 /// A plain run on a memory of its own: the answer and the memory's bytes.

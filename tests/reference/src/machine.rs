@@ -35,7 +35,14 @@ impl<'table> Machine<'table> {
         let mut variables = [0; VARIABLES];
         variables[0] = 1;
         let temporaries = [None; TEMPORARIES];
-        Machine { records, labels, memory, variables, temporaries, fuel }
+        Machine {
+            records,
+            labels,
+            memory,
+            variables,
+            temporaries,
+            fuel,
+        }
     }
 
     pub fn last(&self) -> u16 {
@@ -56,7 +63,10 @@ impl<'table> Machine<'table> {
     }
 
     pub fn stop(&self, number: u32, record: u16) -> Stop {
-        Stop { number, statement: self.statement(record) }
+        Stop {
+            number,
+            statement: self.statement(record),
+        }
     }
 
     pub fn answer(&self, end: Result<(), Stop>) -> Answer {
@@ -64,7 +74,12 @@ impl<'table> Machine<'table> {
             Ok(()) => (answer::FINISHED, 0),
             Err(stop) => (stop.number, stop.statement),
         };
-        Answer { number, record, fuel: self.fuel, free_cells: self.memory.free_cells() }
+        Answer {
+            number,
+            record,
+            fuel: self.fuel,
+            free_cells: self.memory.free_cells(),
+        }
     }
 
     /// "Evaluation goes A, then B, then the operation."
@@ -86,7 +101,10 @@ impl<'table> Machine<'table> {
     pub fn place(&self, number: u16) -> Result<Pointer, u32> {
         let record = self.record(number);
         match record.kind {
-            10 => Ok(Pointer { name: self.variables[usize::from(record.mark)], offset: 0 }),
+            10 => Ok(Pointer {
+                name: self.variables[usize::from(record.mark)],
+                offset: 0,
+            }),
             11 => self.evaluate(record.a)?.pointer(),
             _ => self.temporary(record.mark)?.pointer(),
         }
@@ -104,6 +122,14 @@ pub fn inputs_from(bytes: &[u8]) -> Result<Vec<i64>, Answer> {
     if !bytes.len().is_multiple_of(INPUT_BYTES) || count == 0 || count > INPUTS {
         return Err(Answer::of(answer::INPUTS, 0));
     }
-    let input = |bytes: &[u8]| bytes.iter().rev().fold(0_u64, |sum, &b| sum << 8 | u64::from(b));
-    Ok(bytes.chunks(INPUT_BYTES).map(|bytes| input(bytes) as i64).collect())
+    let input = |bytes: &[u8]| {
+        bytes
+            .iter()
+            .rev()
+            .fold(0_u64, |sum, &b| sum << 8 | u64::from(b))
+    };
+    Ok(bytes
+        .chunks(INPUT_BYTES)
+        .map(|bytes| input(bytes) as i64)
+        .collect())
 }

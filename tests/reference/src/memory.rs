@@ -35,7 +35,10 @@ pub struct Memory {
 
 impl Memory {
     pub fn cleared() -> Memory {
-        Memory { blocks: Vec::new(), cells: vec![None; CELLS] }
+        Memory {
+            blocks: Vec::new(),
+            cells: vec![None; CELLS],
+        }
     }
 
     /// "Block 1 is its cell, pointing to block 2, which holds the inputs."
@@ -73,18 +76,34 @@ impl Memory {
         let length = usize::try_from(size).map_err(|_| NO_CELLS)?;
         let free = self.cells.iter().map(Option::is_none);
         let first = lowest_run(free, length).ok_or(NO_CELLS)?;
-        self.blocks.push(Block { state, first, length });
+        self.blocks.push(Block {
+            state,
+            first,
+            length,
+        });
         let owner = self.blocks.len() as u32;
-        self.cells[first..first + length].fill(Some(Cell { owner, value: Value::Undefined }));
-        Ok(Pointer { name: owner, offset: 0 })
+        self.cells[first..first + length].fill(Some(Cell {
+            owner,
+            value: Value::Undefined,
+        }));
+        Ok(Pointer {
+            name: owner,
+            offset: 0,
+        })
     }
 
     /// Ends a live block: its cells serve again, its name does not.
     pub fn end_block(&mut self, name: u32) {
-        let Some(index) = index(name).filter(|&index| index < self.blocks.len()) else { return };
+        let Some(index) = index(name).filter(|&index| index < self.blocks.len()) else {
+            return;
+        };
         let block = self.blocks[index];
         self.cells[block.first..block.first + block.length].fill(None);
-        self.blocks[index] = Block { state: State::Dead, first: 0, length: 0 };
+        self.blocks[index] = Block {
+            state: State::Dead,
+            first: 0,
+            length: 0,
+        };
     }
 
     /// 46 unless it is "the first cell of a live freeable block".
@@ -108,7 +127,10 @@ impl Memory {
 
     pub fn store(&mut self, pointer: Pointer, value: Value) -> Result<(), u32> {
         let place = self.place(pointer).ok_or(DEAD_OR_OUTSIDE)?;
-        self.cells[place] = Some(Cell { owner: pointer.name, value });
+        self.cells[place] = Some(Cell {
+            owner: pointer.name,
+            value,
+        });
         Ok(())
     }
 
@@ -118,12 +140,16 @@ impl Memory {
 
     /// "Valid and not undefined, otherwise false."
     pub fn initialised(&self, pointer: Pointer) -> bool {
-        self.place(pointer).is_some_and(|place| self.contents(place) != Value::Undefined)
+        self.place(pointer)
+            .is_some_and(|place| self.contents(place) != Value::Undefined)
     }
 
     pub fn base(&self, pointer: Pointer) -> Result<Pointer, u32> {
         self.live(pointer.name).ok_or(NOT_LIVE)?;
-        Ok(Pointer { offset: 0, ..pointer })
+        Ok(Pointer {
+            offset: 0,
+            ..pointer
+        })
     }
 
     pub fn offset(&self, pointer: Pointer) -> Result<i64, u32> {
@@ -179,7 +205,16 @@ fn block_bytes(block: Option<&Block>) -> [u8; 8] {
     };
     let [first_low, first_high] = (block.first as u16).to_le_bytes();
     let [length_low, length_high] = (block.length as u16).to_le_bytes();
-    [state, 0, first_low, first_high, length_low, length_high, 0, 0]
+    [
+        state,
+        0,
+        first_low,
+        first_high,
+        length_low,
+        length_high,
+        0,
+        0,
+    ]
 }
 
 /// Kind, owner, pointed-to name, five zeros, integer or offset in 8.

@@ -19,7 +19,10 @@ pub struct Observation {
 
 impl Observation {
     pub fn cleared() -> Observation {
-        Observation { blocks: vec![Observed::Unused; NAMES], marks: vec![false; CELLS] }
+        Observation {
+            blocks: vec![Observed::Unused; NAMES],
+            marks: vec![false; CELLS],
+        }
     }
 
     /// Kind 68. 48 for "store not at offset 0, of a known name, below 1 or without marks".
@@ -67,7 +70,10 @@ impl Observation {
 
     pub fn base(&self, pointer: Pointer) -> Result<Pointer, u32> {
         self.live(pointer.name).ok_or(NOT_LIVE)?;
-        Ok(Pointer { offset: 0, ..pointer })
+        Ok(Pointer {
+            offset: 0,
+            ..pointer
+        })
     }
 
     pub fn offset(&self, pointer: Pointer) -> Result<i64, u32> {
@@ -125,7 +131,10 @@ impl Observation {
 
 /// A name no memory has is "a block never recorded".
 fn index(name: u32) -> Option<usize> {
-    usize::try_from(name).ok()?.checked_sub(1).filter(|&index| index < NAMES)
+    usize::try_from(name)
+        .ok()?
+        .checked_sub(1)
+        .filter(|&index| index < NAMES)
 }
 
 fn block_bytes(block: Observed) -> [u8; 8] {

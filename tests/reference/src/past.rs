@@ -59,12 +59,18 @@ impl Own for GoingOn {
             Err(_) => Truth::Ended,
         };
         let statement = machine.statement(number);
-        self.reached.push(Reached { statement, truth, fuel: machine.fuel });
+        self.reached.push(Reached {
+            statement,
+            truth,
+            fuel: machine.fuel,
+        });
         if truth == Truth::False && self.first_false.is_none() {
             let answer = machine.answer(Err(machine.stop(ASSERTION_FALSE, number)));
             self.first_false = Some((answer, machine.memory.clone()));
         }
-        outcome.map(|_| ()).map_err(|fault| machine.stop(fault, number))
+        outcome
+            .map(|_| ())
+            .map_err(|fault| machine.stop(fault, number))
     }
 }
 
@@ -73,5 +79,10 @@ pub fn past(table: &[u8], inputs: &[u8], fuel: u32) -> Result<Past, Answer> {
     let (records, inputs) = admit(table, inputs, Language::Source)?;
     let mut own = GoingOn::default();
     let (ending, memory) = run_accepted(&records, &inputs, fuel, &mut own);
-    Ok(Past { reached: own.reached, ending, memory, first_false: own.first_false })
+    Ok(Past {
+        reached: own.reached,
+        ending,
+        memory,
+        first_false: own.first_false,
+    })
 }

@@ -28,7 +28,9 @@ pub fn holds(machine: &Machine, number: u16) -> Result<bool, u32> {
     let record = machine.record(number);
     match record.kind {
         30 => Ok(machine.memory.valid(term(machine, record.a)?.pointer()?)),
-        31 => Ok(machine.memory.initialised(term(machine, record.a)?.pointer()?)),
+        31 => Ok(machine
+            .memory
+            .initialised(term(machine, record.a)?.pointer()?)),
         32 => {
             let left = term(machine, record.a)?;
             let right = term(machine, record.b)?;

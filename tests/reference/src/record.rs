@@ -53,7 +53,9 @@ pub fn record(table: &[u8], number: usize) -> Option<Record> {
 
 /// All whole records of a table; record n stands at n - 1.
 pub fn records(table: &[u8]) -> Vec<Record> {
-    (1..=table.len() / RECORD_BYTES).filter_map(|number| record(table, number)).collect()
+    (1..=table.len() / RECORD_BYTES)
+        .filter_map(|number| record(table, number))
+        .collect()
 }
 
 /// The bytes of a table made of these records.

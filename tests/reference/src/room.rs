@@ -26,6 +26,9 @@ pub fn with_room<T: Send>(records: &[Record], work: impl FnOnce() -> T + Send) -
     }
     std::thread::scope(|scope| {
         let thread = Builder::new().stack_size(ROOM).spawn_scoped(scope, work);
-        thread.expect("a thread can be had").join().expect("the work ends")
+        thread
+            .expect("a thread can be had")
+            .join()
+            .expect("the work ends")
     })
 }

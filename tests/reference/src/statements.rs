@@ -34,7 +34,9 @@ pub fn run<O: Own>(machine: &mut Machine, own: &mut O, number: u16) -> Result<()
 /// The condition of a 45 or 46, whose own number a stop in it names.
 fn condition(machine: &Machine, number: u16) -> Result<bool, Stop> {
     let value = machine.evaluate(machine.record(number).a);
-    value.and_then(Value::truth).map_err(|fault| machine.stop(fault, number))
+    value
+        .and_then(Value::truth)
+        .map_err(|fault| machine.stop(fault, number))
 }
 
 /// "One unit of fuel goes for each while test, before the condition is evaluated."
@@ -73,7 +75,11 @@ fn change(machine: &mut Machine, record: Record) -> Result<(), u32> {
     let taken = if record.kind == 41 {
         value
     } else {
-        Value::Pointer(machine.memory.new_block(State::Freeable, value.integer()?)?)
+        Value::Pointer(
+            machine
+                .memory
+                .new_block(State::Freeable, value.integer()?)?,
+        )
     };
     machine.memory.store(place, taken)
 }

@@ -29,9 +29,16 @@ pub fn translate(source: &[u8], output: &mut [u8]) -> Answer {
 /// The translation of an accepted source table, or the refusal by 1–8.
 pub fn translation(source: &[u8]) -> Result<Translation, Answer> {
     let source = check(source, Language::Source)?;
-    let mut translator = Translator { source: &source, records: Vec::new(), origins: Vec::new() };
+    let mut translator = Translator {
+        source: &source,
+        records: Vec::new(),
+        origins: Vec::new(),
+    };
     translator.statement(source.len() as u16);
-    Ok(Translation { records: translator.records, origins: translator.origins })
+    Ok(Translation {
+        records: translator.records,
+        origins: translator.origins,
+    })
 }
 
 struct Translator<'source> {
@@ -61,7 +68,17 @@ impl Translator<'_> {
     /// A target statement, which names its source statement in its literal.
     fn put(&mut self, from: From, kind: u8, mark: u8, [a, b, c]: [u16; 3]) -> u16 {
         let literal = i64::from(from.statement);
-        self.write(from.origin, Record { kind, mark, a, b, c, literal })
+        self.write(
+            from.origin,
+            Record {
+                kind,
+                mark,
+                a,
+                b,
+                c,
+                literal,
+            },
+        )
     }
 
     /// "Parts listed in order nest as 44(first, 44(second, ..))."
@@ -84,12 +101,22 @@ impl Translator<'_> {
     }
 
     fn variable(&mut self, origin: u16, mark: u8) -> u16 {
-        self.write(origin, Record { kind: 10, mark, ..Record::default() })
+        self.write(
+            origin,
+            Record {
+                kind: 10,
+                mark,
+                ..Record::default()
+            },
+        )
     }
 
     fn statement(&mut self, number: u16) -> u16 {
         let source = self.source(number);
-        let from = From { origin: number, statement: number };
+        let from = From {
+            origin: number,
+            statement: number,
+        };
         match source.kind {
             40 => self.put(from, 40, 0, [0; 3]),
             41 => self.take(from, source),
@@ -136,8 +163,21 @@ impl Translator<'_> {
         let place = self.copy(source.a);
         let size = self.copy(source.b);
         let taken = self.put(from, 42, 0, [place, size, 0]);
-        let there = self.write(from.origin, Record { kind: 12, ..Record::default() });
-        let read = self.write(from.origin, Record { kind: 2, a: there, ..Record::default() });
+        let there = self.write(
+            from.origin,
+            Record {
+                kind: 12,
+                ..Record::default()
+            },
+        );
+        let read = self.write(
+            from.origin,
+            Record {
+                kind: 2,
+                a: there,
+                ..Record::default()
+            },
+        );
         let fetched = self.put(from, 61, 1, [read, 0, 0]);
         let stored = self.put(from, 68, 1, [0; 3]);
         let marked = self.put(from, 70, 0, [0; 3]);
@@ -158,7 +198,14 @@ impl Translator<'_> {
     fn let_variable(&mut self, from: From, source: Record) -> u16 {
         let variable = self.variable(from.origin, source.mark);
         let saved = self.put(from, 60, 0, [variable, 0, 0]);
-        let one = self.write(from.origin, Record { kind: 1, literal: 1, ..Record::default() });
+        let one = self.write(
+            from.origin,
+            Record {
+                kind: 1,
+                literal: 1,
+                ..Record::default()
+            },
+        );
         let sized = self.put(from, 61, 1, [one, 0, 0]);
         let stored = self.put(from, 68, 0, [0; 3]);
         let body = self.statement(source.a);
@@ -180,7 +227,10 @@ impl Translator<'_> {
     /// The term or predicate `number` worked out into t(level).
     fn at_level(&mut self, number: u16, level: u8, statement: u16) -> u16 {
         let source = self.source(number);
-        let from = From { origin: number, statement };
+        let from = From {
+            origin: number,
+            statement,
+        };
         match source.kind {
             20 => {
                 let expression = self.copy(source.a);

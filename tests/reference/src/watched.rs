@@ -43,7 +43,11 @@ impl Watching {
             }
             67 => {
                 let holds = machine.temporary(mark)?.truth()?;
-                return if holds { Ok(None) } else { Err(answer::ASSERTION_FALSE) };
+                return if holds {
+                    Ok(None)
+                } else {
+                    Err(answer::ASSERTION_FALSE)
+                };
             }
             _ => self.call(machine, record)?,
         }
@@ -82,7 +86,9 @@ impl Watching {
         if record.kind == 68 {
             // 49 for either temporary comes before 40 for either.
             let second = machine.temporary(record.mark.saturating_add(1))?;
-            return self.observation.store_block(first.pointer()?, second.integer()?);
+            return self
+                .observation
+                .store_block(first.pointer()?, second.integer()?);
         }
         match record.kind {
             69 => self.observation.delete_block(first.pointer()?),

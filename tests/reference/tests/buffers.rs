@@ -56,10 +56,22 @@ fn a_plain_run_refuses_8_too() {
 #[test]
 fn a_watched_run_refuses_1_to_7_then_9_then_21_then_22() {
     let good = inputs(&[7]);
-    assert_eq!(watched_refusal(&skip(1), &good, (18_424, 3_063)), Answer::of(22, 0));
-    assert_eq!(watched_refusal(&skip(1), &good, (18_424, 3_065)), Answer::of(22, 0));
-    assert_eq!(watched_refusal(&skip(1), &good, (18_423, 3_063)), Answer::of(21, 0));
-    assert_eq!(watched_refusal(&skip(1), &good, (18_425, 3_064)), Answer::of(21, 0));
+    assert_eq!(
+        watched_refusal(&skip(1), &good, (18_424, 3_063)),
+        Answer::of(22, 0)
+    );
+    assert_eq!(
+        watched_refusal(&skip(1), &good, (18_424, 3_065)),
+        Answer::of(22, 0)
+    );
+    assert_eq!(
+        watched_refusal(&skip(1), &good, (18_423, 3_063)),
+        Answer::of(21, 0)
+    );
+    assert_eq!(
+        watched_refusal(&skip(1), &good, (18_425, 3_064)),
+        Answer::of(21, 0)
+    );
     assert_eq!(watched_refusal(&skip(1), &[0; 7], (0, 0)), Answer::of(9, 0));
     assert_eq!(watched_refusal(&skip(0), &[0; 7], (0, 0)), Answer::of(4, 1));
 }
@@ -68,11 +80,17 @@ fn a_watched_run_refuses_1_to_7_then_9_then_21_then_22() {
 fn inputs_are_1_to_256_of_8_bytes() {
     for length in [0, 1, 7, 9, 15, 2047, 2049, 2056] {
         assert_eq!(plain_refusal(&skip(0), &vec![0; length], 18_424).number, 9);
-        assert_eq!(watched_refusal(&skip(1), &vec![0; length], (18_424, 3_064)).number, 9);
+        assert_eq!(
+            watched_refusal(&skip(1), &vec![0; length], (18_424, 3_064)).number,
+            9
+        );
     }
     for length in [8, 16, 2040, 2048] {
         let mut memory = vec![GUARD; 18_424];
-        assert_eq!(run_plain(&skip(0), &vec![0; length], 0, &mut memory).number, 0);
+        assert_eq!(
+            run_plain(&skip(0), &vec![0; length], 0, &mut memory).number,
+            0
+        );
     }
 }
 
@@ -107,7 +125,10 @@ fn a_run_depends_on_no_byte_that_its_memories_held() {
         let mut memory = case.memory.clone();
         let answer = run_plain(&case.table, &case.inputs, case.fuel, &mut memory);
         let mut cleared = vec![0; case.memory.len()];
-        assert_eq!(run_plain(&case.table, &case.inputs, case.fuel, &mut cleared), answer);
+        assert_eq!(
+            run_plain(&case.table, &case.inputs, case.fuel, &mut cleared),
+            answer
+        );
         if (1..=22).contains(&answer.number) {
             assert_eq!(memory, case.memory);
             assert_eq!((answer.fuel, answer.free_cells), (0, 0));
@@ -126,8 +147,13 @@ fn a_refused_watched_run_leaves_both_memories() {
     for _ in 0..1_500 {
         let case = generator.target_case();
         let (mut memory, mut observation) = (case.memory.clone(), case.observation.clone());
-        let answer =
-            run_watched(&case.table, &case.inputs, case.fuel, &mut memory, &mut observation);
+        let answer = run_watched(
+            &case.table,
+            &case.inputs,
+            case.fuel,
+            &mut memory,
+            &mut observation,
+        );
         if (1..=22).contains(&answer.number) {
             assert_eq!((&memory, &observation), (&case.memory, &case.observation));
             let check = check_target(&case.table);

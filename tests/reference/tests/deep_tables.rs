@@ -7,7 +7,9 @@ use reference::Answer;
 /// Does the work on a thread with this much stack.
 fn on_a_stack_of<T: Send>(bytes: usize, work: impl FnOnce() -> T + Send) -> T {
     std::thread::scope(|scope| {
-        let thread = std::thread::Builder::new().stack_size(bytes).spawn_scoped(scope, work);
+        let thread = std::thread::Builder::new()
+            .stack_size(bytes)
+            .spawn_scoped(scope, work);
         thread.expect("a thread").join().expect("no overflow")
     })
 }
@@ -16,15 +18,22 @@ fn on_a_stack_of<T: Send>(bytes: usize, work: impl FnOnce() -> T + Send) -> T {
 fn an_expression_chain_of_4095_records_runs() {
     let mut b = Builder::target(1);
     let mut place = b.variable(0);
-    while b.len() + 2 < 4094 {
+    while b.len() < 4095 {
         let address = b.address(place);
         place = b.pointed(address);
     }
-    let address = b.address(place);
-    b.add(61, 0, [address, 0, 0]);
-    assert!(b.len() >= 4095);
+    b.add(60, 0, [place, 0, 0]);
+    assert_eq!(b.len(), 4096);
     let (answer, _, _) = on_a_stack_of(1 << 20, || watched(&b.table(), &inputs(&[7]), 5));
-    assert_eq!(answer, Answer { number: 0, record: 0, fuel: 5, free_cells: 1022 });
+    assert_eq!(
+        answer,
+        Answer {
+            number: 0,
+            record: 0,
+            fuel: 5,
+            free_cells: 1022
+        }
+    );
 }
 
 #[test]
@@ -37,7 +46,15 @@ fn statements_nested_4096_deep_run_and_stop() {
         statement = b.then(skip, statement);
     }
     let (answer, _, _) = on_a_stack_of(1 << 20, || watched(&b.table(), &inputs(&[7]), 5));
-    assert_eq!(answer, Answer { number: 49, record: 9, fuel: 5, free_cells: 1022 });
+    assert_eq!(
+        answer,
+        Answer {
+            number: 49,
+            record: 9,
+            fuel: 5,
+            free_cells: 1022
+        }
+    );
 }
 
 #[test]
@@ -53,9 +70,20 @@ fn the_deepest_source_is_translated_and_run() {
     let source = b.table();
     let (end, target_end) = on_a_stack_of(1 << 20, || {
         let target = translated(&source).expect("accepted");
-        (plain(&source, &inputs(&[7]), 0).0, watched(&target, &inputs(&[7]), 0).0)
+        (
+            plain(&source, &inputs(&[7]), 0).0,
+            watched(&target, &inputs(&[7]), 0).0,
+        )
     });
-    assert_eq!(end, Answer { number: 0, record: 0, fuel: 0, free_cells: 1022 });
+    assert_eq!(
+        end,
+        Answer {
+            number: 0,
+            record: 0,
+            fuel: 0,
+            free_cells: 1022
+        }
+    );
     assert_eq!(target_end, end);
 }
 
@@ -67,6 +95,11 @@ fn a_long_loop_needs_no_more_stack_than_a_short_one() {
     let turns = b.while_do(one, skip);
     let source = b.table();
     let (answer, _) = on_a_stack_of(128 << 10, || plain(&source, &inputs(&[7]), 3_000_000));
-    let expected = Answer { number: 32, record: u32::from(turns), fuel: 0, free_cells: 1022 };
+    let expected = Answer {
+        number: 32,
+        record: u32::from(turns),
+        fuel: 0,
+        free_cells: 1022,
+    };
     assert_eq!(answer, expected);
 }

@@ -7,14 +7,9 @@ use reference::host::{inputs, mirror, plain, translated, watched};
 /// variable 1 points to a dead block and variable 2 to a live undefined one of 3 cells.
 fn asserting(build: impl FnOnce(&mut Builder) -> u16) -> u32 {
     let mut b = Builder::source();
-    let place = b.variable(1);
-    let size = b.literal(2);
-    let first = b.take_new(place, size);
-    let pointer = b.read_variable(1);
-    let free = b.free(pointer);
-    let place = b.variable(2);
-    let size = b.literal(3);
-    let second = b.take_new(place, size);
+    let first = b.new_in(1, 2);
+    let free = b.free_variable(1);
+    let second = b.new_in(2, 3);
     let predicate = build(&mut b);
     let assertion = b.assert(predicate);
     let inner = b.then(second, assertion);
@@ -29,7 +24,11 @@ fn asserting(build: impl FnOnce(&mut Builder) -> u16) -> u32 {
     if matches!(answer.number, 0 | 33) {
         assert_eq!(observation, mirror(&memory));
     }
-    let statement = if answer.number == 0 { 0 } else { u32::from(assertion) };
+    let statement = if answer.number == 0 {
+        0
+    } else {
+        u32::from(assertion)
+    };
     assert_eq!(answer.record, statement);
     answer.number
 }
@@ -44,13 +43,10 @@ fn falsehood(b: &mut Builder) -> u16 {
 
 /// A predicate whose working out ends 44.
 fn stopping(b: &mut Builder) -> u16 {
-    let one = b.literal(1);
-    let left = b.term(one);
-    let zero = b.literal(0);
-    let right = b.term(zero);
+    let left = b.literal_term(1);
+    let right = b.literal_term(0);
     let quotient = b.term_operator(4, left, right);
-    let one = b.literal(1);
-    let right = b.term(one);
+    let right = b.literal_term(1);
     b.compare(7, quotient, right)
 }
 
@@ -94,14 +90,12 @@ fn not_turns_truth_round_and_keeps_a_stop() {
 fn base_offset_and_length_of_a_dead_block_are_47() {
     for kind in [21, 22, 23] {
         let number = asserting(|b| {
-            let pointer = b.read_variable(1);
-            let term = b.term(pointer);
+            let term = b.variable_term(1);
             let asked = b.add(kind, 0, [term, 0, 0]);
             match kind {
                 21 => b.valid(asked),
                 _ => {
-                    let zero = b.literal(0);
-                    let zero = b.term(zero);
+                    let zero = b.literal_term(0);
                     b.compare(6, zero, asked)
                 }
             }
@@ -114,8 +108,7 @@ fn base_offset_and_length_of_a_dead_block_are_47() {
 fn a_dead_block_is_neither_valid_nor_initialised_and_that_is_no_stop() {
     for kind in [30, 31] {
         let number = asserting(|b| {
-            let pointer = b.read_variable(1);
-            let term = b.term(pointer);
+            let term = b.variable_term(1);
             let predicate = b.add(kind, 0, [term, 0, 0]);
             b.not(predicate)
         });
@@ -127,8 +120,7 @@ fn a_dead_block_is_neither_valid_nor_initialised_and_that_is_no_stop() {
 fn queries_and_predicates_take_a_pointer_before_47() {
     for kind in [21, 22, 23, 30, 31] {
         let number = asserting(|b| {
-            let integer = b.literal(2);
-            let term = b.term(integer);
+            let term = b.literal_term(2);
             let asked = b.add(kind, 0, [term, 0, 0]);
             match kind {
                 21..=23 => b.valid(asked),
@@ -145,14 +137,12 @@ fn offset_may_lie_outside_and_base_keeps_the_name_at_offset_0() {
         let outside = b.shifted_variable(2, -9);
         let term = b.term(outside);
         let offset = b.offset(term);
-        let nine = b.literal(-9);
-        let nine = b.term(nine);
+        let nine = b.literal_term(-9);
         let same_offset = b.compare(7, offset, nine);
         let outside = b.shifted_variable(2, 700);
         let term = b.term(outside);
         let base = b.base(term);
-        let pointer = b.read_variable(2);
-        let pointer = b.term(pointer);
+        let pointer = b.variable_term(2);
         let same_base = b.compare(7, base, pointer);
         b.and(same_offset, same_base)
     });
@@ -166,8 +156,7 @@ fn length_counts_the_cells_of_the_block() {
             let inside = b.shifted_variable(2, 1);
             let term = b.term(inside);
             let length = b.length(term);
-            let claimed = b.literal(claimed);
-            let claimed = b.term(claimed);
+            let claimed = b.literal_term(claimed);
             b.compare(7, length, claimed)
         });
         assert_eq!(number, expected);
@@ -176,7 +165,14 @@ fn length_counts_the_cells_of_the_block() {
 
 #[test]
 fn validity_ends_with_the_block_on_both_sides() {
-    for (offset, expected) in [(-1, 33), (0, 0), (2, 0), (3, 33), (i64::MAX, 33), (i64::MIN, 33)] {
+    for (offset, expected) in [
+        (-1, 33),
+        (0, 0),
+        (2, 0),
+        (3, 33),
+        (i64::MAX, 33),
+        (i64::MIN, 33),
+    ] {
         let number = asserting(|b| {
             let pointer = b.shifted_variable(2, offset);
             let term = b.term(pointer);
@@ -189,12 +185,9 @@ fn validity_ends_with_the_block_on_both_sides() {
 #[test]
 fn dead_pointers_may_be_compared_and_shifted() {
     let number = asserting(|b| {
-        let pointer = b.read_variable(1);
-        let left = b.term(pointer);
-        let pointer = b.read_variable(1);
-        let term = b.term(pointer);
-        let zero = b.literal(0);
-        let zero = b.term(zero);
+        let left = b.variable_term(1);
+        let term = b.variable_term(1);
+        let zero = b.literal_term(0);
         let right = b.term_operator(8, term, zero);
         b.compare(7, left, right)
     });
@@ -204,8 +197,7 @@ fn dead_pointers_may_be_compared_and_shifted() {
 #[test]
 fn terms_look_at_sorts_after_both_operands() {
     let number = asserting(|b| {
-        let pointer = b.read_variable(2);
-        let left = b.term(pointer);
+        let left = b.variable_term(2);
         let undefined = b.read_pointed(2);
         let right = b.term(undefined);
         b.compare(6, left, right)
@@ -216,21 +208,16 @@ fn terms_look_at_sorts_after_both_operands() {
 #[test]
 fn a_term_that_overflows_is_43_and_one_at_an_integer_shift_40() {
     let number = asserting(|b| {
-        let most = b.literal(i64::MAX);
-        let left = b.term(most);
-        let one = b.literal(1);
-        let right = b.term(one);
+        let left = b.literal_term(i64::MAX);
+        let right = b.literal_term(1);
         let sum = b.term_operator(1, left, right);
-        let one = b.literal(1);
-        let one = b.term(one);
+        let one = b.literal_term(1);
         b.compare(6, sum, one)
     });
     assert_eq!(number, 43);
     let number = asserting(|b| {
-        let integer = b.literal(4);
-        let left = b.term(integer);
-        let one = b.literal(1);
-        let right = b.term(one);
+        let left = b.literal_term(4);
+        let right = b.literal_term(1);
         let shifted = b.term_operator(8, left, right);
         b.valid(shifted)
     });

@@ -7,14 +7,9 @@ use reference::Answer;
 /// let 5 in (5 = new 2; free 5; 5 = new 3; *5 = -2; *(5+1) = &5 - 3; assert false).
 fn program() -> Builder {
     let mut b = Builder::source();
-    let place = b.variable(5);
-    let size = b.literal(2);
-    let first = b.take_new(place, size);
-    let pointer = b.read_variable(5);
-    let free = b.free(pointer);
-    let place = b.variable(5);
-    let size = b.literal(3);
-    let second = b.take_new(place, size);
+    let first = b.new_in(5, 2);
+    let free = b.free_variable(5);
+    let second = b.new_in(5, 3);
     let pointer = b.read_variable(5);
     let place = b.pointed(pointer);
     let value = b.literal(-2);
@@ -52,8 +47,12 @@ fn execution_memory() -> Vec<u8> {
         [2, 2, 0, 0, 0, 0, 0, 0, 7, 0, 0, 0, 0, 0, 0, 0],
         [2, 2, 0, 0, 0, 0, 0, 0, 9, 1, 0, 0, 0, 0, 0, 0],
         [3, 3, 5, 0, 0, 0, 0, 0, 0, 0, 0, 0, 0, 0, 0, 0],
-        [2, 5, 0, 0, 0, 0, 0, 0, 254, 255, 255, 255, 255, 255, 255, 255],
-        [3, 5, 3, 0, 0, 0, 0, 0, 253, 255, 255, 255, 255, 255, 255, 255],
+        [
+            2, 5, 0, 0, 0, 0, 0, 0, 254, 255, 255, 255, 255, 255, 255, 255,
+        ],
+        [
+            3, 5, 3, 0, 0, 0, 0, 0, 253, 255, 255, 255, 255, 255, 255, 255,
+        ],
         [1, 5, 0, 0, 0, 0, 0, 0, 0, 0, 0, 0, 0, 0, 0, 0],
     ];
     [rows(&blocks, 2040), rows(&cells, 16384)].concat()
@@ -73,8 +72,18 @@ fn observation_memory() -> Vec<u8> {
 #[test]
 fn both_memories_have_the_bytes_written_here() {
     let b = program();
-    let assertion = b.records().iter().position(|record| record.kind == 48).unwrap() as u32 + 1;
-    let expected = Answer { number: 33, record: assertion, fuel: 3, free_cells: 1024 - 7 };
+    let assertion = b
+        .records()
+        .iter()
+        .position(|record| record.kind == 48)
+        .unwrap() as u32
+        + 1;
+    let expected = Answer {
+        number: 33,
+        record: assertion,
+        fuel: 3,
+        free_cells: 1024 - 7,
+    };
     let inputs = inputs(&[7, 265]);
     let (answer, memory) = plain(&b.table(), &inputs, 3);
     assert_eq!(answer, expected);
@@ -91,15 +100,19 @@ fn both_memories_have_the_bytes_written_here() {
 #[test]
 fn first_and_length_take_two_bytes_each() {
     let mut b = Builder::source();
-    let place = b.variable(0);
-    let size = b.literal(300);
-    let first = b.take_new(place, size);
-    let place = b.variable(0);
-    let size = b.literal(467);
-    let second = b.take_new(place, size);
+    let first = b.new_in(0, 300);
+    let second = b.new_in(0, 467);
     b.then(first, second);
     let (answer, memory) = plain(&b.table(), &inputs(&[1; 256]), 0);
-    assert_eq!(answer, Answer { number: 0, record: 0, fuel: 0, free_cells: 0 });
+    assert_eq!(
+        answer,
+        Answer {
+            number: 0,
+            record: 0,
+            fuel: 0,
+            free_cells: 0
+        }
+    );
     let blocks = [
         [1, 0, 0, 0, 1, 0, 0, 0],
         [1, 0, 1, 0, 0, 1, 0, 0],
@@ -112,12 +125,18 @@ fn first_and_length_take_two_bytes_each() {
 #[test]
 fn a_let_that_ended_leaves_a_dead_name_and_free_cells() {
     let mut b = Builder::source();
-    let place = b.variable(8);
-    let value = b.literal(77);
-    let take = b.take(place, value);
+    let take = b.take_literal(8, 77);
     b.let_in(8, take);
     let (answer, memory) = plain(&b.table(), &inputs(&[1]), 0);
-    assert_eq!(answer, Answer { number: 0, record: 0, fuel: 0, free_cells: 1022 });
+    assert_eq!(
+        answer,
+        Answer {
+            number: 0,
+            record: 0,
+            fuel: 0,
+            free_cells: 1022
+        }
+    );
     assert_eq!(memory[16..24], [3, 0, 0, 0, 0, 0, 0, 0]);
     assert!(memory[2040 + 2 * 16..].iter().all(|&byte| byte == 0));
 }

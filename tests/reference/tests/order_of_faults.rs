@@ -20,7 +20,10 @@ fn ends(number: u32, build: impl FnOnce(&mut Builder) -> u16) {
     let mut b = Builder::source();
     let statement = build(&mut b);
     let (answer, _) = both(&b, 1000);
-    assert_eq!((answer.number, answer.record), (number, u32::from(statement)));
+    assert_eq!(
+        (answer.number, answer.record),
+        (number, u32::from(statement))
+    );
 }
 
 /// Division of 1 by 0, which ends 44.
@@ -48,11 +51,8 @@ fn with_expression(b: &mut Builder, build: impl FnOnce(&mut Builder) -> u16) -> 
 
 /// let 1 in (1 = new 2; free 1; the rest), where variable 1 points to a dead block.
 fn with_dead_block(b: &mut Builder, build: impl FnOnce(&mut Builder) -> u16) -> u16 {
-    let place = b.variable(1);
-    let size = b.literal(2);
-    let new = b.take_new(place, size);
-    let pointer = b.read_variable(1);
-    let free = b.free(pointer);
+    let new = b.new_in(1, 2);
+    let free = b.free_variable(1);
     let rest = build(b);
     let body = b.sequence(&[new, free, rest]);
     b.let_in(1, body);
@@ -256,8 +256,7 @@ fn a_free_takes_a_pointer_to_the_first_cell_of_a_live_freeable_block() {
         b.free(pointer)
     });
     ends(46, |b| {
-        let pointer = b.read_variable(0);
-        b.free(pointer)
+        b.free_variable(0)
     });
     ends(46, |b| {
         let pointer = b.address_of_variable(1);
@@ -267,15 +266,12 @@ fn a_free_takes_a_pointer_to_the_first_cell_of_a_live_freeable_block() {
     });
     ends(46, |b| {
         with_dead_block(b, |b| {
-            let pointer = b.read_variable(1);
-            b.free(pointer)
+            b.free_variable(1)
         })
     });
     for (offset, expected) in [(0, 0), (1, 46), (2, 46), (-1, 46)] {
         let mut b = Builder::source();
-        let place = b.variable(0);
-        let size = b.literal(2);
-        let new = b.take_new(place, size);
+        let new = b.new_in(0, 2);
         let pointer = b.shifted_variable(0, offset);
         let free = b.free(pointer);
         b.then(new, free);
@@ -286,19 +282,13 @@ fn a_free_takes_a_pointer_to_the_first_cell_of_a_live_freeable_block() {
 /// let 1 in (1 = turns; while 1 at most 1 do (let 2 in skip; 1 = 1 - 1); the rest): names given
 /// before the rest are 3 and one for each turn.
 fn after_names(b: &mut Builder, turns: i64, rest: impl FnOnce(&mut Builder) -> u16) -> u16 {
-    let place = b.variable(1);
-    let count = b.literal(turns);
-    let start = b.take(place, count);
+    let start = b.take_literal(1, turns);
     let one = b.literal(1);
     let value = b.read_variable(1);
     let condition = b.operator(6, one, value);
     let skip = b.skip();
     let block = b.let_in(2, skip);
-    let place = b.variable(1);
-    let value = b.read_variable(1);
-    let one = b.literal(1);
-    let less = b.operator(2, value, one);
-    let step = b.take(place, less);
+    let step = b.decrease(1);
     let body = b.then(block, step);
     let turning = b.while_do(condition, body);
     let rest = rest(b);
@@ -319,7 +309,12 @@ fn at_a_new_block_the_order_is_40_45_31_30() {
             b.take_new(place, size)
         }
     };
-    let cases = [(252, None, 40), (252, Some(0), 45), (252, Some(5000), 31), (252, Some(1), 31)];
+    let cases = [
+        (252, None, 40),
+        (252, Some(0), 45),
+        (252, Some(5000), 31),
+        (252, Some(1), 31),
+    ];
     for (turns, size, expected) in cases.into_iter().chain([(251, Some(5000), 30)]) {
         ends(expected, |b| after_names(b, turns, new(size)));
     }
@@ -332,9 +327,7 @@ fn at_a_new_block_the_order_is_40_45_31_30() {
 #[test]
 fn a_let_without_a_name_or_a_cell_names_the_let_with_31_before_30() {
     let full = |b: &mut Builder| {
-        let place = b.variable(0);
-        let size = b.literal(1020);
-        let new = b.take_new(place, size);
+        let new = b.new_in(0, 1020);
         let skip = b.skip();
         let block = b.let_in(9, skip);
         b.then(new, block);
@@ -367,7 +360,12 @@ fn a_new_block_whose_store_ends_42_stays() {
     let size = b.literal(6);
     let new = b.take_new(place, size);
     let (answer, memory) = both(&b, 4);
-    let expected = Answer { number: 42, record: u32::from(new), fuel: 4, free_cells: 1015 };
+    let expected = Answer {
+        number: 42,
+        record: u32::from(new),
+        fuel: 4,
+        free_cells: 1015,
+    };
     assert_eq!(answer, expected);
     assert_eq!(memory[16..24], [2, 0, 3, 0, 6, 0, 0, 0]);
 }
@@ -378,7 +376,12 @@ fn fuel_goes_before_the_condition() {
     let condition = zero_divisor(&mut b);
     let skip = b.skip();
     let turns = u32::from(b.while_do(condition, skip));
-    let end = |number, fuel| Answer { number, record: turns, fuel, free_cells: 1021 };
+    let end = |number, fuel| Answer {
+        number,
+        record: turns,
+        fuel,
+        free_cells: 1021,
+    };
     assert_eq!(both(&b, 0).0, end(32, 0));
     assert_eq!(both(&b, 1).0, end(44, 0));
     assert_eq!(both(&b, u32::MAX).0, end(44, u32::MAX - 1));
@@ -390,7 +393,12 @@ fn a_test_that_would_be_false_costs_fuel_too() {
     let never = b.literal(0);
     let skip = b.skip();
     let turns = u32::from(b.while_do(never, skip));
-    let end = |number, record, fuel| Answer { number, record, fuel, free_cells: 1021 };
+    let end = |number, record, fuel| Answer {
+        number,
+        record,
+        fuel,
+        free_cells: 1021,
+    };
     assert_eq!(both(&b, 0).0, end(32, turns, 0));
     assert_eq!(both(&b, 1).0, end(0, 0, 0));
     assert_eq!(both(&b, 7).0, end(0, 0, 6));

@@ -56,26 +56,18 @@ fn self_pointing() -> Vec<u8> {
 #[test]
 fn a_dead_name_is_not_used_again() {
     let mut b = Builder::source();
-    let place = b.variable(1);
-    let size = b.literal(1);
-    let first = b.take_new(place, size);
+    let first = b.new_in(1, 1);
     let place = b.variable(2);
     let old = b.read_variable(1);
     let keep = b.take(place, old);
-    let pointer = b.read_variable(1);
-    let free = b.free(pointer);
-    let place = b.variable(1);
-    let size = b.literal(1);
-    let second = b.take_new(place, size);
+    let free = b.free_variable(1);
+    let second = b.new_in(1, 1);
     // Same first cell, other name: the kept pointer stays dead and equals nothing new.
-    let old = b.read_variable(2);
-    let old = b.term(old);
+    let old = b.variable_term(2);
     let valid = b.valid(old);
     let invalid = b.not(valid);
-    let new = b.read_variable(1);
-    let new = b.term(new);
-    let old = b.read_variable(2);
-    let old = b.term(old);
+    let new = b.variable_term(1);
+    let old = b.variable_term(2);
     let same = b.compare(7, new, old);
     let differ = b.not(same);
     let predicate = b.and(invalid, differ);
@@ -90,11 +82,8 @@ fn a_dead_name_is_not_used_again() {
 fn valid_is_not_initialised() {
     let program = |kind: u8| {
         let mut b = Builder::source();
-        let place = b.variable(1);
-        let size = b.literal(1);
-        let new = b.take_new(place, size);
-        let pointer = b.read_variable(1);
-        let term = b.term(pointer);
+        let new = b.new_in(1, 1);
+        let term = b.variable_term(1);
         let predicate = b.add(kind, 0, [term, 0, 0]);
         let assertion = b.assert(predicate);
         let body = b.then(new, assertion);
@@ -109,10 +98,8 @@ fn valid_is_not_initialised() {
 #[test]
 fn a_stop_within_the_evaluation_is_41_and_not_33() {
     let mut b = Builder::source();
-    let undefined = b.read_variable(1);
-    let left = b.term(undefined);
-    let one = b.literal(1);
-    let right = b.term(one);
+    let left = b.variable_term(1);
+    let right = b.literal_term(1);
     let predicate = b.compare(7, left, right);
     let falsehood = b.compare_literals(7, 0, 1);
     let both = b.and(predicate, falsehood);

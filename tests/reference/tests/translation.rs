@@ -22,7 +22,10 @@ fn source(lines: &[[i64; 6]]) -> Vec<u8> {
 }
 
 fn expect(lines: &[[i64; 6]], text: &str) {
-    let expected: String = text.split(',').map(|line| format!("{}\n", line.trim())).collect();
+    let expected: String = text
+        .split(',')
+        .map(|line| format!("{}\n", line.trim()))
+        .collect();
     assert_eq!(listing(&source(lines)), expected);
 }
 
@@ -72,9 +75,13 @@ fn a_let_records_its_block_and_deletes_it_in_14_records() {
 #[test]
 fn and_and_or_become_a_branch_with_a_skip() {
     let operand = |kind, from| {
-        [[10, 0, 0, 0, 0, 0], [3, 0, from, 0, 0, 0], [20, 0, from + 1, 0, 0, 0]]
-            .into_iter()
-            .chain([[kind, 0, from + 2, 0, 0, 0]])
+        [
+            [10, 0, 0, 0, 0, 0],
+            [3, 0, from, 0, 0, 0],
+            [20, 0, from + 1, 0, 0, 0],
+        ]
+        .into_iter()
+        .chain([[kind, 0, from + 2, 0, 0, 0]])
     };
     let assertion = |kind| {
         let operands = operand(30, 1).chain(operand(31, 5));
@@ -172,7 +179,10 @@ fn the_output_may_be_longer_and_its_further_bytes_stay() {
     let table = source(&[[40, 0, 0, 0, 0, 0]]);
     let mut output = [0xEE; 40];
     assert_eq!(translate(&table, &mut output), Answer::of(0, 1));
-    assert_eq!(output[..16], [40, 0, 0, 0, 0, 0, 0, 0, 1, 0, 0, 0, 0, 0, 0, 0]);
+    assert_eq!(
+        output[..16],
+        [40, 0, 0, 0, 0, 0, 0, 0, 1, 0, 0, 0, 0, 0, 0, 0]
+    );
     assert_eq!(output[16..], [0xEE; 24]);
 }
 
@@ -191,5 +201,8 @@ fn the_listing_of_a_refused_table_is_one_line() {
     assert_eq!(listing(&[]), "1 0\n");
     assert_eq!(listing(&[0; 4112]), "2 0\n");
     assert_eq!(listing(&[0; 4113]), "1 0\n");
-    assert_eq!(listing(&source(&[[40, 0, 0, 0, 0, 0], [40, 0, 0, 0, 0, 0]])), "6 1\n");
+    assert_eq!(
+        listing(&source(&[[40, 0, 0, 0, 0, 0], [40, 0, 0, 0, 0, 0]])),
+        "6 1\n"
+    );
 }

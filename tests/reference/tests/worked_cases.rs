@@ -91,11 +91,9 @@ fn p5_input_offsets_0_and_1_are_valid_and_their_neighbours_are_not() {
 #[test]
 fn p6_a_fresh_variable_is_valid_and_not_initialised() {
     let mut b = Builder::source();
-    let expression = b.address_of_variable(9);
-    let term = b.term(expression);
+    let term = b.address_term(9);
     let valid = b.valid(term);
-    let expression = b.address_of_variable(9);
-    let term = b.term(expression);
+    let term = b.address_term(9);
     let initialised = b.initialised(term);
     let not_initialised = b.not(initialised);
     let both_hold = b.and(valid, not_initialised);
@@ -121,7 +119,14 @@ fn p7_a_variable_that_points_to_itself_can_be_stored_through() {
 
 #[test]
 fn p8_inside_one_let_1020_cells_fit_1021_do_not_and_0_is_no_size() {
-    for (size, expected) in [(1020, 0), (1021, 30), (1, 0), (0, 45), (-1, 45), (i64::MAX, 30)] {
+    for (size, expected) in [
+        (1020, 0),
+        (1021, 30),
+        (1, 0),
+        (0, 45),
+        (-1, 45),
+        (i64::MAX, 30),
+    ] {
         let mut b = Builder::source();
         let place = b.variable(1);
         let size_literal = b.literal(size);
@@ -137,17 +142,20 @@ fn p8_inside_one_let_1020_cells_fit_1021_do_not_and_0_is_no_size() {
 #[test]
 fn p9_a_new_block_after_a_free_has_the_same_first_cell_and_the_next_name() {
     let mut b = Builder::source();
-    let place = b.variable(0);
-    let size = b.literal(5);
-    let first = b.take_new(place, size);
-    let pointer = b.read_variable(0);
-    let free = b.free(pointer);
-    let place = b.variable(0);
-    let size = b.literal(5);
-    let second = b.take_new(place, size);
+    let first = b.new_in(0, 5);
+    let free = b.free_variable(0);
+    let second = b.new_in(0, 5);
     b.sequence(&[first, free, second]);
     let (answer, memory) = both(&b.table());
-    assert_eq!(answer, Answer { number: 0, record: 0, fuel: 10, free_cells: 1024 - 8 });
+    assert_eq!(
+        answer,
+        Answer {
+            number: 0,
+            record: 0,
+            fuel: 10,
+            free_cells: 1024 - 8
+        }
+    );
     assert_eq!(memory[2 * 8..3 * 8], [3, 0, 0, 0, 0, 0, 0, 0]);
     assert_eq!(memory[3 * 8..4 * 8], [2, 0, 3, 0, 5, 0, 0, 0]);
     assert_eq!(memory[255 * 8..255 * 8 + 3], [3, 1, 4]);
@@ -157,10 +165,8 @@ fn p9_a_new_block_after_a_free_has_the_same_first_cell_and_the_next_name() {
 fn p10_false_and_a_read_of_an_undefined_cell_is_false() {
     let mut b = Builder::source();
     let falsehood = b.compare_literals(7, 0, 1);
-    let undefined = b.read_variable(1);
-    let left = b.term(undefined);
-    let one = b.literal(1);
-    let right = b.term(one);
+    let left = b.variable_term(1);
+    let right = b.literal_term(1);
     let stopping = b.compare(7, left, right);
     let both_hold = b.and(falsehood, stopping);
     let neither = b.not(both_hold);
@@ -179,10 +185,25 @@ fn r1_lets_in_a_loop_use_the_names_up_at_the_254th_test() {
     let source = b.table();
     let target = translated(&source).expect("accepted");
     let inputs = inputs(&[7, 9]);
-    let ends = |fuel| (plain(&source, &inputs, fuel).0, watched(&target, &inputs, fuel).0);
-    let names = Answer { number: 31, record: u32::from(body), fuel: 46, free_cells: 1021 };
+    let ends = |fuel| {
+        (
+            plain(&source, &inputs, fuel).0,
+            watched(&target, &inputs, fuel).0,
+        )
+    };
+    let names = Answer {
+        number: 31,
+        record: u32::from(body),
+        fuel: 46,
+        free_cells: 1021,
+    };
     assert_eq!(ends(300), (names, names));
-    let fuel = Answer { number: 32, record: u32::from(turns), fuel: 0, free_cells: 1021 };
+    let fuel = Answer {
+        number: 32,
+        record: u32::from(turns),
+        fuel: 0,
+        free_cells: 1021,
+    };
     assert_eq!(ends(0), (fuel, fuel));
     assert_eq!(ends(253), (fuel, fuel));
     assert_eq!(ends(254).0.number, 31);

@@ -54,8 +54,17 @@ fn lengthen(bytes: &mut Vec<u8>, language: Language, random: &mut Random) {
         Language::Target => TARGET_RECORDS,
     };
     let length = (limit + random.pick(&[0, 1, 1, 2, 30])) * RECORD_BYTES;
-    let filler = if bytes.is_empty() { vec![0] } else { bytes.clone() };
-    bytes.extend(filler.iter().cycle().take(length.saturating_sub(bytes.len())));
+    let filler = if bytes.is_empty() {
+        vec![0]
+    } else {
+        bytes.clone()
+    };
+    bytes.extend(
+        filler
+            .iter()
+            .cycle()
+            .take(length.saturating_sub(bytes.len())),
+    );
 }
 
 fn damage_bytes(bytes: &mut [u8], random: &mut Random) {
@@ -79,7 +88,10 @@ fn damage_records(list: &mut Vec<Record>, way: u64, random: &mut Random) {
             list.pop();
         }
         13 => {
-            list.push(Record { kind: random.pick(&[1, 40]), ..Record::default() });
+            list.push(Record {
+                kind: random.pick(&[1, 40]),
+                ..Record::default()
+            });
         }
         14 => damage_variable(list, random),
         _ => {
@@ -120,7 +132,9 @@ fn damage_child(list: &mut [Record], at: usize, random: &mut Random) {
 /// Aimed at 6: a child taken from among the other records of its sort.
 fn share_child(list: &mut [Record], random: &mut Random) {
     let at = random.index(list.len());
-    let Some(sort) = grammar::children(list[at].kind)[0] else { return };
+    let Some(sort) = grammar::children(list[at].kind)[0] else {
+        return;
+    };
     let fitting = |&number: &usize| grammar::sort(list[number - 1].kind) == Some(sort);
     let others: Vec<usize> = (1..=at).filter(fitting).collect();
     if !others.is_empty() {
@@ -136,7 +150,11 @@ fn damage_variable(list: &mut [Record], random: &mut Random) {
         return;
     }
     let from = list[random.pick(&places)].mark;
-    let mark = if random.chance(50) { from } else { random.below(64) as u8 };
+    let mark = if random.chance(50) {
+        from
+    } else {
+        random.below(64) as u8
+    };
     list[random.pick(&places)].mark = mark;
 }
 
@@ -144,7 +162,9 @@ fn damage_variable(list: &mut [Record], random: &mut Random) {
 pub fn perturbed(list: &mut [Record], random: &mut Random) {
     for _ in 0..random.range(1, 5) {
         let at = random.index(list.len());
-        let Some(record) = list.get_mut(at) else { return };
+        let Some(record) = list.get_mut(at) else {
+            return;
+        };
         match record.kind {
             1 => record.literal = random.range(-2, 3),
             4 => record.mark = random.range(1, 7) as u8,

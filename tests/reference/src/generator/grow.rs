@@ -10,7 +10,10 @@ pub enum Holds {
     Nothing,
     Integer,
     /// A pointer to a block made by a 42, and whether its first cell is stored.
-    Block { length: i64, filled: bool },
+    Block {
+        length: i64,
+        filled: bool,
+    },
     Inputs,
     Variable(u8),
     Freed,
@@ -20,7 +23,10 @@ pub enum Holds {
 
 impl Holds {
     pub fn is_live_pointer(self) -> bool {
-        matches!(self, Holds::Block { .. } | Holds::Inputs | Holds::Variable(_))
+        matches!(
+            self,
+            Holds::Block { .. } | Holds::Inputs | Holds::Variable(_)
+        )
     }
 
     pub fn is_block(self) -> bool {
@@ -133,7 +139,9 @@ impl<'random> Grower<'random> {
 
     fn number(&mut self) -> u16 {
         let literal = match self.random.below(24) {
-            0 => self.random.pick(&[i64::MIN, i64::MAX, i64::MIN + 1, i64::MAX - 1]),
+            0 => self
+                .random
+                .pick(&[i64::MIN, i64::MAX, i64::MIN + 1, i64::MAX - 1]),
             1 => self.random.next() as i64,
             2 | 3 => 0,
             _ => self.random.range(-4, 12),
@@ -146,7 +154,10 @@ impl<'random> Grower<'random> {
         if self.random.chance(self.wild) {
             return self.any_expression(depth);
         }
-        match self.random.below(if depth == 0 || self.full() { 6 } else { 9 }) {
+        match self
+            .random
+            .below(if depth == 0 || self.full() { 6 } else { 9 })
+        {
             0 | 1 => {
                 let variable = self.variable_that(|_| true).unwrap_or(0);
                 self.builder.address_of_variable(variable)
@@ -178,7 +189,9 @@ impl<'random> Grower<'random> {
 
     /// An expression that asks nothing of what is held.
     pub fn any_expression(&mut self, depth: u32) -> u16 {
-        let choice = self.random.below(if depth == 0 || self.full() { 3 } else { 7 });
+        let choice = self
+            .random
+            .below(if depth == 0 || self.full() { 3 } else { 7 });
         match choice {
             0 => self.number(),
             1 => {

@@ -13,7 +13,9 @@ impl Generator {
             2 => self.random.range(1, INPUTS as i64) as usize,
             _ => self.random.range(1, 6) as usize,
         };
-        (0..count).flat_map(|_| self.input().to_le_bytes()).collect()
+        (0..count)
+            .flat_map(|_| self.input().to_le_bytes())
+            .collect()
     }
 
     fn input(&mut self) -> i64 {

@@ -36,7 +36,9 @@ pub struct Generator {
 
 impl Generator {
     pub fn new(seed: u64) -> Generator {
-        Generator { random: Random::new(seed) }
+        Generator {
+            random: Random::new(seed),
+        }
     }
 
     /// An accepted source table, half of them child-first and half in another valid order.
@@ -142,21 +144,33 @@ impl Generator {
     /// A case for checker, translator or plain run; one in six is refused for some reason.
     pub fn source_case(&mut self) -> Case {
         let damaged = self.random.chance(8);
-        let table = if damaged { self.damaged_source() } else { self.accepted_source() };
+        let table = if damaged {
+            self.damaged_source()
+        } else {
+            self.accepted_source()
+        };
         self.case(table)
     }
 
     /// A case for checker or watched run; one in six is refused for some reason.
     pub fn target_case(&mut self) -> Case {
         let damaged = self.random.chance(8);
-        let table = if damaged { self.damaged_target() } else { self.target() };
+        let table = if damaged {
+            self.damaged_target()
+        } else {
+            self.target()
+        };
         self.case(table)
     }
 
     fn case(&mut self, table: Vec<u8>) -> Case {
         let [bad_inputs, bad_memory, bad_observation] = [3, 3, 3].map(|p| self.random.chance(p));
         Case {
-            inputs: if bad_inputs { self.bad_inputs() } else { self.inputs() },
+            inputs: if bad_inputs {
+                self.bad_inputs()
+            } else {
+                self.inputs()
+            },
             fuel: self.fuel_for(&table),
             memory: match bad_memory {
                 true => self.wrong_length(EXECUTION_BYTES),
@@ -183,7 +197,17 @@ fn pad(list: &mut Vec<Record>, size: usize) {
     let literal = list.last().map_or(0, |last| last.literal);
     while list.len() + 2 <= size {
         let root = list.len() as u16;
-        list.push(Record { kind: 40, literal, ..Record::default() });
-        list.push(Record { kind: 44, a: root, b: root + 1, literal, ..Record::default() });
+        list.push(Record {
+            kind: 40,
+            literal,
+            ..Record::default()
+        });
+        list.push(Record {
+            kind: 44,
+            a: root,
+            b: root + 1,
+            literal,
+            ..Record::default()
+        });
     }
 }

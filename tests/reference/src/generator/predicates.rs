@@ -37,11 +37,13 @@ impl Grower<'_> {
         }
         if let Some(freed) = self.variable_that(|holds| holds == Holds::Freed) {
             if self.random.chance(20) {
-                let expression = self.builder.read_variable(freed);
-                return self.builder.term(expression);
+                return self.builder.variable_term(freed);
             }
         }
-        match self.random.below(if depth == 0 || self.full() { 3 } else { 5 }) {
+        match self
+            .random
+            .below(if depth == 0 || self.full() { 3 } else { 5 })
+        {
             0..=2 => {
                 let expression = self.pointer(depth);
                 self.builder.term(expression)
@@ -59,7 +61,9 @@ impl Grower<'_> {
     }
 
     pub fn predicate(&mut self, depth: u32) -> u16 {
-        let choice = self.random.below(if depth == 0 || self.full() { 5 } else { 9 });
+        let choice = self
+            .random
+            .below(if depth == 0 || self.full() { 5 } else { 9 });
         match choice {
             0 | 1 => self.likely_predicate(),
             2 => {
@@ -106,27 +110,22 @@ impl Grower<'_> {
         match (self.random.below(5), self.holds(variable)) {
             (0, _) => self.builder.compare_literals(6, -1, 1),
             (1, Holds::Block { length, .. }) => {
-                let expression = self.builder.read_variable(variable);
-                let pointer = self.builder.term(expression);
+                let pointer = self.builder.variable_term(variable);
                 let measured = self.builder.length(pointer);
-                let length = self.builder.literal(length);
-                let length = self.builder.term(length);
+                let length = self.builder.literal_term(length);
                 self.builder.compare(7, measured, length)
             }
             (2, holds) if holds.is_readable() => {
-                let expression = self.builder.read_variable(variable);
-                let pointer = self.builder.term(expression);
+                let pointer = self.builder.variable_term(variable);
                 self.builder.initialised(pointer)
             }
             (3, _) => {
-                let expression = self.builder.address_of_variable(variable);
-                let pointer = self.builder.term(expression);
+                let pointer = self.builder.address_term(variable);
                 self.builder.initialised(pointer)
             }
             _ => {
                 let any = self.variable_that(|_| true).unwrap_or(0);
-                let expression = self.builder.address_of_variable(any);
-                let pointer = self.builder.term(expression);
+                let pointer = self.builder.address_term(any);
                 self.builder.valid(pointer)
             }
         }
@@ -137,8 +136,7 @@ impl Grower<'_> {
         let Some(variable) = self.variable_that(|holds| holds == Holds::Freed) else {
             return self.likely_predicate();
         };
-        let expression = self.builder.read_variable(variable);
-        let pointer = self.builder.term(expression);
+        let pointer = self.builder.variable_term(variable);
         match self.random.below(4) {
             0 => {
                 let valid = self.builder.valid(pointer);

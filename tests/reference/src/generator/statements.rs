@@ -48,7 +48,9 @@ impl Grower<'_> {
 
     fn take_integer(&mut self) -> u16 {
         let some = self.variable_that(|holds| matches!(holds, Holds::Nothing | Holds::Integer));
-        let Some(variable) = some else { return self.builder.skip() };
+        let Some(variable) = some else {
+            return self.builder.skip();
+        };
         let place = self.builder.variable(variable);
         let expression = self.integer(3);
         self.set_holds(variable, Holds::Integer);
@@ -56,7 +58,9 @@ impl Grower<'_> {
     }
 
     fn take_pointer(&mut self) -> u16 {
-        let variable = self.variable_that(|holds| holds != Holds::Count).unwrap_or(0);
+        let variable = self
+            .variable_that(|holds| holds != Holds::Count)
+            .unwrap_or(0);
         let place = self.builder.variable(variable);
         let aim = self.variable_that(|_| true).unwrap_or(0);
         let (expression, holds) = match self.variable_that(Holds::is_live_pointer) {
@@ -83,7 +87,13 @@ impl Grower<'_> {
         let place = self.builder.pointed(pointer);
         let expression = self.integer(2);
         if let Holds::Block { length, .. } = self.holds(variable) {
-            self.set_holds(variable, Holds::Block { length, filled: true });
+            self.set_holds(
+                variable,
+                Holds::Block {
+                    length,
+                    filled: true,
+                },
+            );
         }
         self.builder.take(place, expression)
     }
@@ -108,7 +118,13 @@ impl Grower<'_> {
         } else {
             self.builder.literal(length)
         };
-        self.set_holds(variable, Holds::Block { length, filled: false });
+        self.set_holds(
+            variable,
+            Holds::Block {
+                length,
+                filled: false,
+            },
+        );
         self.builder.take_new(place, size)
     }
 
@@ -170,7 +186,9 @@ impl Grower<'_> {
 
     /// let i in (i = count; while 1 at most i do (body; i = i - 1)).
     fn counted_loop(&mut self, depth: u32) -> u16 {
-        let Some(counter) = self.fresh_variable() else { return self.builder.skip() };
+        let Some(counter) = self.fresh_variable() else {
+            return self.builder.skip();
+        };
         self.scope.push((counter, Holds::Count));
         let place = self.builder.variable(counter);
         let literal = self.random.pick(&[1, 2, 2, 3, 5, 300]);
@@ -180,11 +198,7 @@ impl Grower<'_> {
         let value = self.builder.read_variable(counter);
         let condition = self.builder.operator(6, one, value);
         let body = self.statements(depth - 1);
-        let place = self.builder.variable(counter);
-        let value = self.builder.read_variable(counter);
-        let one = self.builder.literal(1);
-        let less = self.builder.operator(2, value, one);
-        let step = self.builder.take(place, less);
+        let step = self.builder.decrease(counter);
         self.scope.pop();
         let both = self.builder.then(body, step);
         let turns = self.builder.while_do(condition, both);
@@ -199,7 +213,9 @@ impl Grower<'_> {
     }
 
     pub fn let_block(&mut self, depth: u32) -> u16 {
-        let Some(variable) = self.fresh_variable() else { return self.builder.skip() };
+        let Some(variable) = self.fresh_variable() else {
+            return self.builder.skip();
+        };
         self.scope.push((variable, Holds::Nothing));
         let mut parts = Vec::new();
         if self.in_target && self.random.chance(70) {

@@ -21,7 +21,9 @@ impl Grower<'_> {
     }
 
     fn is_filled(&self, temporary: u8, wanted: impl Fn(Holds) -> bool) -> bool {
-        self.temporaries.get(usize::from(temporary)).is_some_and(|&holds| wanted(holds))
+        self.temporaries
+            .get(usize::from(temporary))
+            .is_some_and(|&holds| wanted(holds))
     }
 
     /// 61 with an integer.
@@ -105,7 +107,14 @@ impl Grower<'_> {
         } else {
             parts.extend(self.need_integer(mark + 2));
         }
-        self.fill(mark, if operator == 8 { Holds::Inputs } else { Holds::Integer });
+        self.fill(
+            mark,
+            if operator == 8 {
+                Holds::Inputs
+            } else {
+                Holds::Integer
+            },
+        );
         parts.push(self.builder.add(63, mark, [0, 0, operator]));
     }
 
@@ -113,7 +122,14 @@ impl Grower<'_> {
         let mark = self.temporary(2);
         let query = self.random.range(1, 5) as u16;
         parts.extend(self.need_pointer(mark + 1));
-        self.fill(mark, if query == 3 { Holds::Inputs } else { Holds::Integer });
+        self.fill(
+            mark,
+            if query == 3 {
+                Holds::Inputs
+            } else {
+                Holds::Integer
+            },
+        );
         parts.push(self.builder.add(64, mark, [0, 0, query]));
     }
 
@@ -156,7 +172,11 @@ impl Grower<'_> {
     pub fn record_let(&mut self, variable: u8) -> u16 {
         let place = self.builder.variable(variable);
         let saved = self.builder.add(60, 0, [place, 0, 0]);
-        let length = if self.random.chance(90) { 1 } else { self.random.range(-1, 1100) };
+        let length = if self.random.chance(90) {
+            1
+        } else {
+            self.random.range(-1, 1100)
+        };
         let length = self.builder.literal(length);
         let sized = self.builder.add(61, 1, [length, 0, 0]);
         let stored = self.builder.add(68, 0, [0; 3]);

@@ -20,7 +20,13 @@ const TO_62: &[(u8, u8)] = &[(0, 62)];
 const TO_63: &[(u8, u8)] = &[(0, 63)];
 
 const fn form(kind: u8, sort: char, children: [char; 3], marks: &'static [(u8, u8)]) -> Form {
-    Form { kind, sort, children, marks, c_values: &[] }
+    Form {
+        kind,
+        sort,
+        children,
+        marks,
+        c_values: &[],
+    }
 }
 
 const BOTH: [Form; 15] = [
@@ -63,8 +69,14 @@ const TARGET_ONLY: [Form; 11] = [
     form(12, 'p', ['.', '.', '.'], TO_63),
     form(60, 's', ['p', '.', '.'], TO_63),
     form(61, 's', ['e', '.', '.'], TO_63),
-    Form { c_values: OPERATORS, ..form(63, 's', ['.', '.', '.'], TO_61) },
-    Form { c_values: QUERIES, ..form(64, 's', ['.', '.', '.'], TO_62) },
+    Form {
+        c_values: OPERATORS,
+        ..form(63, 's', ['.', '.', '.'], TO_61)
+    },
+    Form {
+        c_values: QUERIES,
+        ..form(64, 's', ['.', '.', '.'], TO_62)
+    },
     form(65, 's', ['.', '.', '.'], TO_62),
     form(66, 's', ['.', 's', 's'], TO_63),
     form(67, 's', ['.', '.', '.'], TO_63),
@@ -96,7 +108,11 @@ impl Around {
 
     /// The same with children of the sorts given.
     pub fn with_sorts(form: Form, sorts: [char; 3], label: i64) -> Around {
-        let mut around = Around { records: Vec::new(), number: 0, label };
+        let mut around = Around {
+            records: Vec::new(),
+            number: 0,
+            label,
+        };
         let [a, b, c] = sorts.map(|sort| around.leaf(sort));
         let c = form.c_values.first().copied().unwrap_or(c);
         // A let of variable 0 would be refused as 7, so the let takes variable 1.
@@ -117,7 +133,14 @@ impl Around {
 
     fn add(&mut self, kind: u8, mark: u8, [a, b, c]: [u16; 3]) -> u16 {
         let literal = if kind >= 40 { self.label } else { 0 };
-        self.records.push(Record { kind, mark, a, b, c, literal });
+        self.records.push(Record {
+            kind,
+            mark,
+            a,
+            b,
+            c,
+            literal,
+        });
         self.records.len() as u16
     }
 
@@ -179,7 +202,10 @@ impl Rules {
 
     pub fn every_other_kind_is_3(&self) {
         for kind in 0..=255_u8 {
-            let record = Record { kind, ..Record::default() };
+            let record = Record {
+                kind,
+                ..Record::default()
+            };
             let answer = (self.check)(&record.bytes());
             let known = self.forms.iter().any(|form| form.kind == kind);
             assert_eq!(answer.number == 3, !known, "kind {kind}");
@@ -192,13 +218,21 @@ impl Rules {
             for mark in 0..=255_u8 {
                 let mut around = Around::new(form, self.label);
                 around.record().mark = mark;
-                let allowed = form.marks.iter().any(|&(low, high)| low <= mark && mark <= high);
+                let allowed = form
+                    .marks
+                    .iter()
+                    .any(|&(low, high)| low <= mark && mark <= high);
                 let expected = match (allowed, form.kind, mark) {
                     (false, _, _) => (4, around.number),
                     (true, 10, 1..) | (true, 47, 0) => (7, around.number),
                     _ => (0, 0),
                 };
-                assert_eq!(self.end(&around), expected, "kind {} mark {mark}", form.kind);
+                assert_eq!(
+                    self.end(&around),
+                    expected,
+                    "kind {} mark {mark}",
+                    form.kind
+                );
             }
         }
     }
@@ -226,7 +260,12 @@ impl Rules {
                     children[at] = sort;
                     let around = Around::with_sorts(form, children, self.label);
                     let expected = (5, around.number);
-                    assert_eq!(self.end(&around), expected, "kind {} with {sort}", form.kind);
+                    assert_eq!(
+                        self.end(&around),
+                        expected,
+                        "kind {} with {sort}",
+                        form.kind
+                    );
                 }
             }
         }

@@ -7,7 +7,11 @@ use reference::record::{table, Record};
 use reference::Answer;
 
 fn rules() -> Rules {
-    Rules { forms: source_forms(), label: 0, check: check_source }
+    Rules {
+        forms: source_forms(),
+        label: 0,
+        check: check_source,
+    }
 }
 
 fn end(bytes: &[u8]) -> (u32, u32) {
@@ -17,7 +21,14 @@ fn end(bytes: &[u8]) -> (u32, u32) {
 }
 
 fn record(kind: u8, mark: u8, [a, b, c]: [u16; 3], literal: i64) -> Record {
-    Record { kind, mark, a, b, c, literal }
+    Record {
+        kind,
+        mark,
+        a,
+        b,
+        c,
+        literal,
+    }
 }
 
 /// A program of `count` skips and their 44s, inside a let where the count is even.
@@ -78,7 +89,11 @@ fn a_literal_belongs_to_kind_1_alone() {
         for literal in [1, -1, 256, 1 << 32, i64::MIN] {
             let mut around = Around::new(form, 0);
             around.record().literal = literal;
-            let expected = if form.kind == 1 { (0, 0) } else { (4, around.number as u32) };
+            let expected = if form.kind == 1 {
+                (0, 0)
+            } else {
+                (4, around.number as u32)
+            };
             assert_eq!(end(&around.table()), expected, "kind {}", form.kind);
         }
     }
@@ -117,7 +132,13 @@ fn the_shape_names_the_lowest_record_that_is_not_a_child_exactly_once() {
     assert_eq!(end(&table(&[skip, record(44, 0, [1, 1, 0], 0)])), (6, 1));
     assert_eq!(end(&table(&[variable, record(2, 0, [1, 0, 0], 0)])), (6, 2));
     assert_eq!(end(&table(&[skip, literal])), (6, 1));
-    let twice = [skip, skip, skip, record(44, 0, [1, 3, 0], 0), record(44, 0, [4, 3, 0], 0)];
+    let twice = [
+        skip,
+        skip,
+        skip,
+        record(44, 0, [1, 3, 0], 0),
+        record(44, 0, [4, 3, 0], 0),
+    ];
     assert_eq!(end(&table(&twice)), (6, 2));
 }
 
@@ -182,8 +203,7 @@ fn scope_names_the_lowest_offender_in_the_table() {
 /// An assertion whose single 20 stands at `level`: that many nots less one around a 30.
 fn with_term_at(level: usize) -> Builder {
     let mut b = Builder::source();
-    let literal = b.literal(0);
-    let term = b.term(literal);
+    let term = b.literal_term(0);
     let mut predicate = b.valid(term);
     for _ in 1..level {
         predicate = b.not(predicate);

@@ -7,7 +7,11 @@ use reference::record::{table, Record};
 use reference::Answer;
 
 fn rules() -> Rules {
-    Rules { forms: target_forms(), label: 1, check: check_target }
+    Rules {
+        forms: target_forms(),
+        label: 1,
+        check: check_target,
+    }
 }
 
 fn end(bytes: &[u8]) -> (u32, u32) {
@@ -17,7 +21,14 @@ fn end(bytes: &[u8]) -> (u32, u32) {
 }
 
 fn statement(kind: u8, [a, b, c]: [u16; 3]) -> Record {
-    Record { kind, mark: 0, a, b, c, literal: 1 }
+    Record {
+        kind,
+        mark: 0,
+        a,
+        b,
+        c,
+        literal: 1,
+    }
 }
 
 fn of_length(count: usize) -> Vec<u8> {
@@ -68,14 +79,32 @@ fn every_mark_outside_its_range_is_4() {
 
 #[test]
 fn naming_a_temporary_above_63_is_4() {
-    let last_marks = [(12, 63), (60, 63), (61, 63), (63, 61), (64, 62), (65, 62), (66, 63)];
-    for (kind, last) in last_marks.into_iter().chain([(67, 63), (68, 62), (69, 63), (70, 63)]) {
-        let form = target_forms().into_iter().find(|form| form.kind == kind).unwrap();
+    let last_marks = [
+        (12, 63),
+        (60, 63),
+        (61, 63),
+        (63, 61),
+        (64, 62),
+        (65, 62),
+        (66, 63),
+    ];
+    for (kind, last) in last_marks
+        .into_iter()
+        .chain([(67, 63), (68, 62), (69, 63), (70, 63)])
+    {
+        let form = target_forms()
+            .into_iter()
+            .find(|form| form.kind == kind)
+            .unwrap();
         let mut around = Around::new(form, 1);
         around.record().mark = last;
         assert_eq!(end(&around.table()), (0, 0), "kind {kind}");
         around.record().mark = last + 1;
-        assert_eq!(end(&around.table()), (4, around.number as u32), "kind {kind}");
+        assert_eq!(
+            end(&around.table()),
+            (4, around.number as u32),
+            "kind {kind}"
+        );
     }
 }
 
@@ -86,12 +115,19 @@ fn a_missing_child_and_a_child_too_many_are_4() {
 
 #[test]
 fn operators_are_1_to_8_and_queries_1_to_5() {
-    for form in target_forms().into_iter().filter(|form| !form.c_values.is_empty()) {
+    for form in target_forms()
+        .into_iter()
+        .filter(|form| !form.c_values.is_empty())
+    {
         for c in (0..20).chain([255, 256, 257, u16::MAX]) {
             let mut around = Around::new(form, 1);
             around.record().c = c;
             let allowed = form.c_values.contains(&c);
-            assert_eq!(end(&around.table()).0, if allowed { 0 } else { 4 }, "field C {c}");
+            assert_eq!(
+                end(&around.table()).0,
+                if allowed { 0 } else { 4 },
+                "field C {c}"
+            );
         }
     }
 }
@@ -99,7 +135,18 @@ fn operators_are_1_to_8_and_queries_1_to_5() {
 #[test]
 fn literals_from_kind_40_on_are_1_to_256() {
     for form in target_forms() {
-        for literal in [i64::MIN, -1, 0, 1, 2, 255, 256, 257, (1 << 32) + 1, i64::MAX] {
+        for literal in [
+            i64::MIN,
+            -1,
+            0,
+            1,
+            2,
+            255,
+            256,
+            257,
+            (1 << 32) + 1,
+            i64::MAX,
+        ] {
             let mut around = Around::new(form, 1);
             around.record().literal = literal;
             let allowed = match form.kind {
@@ -107,8 +154,17 @@ fn literals_from_kind_40_on_are_1_to_256() {
                 40.. => (1..=256).contains(&literal),
                 _ => literal == 0,
             };
-            let expected = if allowed { (0, 0) } else { (4, around.number as u32) };
-            assert_eq!(end(&around.table()), expected, "kind {} {literal}", form.kind);
+            let expected = if allowed {
+                (0, 0)
+            } else {
+                (4, around.number as u32)
+            };
+            assert_eq!(
+                end(&around.table()),
+                expected,
+                "kind {} {literal}",
+                form.kind
+            );
         }
     }
 }
@@ -129,7 +185,10 @@ fn field_c_of_63_and_64_is_no_child_and_does_not_count_in_the_shape() {
         let skip = statement(40, [0; 3]);
         let naming = statement(kind, [0, 0, 1]);
         assert_eq!(end(&table(&[skip, naming])), (6, 1));
-        assert_eq!(end(&table(&[skip, naming, statement(44, [1, 2, 0])])), (0, 0));
+        assert_eq!(
+            end(&table(&[skip, naming, statement(44, [1, 2, 0])])),
+            (0, 0)
+        );
         // The number in C may even be the record's own, or above it.
         let above = statement(kind, [0, 0, 5]);
         assert_eq!(end(&table(&[above])), (0, 0));
@@ -139,11 +198,17 @@ fn field_c_of_63_and_64_is_no_child_and_does_not_count_in_the_shape() {
 #[test]
 fn the_shape_names_the_lowest_record() {
     let skip = statement(40, [0; 3]);
-    let literal = Record { kind: 1, ..Record::default() };
+    let literal = Record {
+        kind: 1,
+        ..Record::default()
+    };
     assert_eq!(end(&table(&[literal])), (6, 1));
     assert_eq!(end(&table(&[skip, literal])), (6, 1));
     assert_eq!(end(&table(&[skip, statement(66, [0, 1, 1])])), (6, 1));
-    assert_eq!(end(&table(&[skip, skip, skip, statement(66, [0, 2, 3])])), (6, 1));
+    assert_eq!(
+        end(&table(&[skip, skip, skip, statement(66, [0, 2, 3])])),
+        (6, 1)
+    );
 }
 
 #[test]
@@ -176,6 +241,10 @@ fn the_branches_of_a_66_are_in_the_scope_around_it() {
 fn a_target_is_no_source_and_a_source_no_target() {
     let target = statement(40, [0; 3]).bytes();
     assert_eq!((end(&target), check_source(&target).number), ((0, 0), 4));
-    let source = Record { kind: 40, ..Record::default() }.bytes();
+    let source = Record {
+        kind: 40,
+        ..Record::default()
+    }
+    .bytes();
     assert_eq!((end(&source), check_source(&source).number), ((4, 1), 0));
 }
