@@ -45,8 +45,9 @@ pub record Translated : Type 0 where
 abbrev pub translatedInto : List ℕ → List ℕ → Translated
 translatedInto bytes out =
     elim (ltb (length out) (length bytes)) [
-    true ↦ record { answer = answer 20 0 0 0; out = out }
-    | false ↦ record { answer = answer 0 (recordCount bytes) 0 0; out = put out 0 bytes } ]
+      | true ↦ record { answer = answer 20 0 0 0; out = out }
+      | false ↦ record { answer = answer 0 (recordCount bytes) 0 0; out = put out 0 bytes }
+    ]
 
 abbrev pub translatedBy : Checked → List ℕ → List ℕ → Translated
 translatedBy checked.Accepted t out = translatedInto (translation t) out
@@ -90,8 +91,11 @@ plainEnded o = record { answer = endingOf o; memory = memoryImage (memoryAfter o
 abbrev pub plainBy : Checked → List ℕ → List ℕ → ℕ → List ℕ → PlainRun
 plainBy (checked.Refused k n) t i f memory = plainRefused k n memory
 plainBy checked.Accepted t i f memory =
-    elim (inputsFault i) [ true ↦ plainRefused 9 0 memory | false ↦
-    elim (memoryFault memory) [ true ↦ plainRefused 21 0 memory | false ↦ plainEnded (plainOutcome t i f) ] ]
+    elim (inputsFault i) [
+      | true ↦ plainRefused 9 0 memory
+      | false ↦
+          elim (memoryFault memory) [ true ↦ plainRefused 21 0 memory | false ↦ plainEnded (plainOutcome t i f) ]
+    ]
 
 abbrev pub runPlain : List ℕ → List ℕ → ℕ → List ℕ → PlainRun
 runPlain t i f memory = plainBy (check source t) t i f memory
@@ -125,15 +129,25 @@ abbrev pub watchedEnded : WatchedOutcome → WatchedRun
 watchedEnded w = record {
   answer = watchedEndingOf w;
   memory = memoryImage (watchedMemoryAfter w);
-  observation = observationImage (observationAfter w) }
+  observation = observationImage (observationAfter w);
+}
 
 abbrev pub watchedBy : Checked → List ℕ → List ℕ → ℕ → List ℕ → List ℕ → WatchedRun
 watchedBy (checked.Refused k n) t i f memory observation = watchedRefused k n memory observation
 watchedBy checked.Accepted t i f memory observation =
-    elim (inputsFault i) [ true ↦ watchedRefused 9 0 memory observation | false ↦
-    elim (memoryFault memory) [ true ↦ watchedRefused 21 0 memory observation | false ↦
-    elim (observationFault observation) [ true ↦ watchedRefused 22 0 memory observation | false ↦
-    watchedEnded (watchedOutcome t i f) ] ] ]
+    elim (inputsFault i) [
+      | true ↦ watchedRefused 9 0 memory observation
+      | false ↦
+          elim (memoryFault memory) [
+            | true ↦ watchedRefused 21 0 memory observation
+            | false ↦
+                elim (observationFault observation) [
+                  | true ↦ watchedRefused 22 0 memory observation
+                  | false ↦
+                      watchedEnded (watchedOutcome t i f)
+                ]
+          ]
+    ]
 
 abbrev pub runWatched : List ℕ → List ℕ → ℕ → List ℕ → List ℕ → WatchedRun
 runWatched t i f memory observation = watchedBy (check target t) t i f memory observation

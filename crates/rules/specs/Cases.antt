@@ -105,7 +105,7 @@ unfoldable pub worked : List (List ℤ)
 worked =
     map pos (listing (tableBytes p1))
     ∷ (by nearest (pos 7) (pos 2) ∷ by nearest (negsuc 6) (pos 2) ∷ by nearest (pos 5) (pos 2)
-      ∷ by nearest (pos 1) (pos 3) ∷ [])
+    ∷ by nearest (pos 1) (pos 3) ∷ [])
     ∷ (by divide (negsuc 6) (pos 2) ∷ [])
     ∷ (by divide (negsuc (2 ^ 63 - 1)) (negsuc 0) ∷ by divide (negsuc (2 ^ 63 - 1)) (pos 0) ∷ [])
     ∷ map pos (endings (p5 (pos 0)) ++ endings (p5 (pos 1)) ++ endings (p5 (negsuc 0)) ++ endings (p5 (pos 2)))
@@ -138,7 +138,7 @@ onPaper =
     ∷ map pos (0 ∷ 0 ∷ [])
     ∷ map pos (0 ∷ 30 ∷ 45 ∷ [])
     ∷ map pos
-      ((0 ∷ 0 ∷ []) ++ (2 ∷ 0 ∷ 4 ∷ 0 ∷ 6 ∷ 0 ∷ 0 ∷ 0 ∷ [])
-      ++ (3 ∷ 0 ∷ 0 ∷ 0 ∷ 0 ∷ 0 ∷ 0 ∷ 0 ∷ []) ++ (2 ∷ 0 ∷ 4 ∷ 0 ∷ 6 ∷ 0 ∷ 0 ∷ 0 ∷ []))
+    ((0 ∷ 0 ∷ []) ++ (2 ∷ 0 ∷ 4 ∷ 0 ∷ 6 ∷ 0 ∷ 0 ∷ 0 ∷ [])
+    ++ (3 ∷ 0 ∷ 0 ∷ 0 ∷ 0 ∷ 0 ∷ 0 ∷ 0 ∷ []) ++ (2 ∷ 0 ∷ 4 ∷ 0 ∷ 6 ∷ 0 ∷ 0 ∷ 0 ∷ []))
     ∷ map pos (33 ∷ 33 ∷ [])
     ∷ []

@@ -93,8 +93,9 @@ timesChild l t (suc k) n = timesChild l t k n + timesChildOf l t (suc k) n
 unfoldable pub shapeFault : Language → List ℕ → ℕ → Bool
 shapeFault l t n =
     elim (eqb n (recordCount t)) [
-    true ↦ not (eqb (sortOf l (kindOf t n)) (sortNumber statement))
-    | false ↦ not (eqb (timesChild l t (recordCount t) n) 1) ]
+      | true ↦ not (eqb (sortOf l (kindOf t n)) (sortNumber statement))
+      | false ↦ not (eqb (timesChild l t (recordCount t) n) 1)
+    ]
 
 -- the record that has n for a child
 unfoldable pub parentOf : Language → List ℕ → ℕ → Search
@@ -108,9 +109,15 @@ isLetOf t m x = eqb (kindOf t m) 47 && eqb (markOf t m) x
 unfoldable pub inScope : Language → List ℕ → ℕ → ℕ → ℕ → Bool
 inScope l t zero x n = eqb x 0
 inScope l t (suc d) x n =
-    elim (eqb x 0) [ true ↦ true | false ↦
-    elim (parentOf l t n) [ search.Nothing ↦ false | search.At m ↦
-    elim (isLetOf t m x) [ true ↦ true | false ↦ inScope l t d x m ] ] ]
+    elim (eqb x 0) [
+      | true ↦ true
+      | false ↦
+          elim (parentOf l t n) [
+            | search.Nothing ↦ false
+            | search.At m ↦
+                elim (isLetOf t m x) [ true ↦ true | false ↦ inScope l t d x m ]
+          ]
+    ]
 
 abbrev pub markInScope : Language → List ℕ → ℕ → Bool
 markInScope l t n = inScope l t (recordCount t) (markOf t n) n
@@ -118,8 +125,11 @@ markInScope l t n = inScope l t (recordCount t) (markOf t n) n
 -- "7 variable used out of scope, or let while in scope"
 unfoldable pub scopeFault : Language → List ℕ → ℕ → Bool
 scopeFault l t n =
-    elim (eqb (kindOf t n) 10) [ true ↦ not (markInScope l t n) | false ↦
-    elim (eqb (kindOf t n) 47) [ true ↦ markInScope l t n | false ↦ false ] ]
+    elim (eqb (kindOf t n) 10) [
+      | true ↦ not (markInScope l t n)
+      | false ↦
+          elim (eqb (kindOf t n) 47) [ true ↦ markInScope l t n | false ↦ false ]
+    ]
 
 -- the level of a child, A or B, of a term or predicate of kind k at level n
 abbrev pub isUnary : ℕ → Bool
@@ -140,8 +150,9 @@ unfoldable pub levelOf : List ℕ → ℕ → ℕ → ℕ
 levelOf t zero n = 0
 levelOf t (suc d) n =
     elim (parentOf source t n) [
-    search.At m ↦ levelBelow (kindOf t m) (eqb (childB t m) n) (levelOf t d m)
-    | search.Nothing ↦ 0 ]
+      | search.At m ↦ levelBelow (kindOf t m) (eqb (childB t m) n) (levelOf t d m)
+      | search.Nothing ↦ 0
+    ]
 
 -- the highest temporary that a term's or predicate's own target records name at level n: tn of 61 and 66,
 -- t(n+1) of 64 and 65, t(n+2) of 63
@@ -155,8 +166,9 @@ isTermOrPredicate k = leb 20 k && leb k 35
 unfoldable pub levelFault : List ℕ → ℕ → Bool
 levelFault t n =
     elim (isTermOrPredicate (kindOf t n)) [
-    true ↦ leb temporaryCount (highestNamed (kindOf t n) (levelOf t (recordCount t) n))
-    | false ↦ false ]
+      | true ↦ leb temporaryCount (highestNamed (kindOf t n) (levelOf t (recordCount t) n))
+      | false ↦ false
+    ]
 
 abbrev pub refuseAt : ℕ → Search → Checked
 refuseAt rule (search.At n) = checked.Refused rule n
@@ -169,13 +181,27 @@ lastRule target t = checked.Accepted
 -- "Checked in this order; .. 3–5 are tried record by record."
 unfoldable pub check : Language → List ℕ → Checked
 check l t =
-    elim (lengthFault t) [ true ↦ checked.Refused 1 0 | false ↦
-    elim (countFault l t) [ true ↦ checked.Refused 2 0 | false ↦
-    elim (lowestRecord t (λ n. ltb 0 (recordFault l t n))) [
-      search.At n ↦ checked.Refused (recordFault l t n) n | search.Nothing ↦
-    elim (lowestRecord t (shapeFault l t)) [ search.At n ↦ checked.Refused 6 n | search.Nothing ↦
-    elim (lowestRecord t (scopeFault l t)) [ search.At n ↦ checked.Refused 7 n | search.Nothing ↦
-    lastRule l t ] ] ] ] ]
+    elim (lengthFault t) [
+      | true ↦ checked.Refused 1 0
+      | false ↦
+          elim (countFault l t) [
+            | true ↦ checked.Refused 2 0
+            | false ↦
+                elim (lowestRecord t (λ n. ltb 0 (recordFault l t n))) [
+                  | search.At n ↦ checked.Refused (recordFault l t n) n
+                  | search.Nothing ↦
+                      elim (lowestRecord t (shapeFault l t)) [
+                        | search.At n ↦ checked.Refused 6 n
+                        | search.Nothing ↦
+                            elim (lowestRecord t (scopeFault l t)) [
+                              | search.At n ↦ checked.Refused 7 n
+                              | search.Nothing ↦
+                                  lastRule l t
+                            ]
+                      ]
+                ]
+          ]
+    ]
 
 -- "9 inputs no multiple of 8 bytes, none, or over 256"
 abbrev pub inputsFault : List ℕ → Bool

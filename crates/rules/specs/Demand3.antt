@@ -39,7 +39,7 @@ pub record Agreement (t i : List ℕ) (f : ℕ) (p : PlainRun) (w : WatchedRun) 
   pub first-false : p ≡ plainEnded (atFirstFalse (pastOutcome t i f))
   -- "after a finish or such a stop the observation memory names exactly the live blocks, lengths and initialised cells"
   pub exact :
-    (p .answer .number ≡ 0) ⊎ (p .answer .number ≡ 33) → w .observation ≡ observationImage (mirror (memoryOf (p .memory)))
+      (p .answer .number ≡ 0) ⊎ (p .answer .number ≡ 33) → w .observation ≡ observationImage (mirror (memoryOf (p .memory)))
   -- "From translated programs 48 and 49 never come."
   pub never-48 : w .answer .number ≢ 48
   pub never-49 : w .answer .number ≢ 49

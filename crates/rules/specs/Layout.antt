@@ -86,7 +86,7 @@ cellFrom (suc (suc (suc k))) o n z = cell.Holds o (value.Pointer (record { name 
 unfoldable pub cellAt : List ℕ → ℕ → Cell
 cellAt l i =
     cellFrom (getD l (cellPlace i) 0) (getD l (cellPlace i + 1) 0) (getD l (cellPlace i + 2) 0)
-      (integerAt l (cellPlace i + 8))
+    (integerAt l (cellPlace i + 8))
 
 unfoldable pub memoryOf : List ℕ → Memory
 memoryOf l = record { blocks = table 0 nameCount (blockAt l); cells = table 0 cellCount (cellAt l) }

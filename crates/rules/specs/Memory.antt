@@ -134,7 +134,8 @@ blockFor freeable first n = block.Freeable first n
 abbrev pub withBlock : Memory → Use → ℕ → ℕ → ℕ → Memory
 withBlock m u k first n = record {
   blocks = rename (m .blocks) k (blockFor u first n);
-  cells = fill (m .cells) first n (cell.Holds k value.Undefined) }
+  cells = fill (m .cells) first n (cell.Holds k value.Undefined);
+}
 
 -- a new block's name and the memory with it, or "31 all names given", then "30 no run of free cells long enough"
 pub data Made : Type 0 where
@@ -154,7 +155,8 @@ abbrev pub withoutCells : Memory → ℕ → Recorded → Memory
 withoutCells m k recorded.Unused = m
 withoutCells m k (recorded.Live first n) = record {
   blocks = rename (m .blocks) k block.Dead;
-  cells = fill (m .cells) first n cell.Free }
+  cells = fill (m .cells) first n cell.Free;
+}
 withoutCells m k recorded.Dead = m
 
 abbrev pub endBlock : Memory → ℕ → Memory
@@ -233,5 +235,6 @@ unfoldable pub startMemory : List ℤ → Memory
 startMemory inputs = record {
   blocks = block.Fixed 0 1 ∷ block.Fixed 1 (length inputs) ∷ replicate (nameCount - 2) block.Unused;
   cells =
-    cell.Holds 1 (value.Pointer (record { name = 2; offset = pos 0 }))
-    ∷ (map (λ z. cell.Holds 2 (value.Integer z)) inputs ++ replicate (cellCount - 1 - length inputs) cell.Free) }
+      cell.Holds 1 (value.Pointer (record { name = 2; offset = pos 0 }))
+      ∷ (map (λ z. cell.Holds 2 (value.Integer z)) inputs ++ replicate (cellCount - 1 - length inputs) cell.Free);
+}

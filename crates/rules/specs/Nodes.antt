@@ -1,6 +1,6 @@
 -- The tree that each record of a table is, by a left fold: node n is made of record n and of the nodes before it.
 use Prim.Native.Nat.{ℕ, zero, suc}
-use mathlib.Core.Bool.{Bool, true, false, _&&_}
+use mathlib.Core.Bool.{Bool, true, false, cond, _&&_}
 use mathlib.Core.List.{List, [], _∷_, _++_}
 use mathlib.Core.Option.{Option, none, some}
 use mathlib.Core.Path.{_≡_}
@@ -94,16 +94,28 @@ asStatement d (predicateNode p) = d
 asStatement d (statementNode s) = s
 asStatement d junk = d
 
+-- what stands for a kind in a list, and else d
+infix 70 _⇒_
+pub data Entry (A : Type 0) : Type 0 where
+  _⇒_ : ℕ → A → Entry A
+
+abbrev pub byKind : {A : Type 0} → ℕ → List (Entry A) → A → A
+byKind k [] d = d
+byKind k ((j ⇒ x) ∷ es) d = cond (eqb k j) x (byKind k es d)
+
 -- an expression or a place of the record's kind; `temporaryOf` makes place 12
 abbrev pub expressionOf : {T S : Type 0} → (ℕ → Node T S) → Record → Node T S → Node T S → Node T S
 expressionOf temporaryOf r a b =
-    elim (eqb (r .kind) 1) [ true ↦ expressionNode (literal (r .literal)) | false ↦
-    elim (eqb (r .kind) 2) [ true ↦ expressionNode (read (asPlace a)) | false ↦
-    elim (eqb (r .kind) 3) [ true ↦ expressionNode (address (asPlace a)) | false ↦
-    elim (eqb (r .kind) 4) [ true ↦ expressionNode (operation (operatorOf (r .mark)) (asExpression a) (asExpression b)) | false ↦
-    elim (eqb (r .kind) 5) [ true ↦ expressionNode (shifted (asExpression a) (asExpression b)) | false ↦
-    elim (eqb (r .kind) 10) [ true ↦ placeNode (variable (r .mark)) | false ↦
-    elim (eqb (r .kind) 11) [ true ↦ placeNode (pointed (asExpression a)) | false ↦ temporaryOf (r .mark) ] ] ] ] ] ] ]
+    byKind (r .kind)
+    (1 ⇒ expressionNode (literal (r .literal))
+    ∷ 2 ⇒ expressionNode (read (asPlace a))
+    ∷ 3 ⇒ expressionNode (address (asPlace a))
+    ∷ 4 ⇒ expressionNode (operation (operatorOf (r .mark)) (asExpression a) (asExpression b))
+    ∷ 5 ⇒ expressionNode (shifted (asExpression a) (asExpression b))
+    ∷ 10 ⇒ placeNode (variable (r .mark))
+    ∷ 11 ⇒ placeNode (pointed (asExpression a))
+    ∷ [])
+    (temporaryOf (r .mark))
 
 abbrev pub SourceNode : Type 0
 SourceNode = Node ⊥ Statement
@@ -120,54 +132,54 @@ targetStatement x = asStatement (target-tree.skip 0) x
 -- record n of a source table, of its fields and its children's nodes
 abbrev pub sourceOf : ℕ → Record → SourceNode → SourceNode → SourceNode → SourceNode
 sourceOf n r a b c =
-    elim (eqb (r .kind) 20) [ true ↦ termNode (value (asExpression a)) | false ↦
-    elim (eqb (r .kind) 21) [ true ↦ termNode (asked base (asTerm a)) | false ↦
-    elim (eqb (r .kind) 22) [ true ↦ termNode (asked offset (asTerm a)) | false ↦
-    elim (eqb (r .kind) 23) [ true ↦ termNode (asked blockLength (asTerm a)) | false ↦
-    elim (eqb (r .kind) 24) [ true ↦ termNode (combined (operatorOf (r .mark)) (asTerm a) (asTerm b)) | false ↦
-    elim (eqb (r .kind) 30) [ true ↦ predicateNode (holds valid (asTerm a)) | false ↦
-    elim (eqb (r .kind) 31) [ true ↦ predicateNode (holds initialised (asTerm a)) | false ↦
-    elim (eqb (r .kind) 32) [ true ↦ predicateNode (compared (operatorOf (r .mark)) (asTerm a) (asTerm b)) | false ↦
-    elim (eqb (r .kind) 33) [ true ↦ predicateNode (negated (asPredicate a)) | false ↦
-    elim (eqb (r .kind) 34) [ true ↦ predicateNode (both (asPredicate a) (asPredicate b)) | false ↦
-    elim (eqb (r .kind) 35) [ true ↦ predicateNode (either (asPredicate a) (asPredicate b)) | false ↦
-    elim (eqb (r .kind) 40) [ true ↦ statementNode (tree.skip n) | false ↦
-    elim (eqb (r .kind) 41) [ true ↦ statementNode (tree.assign n (asPlace a) (asExpression b)) | false ↦
-    elim (eqb (r .kind) 42) [ true ↦ statementNode (tree.new n (asPlace a) (asExpression b)) | false ↦
-    elim (eqb (r .kind) 43) [ true ↦ statementNode (tree.free n (asExpression a)) | false ↦
-    elim (eqb (r .kind) 44) [ true ↦ statementNode (tree.sequence n (sourceStatement a) (sourceStatement b)) | false ↦
-    elim (eqb (r .kind) 45) [
-      true ↦ statementNode (tree.branch n (asExpression a) (sourceStatement b) (sourceStatement c)) | false ↦
-    elim (eqb (r .kind) 46) [ true ↦ statementNode (tree.while n (asExpression a) (sourceStatement b)) | false ↦
-    elim (eqb (r .kind) 47) [ true ↦ statementNode (tree.letIn n (r .mark) (sourceStatement a)) | false ↦
-    elim (eqb (r .kind) 48) [ true ↦ statementNode (tree.assert n (asPredicate a)) | false ↦
-    expressionOf (λ m. junk) r a b ] ] ] ] ] ] ] ] ] ] ] ] ] ] ] ] ] ] ] ]
+    byKind (r .kind)
+    (20 ⇒ termNode (value (asExpression a))
+    ∷ 21 ⇒ termNode (asked base (asTerm a))
+    ∷ 22 ⇒ termNode (asked offset (asTerm a))
+    ∷ 23 ⇒ termNode (asked blockLength (asTerm a))
+    ∷ 24 ⇒ termNode (combined (operatorOf (r .mark)) (asTerm a) (asTerm b))
+    ∷ 30 ⇒ predicateNode (holds valid (asTerm a))
+    ∷ 31 ⇒ predicateNode (holds initialised (asTerm a))
+    ∷ 32 ⇒ predicateNode (compared (operatorOf (r .mark)) (asTerm a) (asTerm b))
+    ∷ 33 ⇒ predicateNode (negated (asPredicate a))
+    ∷ 34 ⇒ predicateNode (both (asPredicate a) (asPredicate b))
+    ∷ 35 ⇒ predicateNode (either (asPredicate a) (asPredicate b))
+    ∷ 40 ⇒ statementNode (tree.skip n)
+    ∷ 41 ⇒ statementNode (tree.assign n (asPlace a) (asExpression b))
+    ∷ 42 ⇒ statementNode (tree.new n (asPlace a) (asExpression b))
+    ∷ 43 ⇒ statementNode (tree.free n (asExpression a))
+    ∷ 44 ⇒ statementNode (tree.sequence n (sourceStatement a) (sourceStatement b))
+    ∷ 45 ⇒ statementNode (tree.branch n (asExpression a) (sourceStatement b) (sourceStatement c))
+    ∷ 46 ⇒ statementNode (tree.while n (asExpression a) (sourceStatement b))
+    ∷ 47 ⇒ statementNode (tree.letIn n (r .mark) (sourceStatement a))
+    ∷ 48 ⇒ statementNode (tree.assert n (asPredicate a))
+    ∷ [])
+    (expressionOf (λ m. junk) r a b)
 
 -- record of a target table; s is its literal, a statement's number
 abbrev pub targetOf : ℕ → Record → TargetNode → TargetNode → TargetNode → TargetNode
 targetOf s r a b c =
-    elim (eqb (r .kind) 40) [ true ↦ statementNode (target-tree.skip s) | false ↦
-    elim (eqb (r .kind) 41) [ true ↦ statementNode (target-tree.assign s (asPlace a) (asExpression b)) | false ↦
-    elim (eqb (r .kind) 42) [ true ↦ statementNode (target-tree.new s (asPlace a) (asExpression b)) | false ↦
-    elim (eqb (r .kind) 43) [ true ↦ statementNode (target-tree.free s (asExpression a)) | false ↦
-    elim (eqb (r .kind) 44) [
-      true ↦ statementNode (target-tree.sequence s (targetStatement a) (targetStatement b)) | false ↦
-    elim (eqb (r .kind) 45) [
-      true ↦ statementNode (target-tree.branch s (asExpression a) (targetStatement b) (targetStatement c)) | false ↦
-    elim (eqb (r .kind) 46) [ true ↦ statementNode (target-tree.while s (asExpression a) (targetStatement b)) | false ↦
-    elim (eqb (r .kind) 47) [ true ↦ statementNode (target-tree.letIn s (r .mark) (targetStatement a)) | false ↦
-    elim (eqb (r .kind) 60) [ true ↦ statementNode (target-tree.takeAddress s (r .mark) (asPlace a)) | false ↦
-    elim (eqb (r .kind) 61) [ true ↦ statementNode (target-tree.takeValue s (r .mark) (asExpression a)) | false ↦
-    elim (eqb (r .kind) 63) [ true ↦ statementNode (target-tree.takeOperation s (r .mark) (operatorOf (r .c))) | false ↦
-    elim (eqb (r .kind) 64) [ true ↦ statementNode (target-tree.takeQuery s (r .mark) (queryOf (r .c))) | false ↦
-    elim (eqb (r .kind) 65) [ true ↦ statementNode (target-tree.takeNot s (r .mark)) | false ↦
-    elim (eqb (r .kind) 66) [
-      true ↦ statementNode (target-tree.branchOn s (r .mark) (targetStatement b) (targetStatement c)) | false ↦
-    elim (eqb (r .kind) 67) [ true ↦ statementNode (target-tree.assertOn s (r .mark)) | false ↦
-    elim (eqb (r .kind) 68) [ true ↦ statementNode (target-tree.storeBlock s (r .mark)) | false ↦
-    elim (eqb (r .kind) 69) [ true ↦ statementNode (target-tree.deleteBlock s (r .mark)) | false ↦
-    elim (eqb (r .kind) 70) [ true ↦ statementNode (target-tree.initialise s (r .mark)) | false ↦
-    expressionOf (λ m. placeNode (temporary m)) r a b ] ] ] ] ] ] ] ] ] ] ] ] ] ] ] ] ] ]
+    byKind (r .kind)
+    (40 ⇒ statementNode (target-tree.skip s)
+    ∷ 41 ⇒ statementNode (target-tree.assign s (asPlace a) (asExpression b))
+    ∷ 42 ⇒ statementNode (target-tree.new s (asPlace a) (asExpression b))
+    ∷ 43 ⇒ statementNode (target-tree.free s (asExpression a))
+    ∷ 44 ⇒ statementNode (target-tree.sequence s (targetStatement a) (targetStatement b))
+    ∷ 45 ⇒ statementNode (target-tree.branch s (asExpression a) (targetStatement b) (targetStatement c))
+    ∷ 46 ⇒ statementNode (target-tree.while s (asExpression a) (targetStatement b))
+    ∷ 47 ⇒ statementNode (target-tree.letIn s (r .mark) (targetStatement a))
+    ∷ 60 ⇒ statementNode (target-tree.takeAddress s (r .mark) (asPlace a))
+    ∷ 61 ⇒ statementNode (target-tree.takeValue s (r .mark) (asExpression a))
+    ∷ 63 ⇒ statementNode (target-tree.takeOperation s (r .mark) (operatorOf (r .c)))
+    ∷ 64 ⇒ statementNode (target-tree.takeQuery s (r .mark) (queryOf (r .c)))
+    ∷ 65 ⇒ statementNode (target-tree.takeNot s (r .mark))
+    ∷ 66 ⇒ statementNode (target-tree.branchOn s (r .mark) (targetStatement b) (targetStatement c))
+    ∷ 67 ⇒ statementNode (target-tree.assertOn s (r .mark))
+    ∷ 68 ⇒ statementNode (target-tree.storeBlock s (r .mark))
+    ∷ 69 ⇒ statementNode (target-tree.deleteBlock s (r .mark))
+    ∷ 70 ⇒ statementNode (target-tree.initialise s (r .mark))
+    ∷ [])
+    (expressionOf (λ m. placeNode (temporary m)) r a b)
 
 abbrev pub NodeOf : Language → Type 0
 NodeOf source = SourceNode
@@ -204,8 +216,8 @@ guarded l false x = junkNode l
 abbrev pub nodeFrom : (l : Language) → List ℕ → ℕ → NodeOf l → NodeOf l → NodeOf l → NodeOf l
 nodeFrom l t n a b c =
     guarded l
-      (ltb 0 n && leb n (recordCount t) && eqb (recordFault l t n) 0 && nodesFit l (formOf l (kindOf t n)) a b c)
-      (buildNode l n (recordAt t n) a b c)
+    (ltb 0 n && leb n (recordCount t) && eqb (recordFault l t n) 0 && nodesFit l (formOf l (kindOf t n)) a b c)
+    (buildNode l n (recordAt t n) a b c)
 
 abbrev pub nodeIn : (l : Language) → List (NodeOf l) → ℕ → NodeOf l
 nodeIn l ns x = getD ns x (junkNode l)

@@ -36,8 +36,8 @@ turnsPast zero s holds body m f = past [] (ended 32 s m f)
 turnsPast (suc g) s holds body m zero = past [] (ended 32 s m zero)
 turnsPast (suc g) s holds body m (suc f) =
     decidePast s (holds m)
-      (λ m₁ f₁. nextPast (body m₁ f₁) (λ m₂ f₂. turnsPast g s holds body m₂ f₂))
-      (λ m₁ f₁. past [] (finished m₁ f₁)) m f
+    (λ m₁ f₁. nextPast (body m₁ f₁) (λ m₂ f₂. turnsPast g s holds body m₂ f₂))
+    (λ m₁ f₁. past [] (finished m₁ f₁)) m f
 
 abbrev pub inLetPast : ℕ → Memory → ℕ → Made → (ℕ → Memory → ℕ → PastOutcome) → PastOutcome
 inLetPast s m f (unmade c) body = past [] (ended c s m f)

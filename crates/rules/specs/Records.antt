@@ -48,7 +48,8 @@ recordAt t n = record {
   a = childA t n;
   b = childB t n;
   c = childC t n;
-  literal = literalOf t n }
+  literal = literalOf t n;
+}
 
 -- the bytes of a record, and of a table
 abbrev pub recordBytes : Record → List ℕ

@@ -57,12 +57,12 @@ translate (tree.assign s p e) =
 -- "42: 60 t0 place; 61 t2 size; 42; 61 t1 read of 12 t0; 68 n=1; 70 t0."
 translate (tree.new s p e) =
     listed s (takeAddress s 0 (embedPlace p))
-      (takeValue s 2 (embed e)
-      ∷ new s (embedPlace p) (embed e)
-      ∷ takeValue s 1 (read (temporary 0))
-      ∷ storeBlock s 1
-      ∷ initialise s 0
-      ∷ [])
+    (takeValue s 2 (embed e)
+    ∷ new s (embedPlace p) (embed e)
+    ∷ takeValue s 1 (read (temporary 0))
+    ∷ storeBlock s 1
+    ∷ initialise s 0
+    ∷ [])
 -- "43: 61 t0; 43; 69 t0."
 translate (tree.free s e) = listed s (takeValue s 0 (embed e)) (free s (embed e) ∷ deleteBlock s 0 ∷ [])
 translate (tree.sequence s a b) = sequence s (translate a) (translate b)
@@ -71,13 +71,13 @@ translate (tree.while s e b) = while s (embed e) (translate b)
 -- "47: let of (60 t0 variable; 61 t1 literal 1; 68 n=0; body; 60 t0 variable; 69 t0)."
 translate (tree.letIn s x b) =
     letIn s x
-      (listed s (takeAddress s 0 (variable x))
-        (takeValue s 1 (literal (pos 1))
-        ∷ storeBlock s 0
-        ∷ translate b
-        ∷ takeAddress s 0 (variable x)
-        ∷ deleteBlock s 0
-        ∷ []))
+    (listed s (takeAddress s 0 (variable x))
+    (takeValue s 1 (literal (pos 1))
+    ∷ storeBlock s 0
+    ∷ translate b
+    ∷ takeAddress s 0 (variable x)
+    ∷ deleteBlock s 0
+    ∷ []))
 -- "48: predicate at level 0; 67 t0."
 translate (tree.assert s p) = listed s (translatePredicate p s 0) (assertOn s 0 ∷ [])
 
@@ -162,7 +162,8 @@ emit (node k m z x a b c) n =
       a = rootNumber a n;
       b = rootNumber b (n + treeSize a);
       c = fieldC c x (n + treeSize a + treeSize b);
-      literal = z } ∷ [])
+      literal = z;
+    } ∷ [])
 
 -- the records and the bytes of an accepted source table's translation
 unfoldable pub translatedRecords : List ℕ → List Record

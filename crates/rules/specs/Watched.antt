@@ -56,8 +56,8 @@ turns zero s holds body m o τ f = ended 32 s m o τ f
 turns (suc g) s holds body m o τ zero = ended 32 s m o τ zero
 turns (suc g) s holds body m o τ (suc f) =
     decide s (holds τ m)
-      (λ m₁ o₁ τ₁ f₁. next (body m₁ o₁ τ₁ f₁) (λ m₂ o₂ τ₂ f₂. turns g s holds body m₂ o₂ τ₂ f₂))
-      finished m o τ f
+    (λ m₁ o₁ τ₁ f₁. next (body m₁ o₁ τ₁ f₁) (λ m₂ o₂ τ₂ f₂. turns g s holds body m₂ o₂ τ₂ f₂))
+    finished m o τ f
 
 abbrev pub inLet : ℕ → Made → (ℕ → Watching) → Watching
 inLet s (unmade c) body m o τ f = ended c s m o τ f
@@ -90,10 +90,10 @@ watch (free s e) ρ m o τ f = after s o τ f (freed m (evaluate e (temporaryOf 
 watch (sequence s a b) ρ m o τ f = next (watch a ρ m o τ f) (λ m₁ o₁ τ₁ f₁. watch b ρ m₁ o₁ τ₁ f₁)
 watch (branch s e a b) ρ m o τ f =
     decide s (condition (evaluate e (temporaryOf τ) ρ m))
-      (λ m₁ o₁ τ₁ f₁. watch a ρ m₁ o₁ τ₁ f₁) (λ m₁ o₁ τ₁ f₁. watch b ρ m₁ o₁ τ₁ f₁) m o τ f
+    (λ m₁ o₁ τ₁ f₁. watch a ρ m₁ o₁ τ₁ f₁) (λ m₁ o₁ τ₁ f₁. watch b ρ m₁ o₁ τ₁ f₁) m o τ f
 watch (while s e b) ρ m o τ f =
     turns f s (λ τ₁ m₁. condition (evaluate e (temporaryOf τ₁) ρ m₁))
-      (λ m₁ o₁ τ₁ f₁. watch b ρ m₁ o₁ τ₁ f₁) m o τ f
+    (λ m₁ o₁ τ₁ f₁. watch b ρ m₁ o₁ τ₁ f₁) m o τ f
 watch (letIn s x b) ρ m o τ f =
     inLet s (makeBlock m fixed 1) (λ k m₁ o₁ τ₁ f₁. watch b (extend ρ x k) m₁ o₁ τ₁ f₁) m o τ f
 watch (takeAddress s n p) ρ m o τ f = taken s n (addressOf (findPlace p (temporaryOf τ) ρ m)) m o τ f
@@ -105,7 +105,7 @@ watch (takeQuery s n q) ρ m o τ f =
 watch (takeNot s n) ρ m o τ f = taken s n (onValue (heldIn τ (suc n)) evaluated.Stopped opposite) m o τ f
 watch (branchOn s n a b) ρ m o τ f =
     decide s (condition (heldIn τ n))
-      (λ m₁ o₁ τ₁ f₁. watch a ρ m₁ o₁ τ₁ f₁) (λ m₁ o₁ τ₁ f₁. watch b ρ m₁ o₁ τ₁ f₁) m o τ f
+    (λ m₁ o₁ τ₁ f₁. watch a ρ m₁ o₁ τ₁ f₁) (λ m₁ o₁ τ₁ f₁. watch b ρ m₁ o₁ τ₁ f₁) m o τ f
 watch (assertOn s n) ρ m o τ f =
     decide s (condition (heldIn τ n)) finished (λ m₁ o₁ τ₁ f₁. ended 33 s m₁ o₁ τ₁ f₁) m o τ f
 watch (target.storeBlock s n) ρ m o τ f =
