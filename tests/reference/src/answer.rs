@@ -15,11 +15,16 @@ impl Answer {
 
     /// An answer without a run behind it: its fuel and free cells are 0.
     pub const fn of(number: u32, record: u32) -> Answer {
+        Answer::ending(number, record, 0, 0)
+    }
+
+    /// "Endings return number, source statement, fuel left, free cells."
+    pub const fn ending(number: u32, record: u32, fuel: u32, free_cells: u32) -> Answer {
         Answer {
             number,
             record,
-            fuel: 0,
-            free_cells: 0,
+            fuel,
+            free_cells,
         }
     }
 }

@@ -1,7 +1,7 @@
 //! What a host does around the entry points: it owns the buffers and lends them.
 
 use crate::answer::Answer;
-use crate::limits::{EXECUTION_BYTES, OBSERVATION_BYTES};
+use crate::limits::{BLOCK_BYTES, CELL_BYTES, EXECUTION_BYTES, NAMES, OBSERVATION_BYTES};
 use crate::plain::run_plain;
 use crate::record::table;
 use crate::translator::translation;
@@ -41,11 +41,11 @@ pub fn translated(source: &[u8]) -> Result<Vec<u8>, Answer> {
 /// The observation memory that mirrors an execution memory, byte by byte: "for its block states
 /// 0, 1, 2, 3 the observation states are 0, 1, 1, 2, with equal first and length".
 pub fn mirror(memory: &[u8]) -> Vec<u8> {
-    let (blocks, cells) = memory.split_at(memory.len().min(EXECUTION_BYTES - 1024 * 16));
+    let (blocks, cells) = memory.split_at(memory.len().min(NAMES * BLOCK_BYTES));
     let mut observation = blocks.to_vec();
-    for block in observation.chunks_mut(8) {
+    for block in observation.chunks_mut(BLOCK_BYTES) {
         block[0] = [0, 1, 1, 2][usize::from(block[0] % 4)];
     }
-    observation.extend(cells.chunks(16).map(|cell| u8::from(cell[0] >= 2)));
+    observation.extend(cells.chunks(CELL_BYTES).map(|cell| u8::from(cell[0] >= 2)));
     observation
 }

@@ -100,15 +100,37 @@ impl Translator<'_> {
         self.write(number, record)
     }
 
-    fn variable(&mut self, origin: u16, mark: u8) -> u16 {
-        self.write(
-            origin,
-            Record {
-                kind: 10,
-                mark,
-                ..Record::default()
-            },
-        )
+    fn variable(&mut self, from: From, mark: u8) -> u16 {
+        let record = Record {
+            kind: 10,
+            mark,
+            ..Record::default()
+        };
+        self.write(from.origin, record)
+    }
+
+    fn literal(&mut self, from: From, literal: i64) -> u16 {
+        let record = Record {
+            kind: 1,
+            literal,
+            ..Record::default()
+        };
+        self.write(from.origin, record)
+    }
+
+    /// "Read of 12 t0."
+    fn read_of_t0(&mut self, from: From) -> u16 {
+        let place = Record {
+            kind: 12,
+            ..Record::default()
+        };
+        let a = self.write(from.origin, place);
+        let read = Record {
+            kind: 2,
+            a,
+            ..Record::default()
+        };
+        self.write(from.origin, read)
     }
 
     fn statement(&mut self, number: u16) -> u16 {
@@ -118,29 +140,30 @@ impl Translator<'_> {
             statement: number,
         };
         match source.kind {
-            40 => self.put(from, 40, 0, [0; 3]),
             41 => self.take(from, source),
             42 => self.take_new(from, source),
             43 => self.free(from, source),
-            44 => {
-                let first = self.statement(source.a);
-                let second = self.statement(source.b);
-                self.put(from, 44, 0, [first, second, 0])
-            }
-            45 => {
-                let condition = self.copy(source.a);
-                let then = self.statement(source.b);
-                let otherwise = self.statement(source.c);
-                self.put(from, 45, 0, [condition, then, otherwise])
-            }
-            46 => {
-                let condition = self.copy(source.a);
-                let body = self.statement(source.b);
-                self.put(from, 46, 0, [condition, body, 0])
-            }
             47 => self.let_variable(from, source),
-            _ => self.assert(from, source),
+            48 => self.assert(from, source),
+            kind => {
+                let children = self.kept(source);
+                self.put(from, kind, 0, children)
+            }
         }
+    }
+
+    /// "Kinds 40, 44, 45, 46 keep their form": their children, translated from A to C.
+    fn kept(&mut self, source: Record) -> [u16; 3] {
+        let first = match source.kind {
+            40 => 0,
+            44 => self.statement(source.a),
+            _ => self.copy(source.a),
+        };
+        let [second, third] = [source.b, source.c].map(|child| match child {
+            0 => 0,
+            child => self.statement(child),
+        });
+        [first, second, third]
     }
 
     /// "41: 60 t0 place; 41; 70 t0."
@@ -163,21 +186,7 @@ impl Translator<'_> {
         let place = self.copy(source.a);
         let size = self.copy(source.b);
         let taken = self.put(from, 42, 0, [place, size, 0]);
-        let there = self.write(
-            from.origin,
-            Record {
-                kind: 12,
-                ..Record::default()
-            },
-        );
-        let read = self.write(
-            from.origin,
-            Record {
-                kind: 2,
-                a: there,
-                ..Record::default()
-            },
-        );
+        let read = self.read_of_t0(from);
         let fetched = self.put(from, 61, 1, [read, 0, 0]);
         let stored = self.put(from, 68, 1, [0; 3]);
         let marked = self.put(from, 70, 0, [0; 3]);
@@ -196,20 +205,13 @@ impl Translator<'_> {
 
     /// "47: let of (60 t0 variable; 61 t1 literal 1; 68 n=0; body; 60 t0 variable; 69 t0)."
     fn let_variable(&mut self, from: From, source: Record) -> u16 {
-        let variable = self.variable(from.origin, source.mark);
+        let variable = self.variable(from, source.mark);
         let saved = self.put(from, 60, 0, [variable, 0, 0]);
-        let one = self.write(
-            from.origin,
-            Record {
-                kind: 1,
-                literal: 1,
-                ..Record::default()
-            },
-        );
+        let one = self.literal(from, 1);
         let sized = self.put(from, 61, 1, [one, 0, 0]);
         let stored = self.put(from, 68, 0, [0; 3]);
         let body = self.statement(source.a);
-        let variable = self.variable(from.origin, source.mark);
+        let variable = self.variable(from, source.mark);
         let saved_again = self.put(from, 60, 0, [variable, 0, 0]);
         let deleted = self.put(from, 69, 0, [0; 3]);
         let parts = [saved, sized, stored, body, saved_again, deleted];
@@ -236,12 +238,7 @@ impl Translator<'_> {
                 let expression = self.copy(source.a);
                 self.put(from, 61, level, [expression, 0, 0])
             }
-            24 | 32 => {
-                let first = self.at_level(source.a, level + 1, statement);
-                let second = self.at_level(source.b, level + 2, statement);
-                let operated = self.put(from, 63, level, [0, 0, u16::from(source.mark)]);
-                self.list(from, &[first, second, operated])
-            }
+            24 | 32 => self.operating(from, source, level),
             34 | 35 => self.skipping(from, source, level),
             kind => {
                 let child = self.at_level(source.a, level + 1, statement);
@@ -252,6 +249,14 @@ impl Translator<'_> {
                 self.list(from, &[child, asked])
             }
         }
+    }
+
+    /// "24, 32: A at n+1; B at n+2; 63."
+    fn operating(&mut self, from: From, source: Record, level: u8) -> u16 {
+        let first = self.at_level(source.a, level + 1, from.statement);
+        let second = self.at_level(source.b, level + 2, from.statement);
+        let operated = self.put(from, 63, level, [0, 0, u16::from(source.mark)]);
+        self.list(from, &[first, second, operated])
     }
 
     /// "34: A at n; 66 with B at n, else skip. 35: A at n; 66 with skip, else B at n."

@@ -25,15 +25,7 @@ fn an_expression_chain_of_4095_records_runs() {
     b.add(60, 0, [place, 0, 0]);
     assert_eq!(b.len(), 4096);
     let (answer, _, _) = on_a_stack_of(1 << 20, || watched(&b.table(), &inputs(&[7]), 5));
-    assert_eq!(
-        answer,
-        Answer {
-            number: 0,
-            record: 0,
-            fuel: 5,
-            free_cells: 1022
-        }
-    );
+    assert_eq!(answer, Answer::ending(0, 0, 5, 1022));
 }
 
 #[test]
@@ -46,15 +38,7 @@ fn statements_nested_4096_deep_run_and_stop() {
         statement = b.then(skip, statement);
     }
     let (answer, _, _) = on_a_stack_of(1 << 20, || watched(&b.table(), &inputs(&[7]), 5));
-    assert_eq!(
-        answer,
-        Answer {
-            number: 49,
-            record: 9,
-            fuel: 5,
-            free_cells: 1022
-        }
-    );
+    assert_eq!(answer, Answer::ending(49, 9, 5, 1022));
 }
 
 #[test]
@@ -75,15 +59,7 @@ fn the_deepest_source_is_translated_and_run() {
             watched(&target, &inputs(&[7]), 0).0,
         )
     });
-    assert_eq!(
-        end,
-        Answer {
-            number: 0,
-            record: 0,
-            fuel: 0,
-            free_cells: 1022
-        }
-    );
+    assert_eq!(end, Answer::ending(0, 0, 0, 1022));
     assert_eq!(target_end, end);
 }
 
@@ -95,11 +71,6 @@ fn a_long_loop_needs_no_more_stack_than_a_short_one() {
     let turns = b.while_do(one, skip);
     let source = b.table();
     let (answer, _) = on_a_stack_of(128 << 10, || plain(&source, &inputs(&[7]), 3_000_000));
-    let expected = Answer {
-        number: 32,
-        record: u32::from(turns),
-        fuel: 0,
-        free_cells: 1022,
-    };
+    let expected = Answer::ending(32, u32::from(turns), 0, 1022);
     assert_eq!(answer, expected);
 }

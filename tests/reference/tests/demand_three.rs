@@ -6,6 +6,7 @@ use reference::generator::Generator;
 use reference::host::{inputs, mirror, plain, translated, watched};
 use reference::past::{past, Past, Truth};
 use reference::translator::translation;
+use reference::Answer;
 use std::collections::BTreeMap;
 
 /// How often each ending came, and what the assertions did.
@@ -62,7 +63,7 @@ impl Counts {
 
 /// "At most 14 target records come from each source record."
 fn most_records_from_one(source: &[u8]) -> usize {
-    let translation = translation(source).ok().expect("accepted");
+    let translation = translation(source).unwrap_or_else(|refusal| panic!("{refusal:?}"));
     let mut from = vec![0; source.len() / 16 + 1];
     for origin in translation.origins {
         from[usize::from(origin)] += 1;
@@ -102,6 +103,12 @@ fn demand_three(source: &[u8], inputs: &[u8], fuel: u32, counts: &mut Counts) {
     }
 
     let past = past(source, inputs, fuel).expect("not refused");
+    ends_where_told(&past, answer, &memory);
+    counts.add(answer.number, &past);
+}
+
+/// "Both runs end 33 at the first that is false."
+fn ends_where_told(past: &Past, answer: Answer, memory: &[u8]) {
     let (predicted, predicted_memory) = past.predicted();
     assert_eq!(answer, predicted);
     assert!(memory == predicted_memory.image());
@@ -113,7 +120,6 @@ fn demand_three(source: &[u8], inputs: &[u8], fuel: u32, counts: &mut Counts) {
     if let Some(first) = first {
         assert_eq!((first.statement, first.fuel), (answer.record, answer.fuel));
     }
-    counts.add(answer.number, &past);
 }
 
 fn on_programs(seed: u64, times: u32, next: fn(&mut Generator) -> Vec<u8>) -> Counts {
@@ -129,13 +135,13 @@ fn on_programs(seed: u64, times: u32, next: fn(&mut Generator) -> Vec<u8>) -> Co
 }
 
 #[test]
-fn holds_on_15000_child_first_programs() {
-    on_programs(1, 15_000, Generator::child_first_source).show_every_ending(20);
+fn holds_on_11000_child_first_programs() {
+    on_programs(1, 11_000, Generator::child_first_source).show_every_ending(20);
 }
 
 #[test]
-fn holds_on_15000_shuffled_programs() {
-    on_programs(2, 15_000, Generator::shuffled_source).show_every_ending(20);
+fn holds_on_11000_shuffled_programs() {
+    on_programs(2, 11_000, Generator::shuffled_source).show_every_ending(20);
 }
 
 #[test]

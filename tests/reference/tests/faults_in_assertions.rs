@@ -183,6 +183,28 @@ fn validity_ends_with_the_block_on_both_sides() {
 }
 
 #[test]
+fn pointers_are_equal_where_both_name_and_offset_are() {
+    let cases = [(2, 0, 0), (2, 1, 33), (2, -1, 33), (0, 0, 33), (1, 0, 33)];
+    for (variable, by, expected) in cases {
+        let in_terms = asserting(|b| {
+            let left = b.variable_term(2);
+            let right = b.shifted_variable(variable, by);
+            let right = b.term(right);
+            b.compare(7, left, right)
+        });
+        let in_expressions = asserting(|b| {
+            let left = b.read_variable(2);
+            let right = b.shifted_variable(variable, by);
+            let equal = b.operator(7, left, right);
+            let equal = b.term(equal);
+            let one = b.literal_term(1);
+            b.compare(7, equal, one)
+        });
+        assert_eq!([in_terms, in_expressions], [expected; 2]);
+    }
+}
+
+#[test]
 fn dead_pointers_may_be_compared_and_shifted() {
     let number = asserting(|b| {
         let left = b.variable_term(1);

@@ -9,7 +9,7 @@ use reference::plain::run_plain;
 use reference::record::{records, table, Record};
 use reference::translator::translate;
 use reference::watched::run_watched;
-use std::collections::BTreeMap;
+use std::collections::{BTreeMap, BTreeSet};
 
 type Counts = BTreeMap<u32, u32>;
 
@@ -31,43 +31,43 @@ fn reaches(counts: &Counts, numbers: impl IntoIterator<Item = u32>, times: u32) 
 #[test]
 fn damaged_sources_reach_every_refusal() {
     let mut generator = Generator::new(11);
-    let counts = count(20_000, || check_source(&generator.damaged_source()));
-    reaches(&counts, 1..=8, 500);
+    let counts = count(8_000, || check_source(&generator.damaged_source()));
+    reaches(&counts, 1..=8, 200);
     assert!(counts.keys().all(|number| *number <= 8));
 }
 
 #[test]
 fn damaged_targets_reach_every_refusal() {
     let mut generator = Generator::new(12);
-    let counts = count(20_000, || check_target(&generator.damaged_target()));
-    reaches(&counts, 1..=7, 400);
+    let counts = count(8_000, || check_target(&generator.damaged_target()));
+    reaches(&counts, 1..=7, 150);
     assert!(counts.keys().all(|number| *number <= 7));
 }
 
 #[test]
 fn sources_run_plain_reach_every_ending_and_mostly_finish() {
     let mut generator = Generator::new(13);
-    let counts = count(20_000, || {
+    let counts = count(10_000, || {
         let source = generator.accepted_source();
         let fuel = generator.fuel_for(&source);
         plain(&source, &generator.inputs(), fuel).0
     });
-    reaches(&counts, (30..=33).chain(40..=47), 30);
-    reaches(&counts, [0], 8_000);
+    reaches(&counts, (30..=33).chain(40..=47), 20);
+    reaches(&counts, [0], 4_000);
     assert_eq!(counts.len(), 13, "{counts:?}");
 }
 
 #[test]
 fn targets_run_watched_reach_every_ending_and_often_finish() {
     let mut generator = Generator::new(14);
-    let counts = count(20_000, || {
+    let counts = count(12_000, || {
         let target = generator.hand_made_target();
         let fuel = generator.fuel_for(&target);
         watched(&target, &generator.inputs(), fuel).0
     });
-    reaches(&counts, (30..=33).chain(40..=49), 10);
-    reaches(&counts, 47..=49, 150);
-    reaches(&counts, [0], 6_000);
+    reaches(&counts, (30..=33).chain(40..=49), 3);
+    reaches(&counts, 47..=49, 80);
+    reaches(&counts, [0], 4_000);
 }
 
 #[test]
@@ -128,42 +128,23 @@ fn the_longest_tables_come_too() {
     assert!(lengths.contains(&4095) && lengths.contains(&4096));
 }
 
+/// The kinds that come in 600 tables, rising.
+fn kinds(mut next: impl FnMut() -> Vec<u8>) -> Vec<u8> {
+    let tables = (0..600).map(|_| records(&next()));
+    let kinds: BTreeSet<u8> = tables.flatten().map(|record| record.kind).collect();
+    kinds.into_iter().collect()
+}
+
 #[test]
 fn every_kind_comes_in_accepted_tables() {
     let mut generator = Generator::new(20);
-    let mut seen = [[false; 256]; 2];
-    for _ in 0..600 {
-        for (at, bytes) in [generator.accepted_source(), generator.target()]
-            .iter()
-            .enumerate()
-        {
-            records(bytes)
-                .iter()
-                .for_each(|record| seen[at][usize::from(record.kind)] = true);
-        }
-    }
-    let kinds = |at: usize| {
-        (0..=255_u8)
-            .filter(|&kind| seen[at][usize::from(kind)])
-            .collect()
+    let all = |ranges: &[std::ops::RangeInclusive<u8>]| -> Vec<u8> {
+        ranges.iter().cloned().flatten().collect()
     };
-    let in_sources: Vec<u8> = kinds(0);
-    let in_targets: Vec<u8> = kinds(1);
-    let both = [1, 2, 3, 4, 5, 10, 11];
-    let source: Vec<u8> = both
-        .into_iter()
-        .chain(20..=24)
-        .chain(30..=35)
-        .chain(40..=48)
-        .collect();
-    let target = both
-        .into_iter()
-        .chain([12])
-        .chain(40..=47)
-        .chain([60, 61])
-        .chain(63..=70);
-    assert_eq!(in_sources, source);
-    assert_eq!(in_targets, target.collect::<Vec<u8>>());
+    let source = all(&[1..=5, 10..=11, 20..=24, 30..=35, 40..=48]);
+    assert_eq!(kinds(|| generator.accepted_source()), source);
+    let target = all(&[1..=5, 10..=12, 40..=47, 60..=61, 63..=70]);
+    assert_eq!(kinds(|| generator.target()), target);
 }
 
 #[test]

@@ -78,12 +78,7 @@ fn both_memories_have_the_bytes_written_here() {
         .position(|record| record.kind == 48)
         .unwrap() as u32
         + 1;
-    let expected = Answer {
-        number: 33,
-        record: assertion,
-        fuel: 3,
-        free_cells: 1024 - 7,
-    };
+    let expected = Answer::ending(33, assertion, 3, 1024 - 7);
     let inputs = inputs(&[7, 265]);
     let (answer, memory) = plain(&b.table(), &inputs, 3);
     assert_eq!(answer, expected);
@@ -104,15 +99,7 @@ fn first_and_length_take_two_bytes_each() {
     let second = b.new_in(0, 467);
     b.then(first, second);
     let (answer, memory) = plain(&b.table(), &inputs(&[1; 256]), 0);
-    assert_eq!(
-        answer,
-        Answer {
-            number: 0,
-            record: 0,
-            fuel: 0,
-            free_cells: 0
-        }
-    );
+    assert_eq!(answer, Answer::ending(0, 0, 0, 0));
     let blocks = [
         [1, 0, 0, 0, 1, 0, 0, 0],
         [1, 0, 1, 0, 0, 1, 0, 0],
@@ -128,15 +115,7 @@ fn a_let_that_ended_leaves_a_dead_name_and_free_cells() {
     let take = b.take_literal(8, 77);
     b.let_in(8, take);
     let (answer, memory) = plain(&b.table(), &inputs(&[1]), 0);
-    assert_eq!(
-        answer,
-        Answer {
-            number: 0,
-            record: 0,
-            fuel: 0,
-            free_cells: 1022
-        }
-    );
+    assert_eq!(answer, Answer::ending(0, 0, 0, 1022));
     assert_eq!(memory[16..24], [3, 0, 0, 0, 0, 0, 0, 0]);
     assert!(memory[2040 + 2 * 16..].iter().all(|&byte| byte == 0));
 }

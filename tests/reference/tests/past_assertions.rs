@@ -44,12 +44,7 @@ fn lists_every_assertion_reached_with_its_truth() {
         reached(after, Truth::Ended, 7),
     ];
     assert_eq!(past.reached, expected);
-    let ending = Answer {
-        number: 40,
-        record: after,
-        fuel: 7,
-        free_cells: 1020,
-    };
+    let ending = Answer::ending(40, after, 7, 1020);
     assert_eq!(past.ending, ending);
 }
 
@@ -58,15 +53,7 @@ fn predicts_33_at_the_first_false_one_with_fuel_and_memory_as_then() {
     let (source, [inside, _]) = program();
     let past = past(&source, &inputs(&[7, 9]), 10).expect("accepted");
     let (predicted, memory) = past.predicted();
-    assert_eq!(
-        predicted,
-        Answer {
-            number: 33,
-            record: inside,
-            fuel: 8,
-            free_cells: 1020
-        }
-    );
+    assert_eq!(predicted, Answer::ending(33, inside, 8, 1020));
     let (answer, image) = plain(&source, &inputs(&[7, 9]), 10);
     assert_eq!((answer, image), (predicted, memory.image()));
 }

@@ -68,7 +68,8 @@ fn a_let_records_its_block_and_deletes_it_in_14_records() {
          11 44 0 6 10 0 2, 12 44 0 5 11 0 2, 13 44 0 4 12 0 2, 14 44 0 2 13 0 2,
          15 47 7 14 0 0 2",
     );
-    let origins = translation(&source(&table)).ok().expect("accepted").origins;
+    let origins = translation(&source(&table)).map(|it| it.origins);
+    let origins = origins.expect("accepted");
     assert_eq!(origins.iter().filter(|&&origin| origin == 2).count(), 14);
 }
 

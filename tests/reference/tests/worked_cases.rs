@@ -147,15 +147,7 @@ fn p9_a_new_block_after_a_free_has_the_same_first_cell_and_the_next_name() {
     let second = b.new_in(0, 5);
     b.sequence(&[first, free, second]);
     let (answer, memory) = both(&b.table());
-    assert_eq!(
-        answer,
-        Answer {
-            number: 0,
-            record: 0,
-            fuel: 10,
-            free_cells: 1024 - 8
-        }
-    );
+    assert_eq!(answer, Answer::ending(0, 0, 10, 1024 - 8));
     assert_eq!(memory[2 * 8..3 * 8], [3, 0, 0, 0, 0, 0, 0, 0]);
     assert_eq!(memory[3 * 8..4 * 8], [2, 0, 3, 0, 5, 0, 0, 0]);
     assert_eq!(memory[255 * 8..255 * 8 + 3], [3, 1, 4]);
@@ -191,19 +183,9 @@ fn r1_lets_in_a_loop_use_the_names_up_at_the_254th_test() {
             watched(&target, &inputs, fuel).0,
         )
     };
-    let names = Answer {
-        number: 31,
-        record: u32::from(body),
-        fuel: 46,
-        free_cells: 1021,
-    };
+    let names = Answer::ending(31, u32::from(body), 46, 1021);
     assert_eq!(ends(300), (names, names));
-    let fuel = Answer {
-        number: 32,
-        record: u32::from(turns),
-        fuel: 0,
-        free_cells: 1021,
-    };
+    let fuel = Answer::ending(32, u32::from(turns), 0, 1021);
     assert_eq!(ends(0), (fuel, fuel));
     assert_eq!(ends(253), (fuel, fuel));
     assert_eq!(ends(254).0.number, 31);

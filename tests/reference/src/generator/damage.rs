@@ -71,7 +71,7 @@ fn damage_bytes(bytes: &mut [u8], random: &mut Random) {
     for _ in 0..random.range(1, 4) {
         let at = random.index(bytes.len());
         if let Some(byte) = bytes.get_mut(at) {
-            *byte = random.next() as u8;
+            *byte = random.draw() as u8;
         }
     }
 }

@@ -142,7 +142,7 @@ impl<'random> Grower<'random> {
             0 => self
                 .random
                 .pick(&[i64::MIN, i64::MAX, i64::MIN + 1, i64::MAX - 1]),
-            1 => self.random.next() as i64,
+            1 => self.random.draw() as i64,
             2 | 3 => 0,
             _ => self.random.range(-4, 12),
         };

@@ -21,7 +21,7 @@ impl Generator {
     fn input(&mut self) -> i64 {
         match self.random.below(12) {
             0 => self.random.pick(&[i64::MIN, i64::MAX, -1, 0]),
-            1 => self.random.next() as i64,
+            1 => self.random.draw() as i64,
             _ => self.random.range(-5, 20),
         }
     }

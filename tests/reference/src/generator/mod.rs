@@ -192,7 +192,7 @@ impl Generator {
     }
 }
 
-/// Lengthens a program to `size` records: a skip and a 44 for each two, a skip alone never.
+/// Lengthens a program towards `size` records by a skip and a 44 at a time, so never past it.
 fn pad(list: &mut Vec<Record>, size: usize) {
     let literal = list.last().map_or(0, |last| last.literal);
     while list.len() + 2 <= size {

@@ -13,13 +13,10 @@ impl Grower<'_> {
                 let expression = self.integer(depth);
                 self.builder.term(expression)
             }
-            2 => {
+            2 | 3 => {
                 let pointer = self.pointer_term(depth - 1);
-                self.builder.offset(pointer)
-            }
-            3 => {
-                let pointer = self.pointer_term(depth - 1);
-                self.builder.length(pointer)
+                let kind = self.random.pick(&[22, 23]);
+                self.builder.add(kind, 0, [pointer, 0, 0])
             }
             _ => {
                 let operator = self.random.range(1, 5) as u8;
@@ -35,10 +32,9 @@ impl Grower<'_> {
             let expression = self.any_expression(depth);
             return self.builder.term(expression);
         }
-        if let Some(freed) = self.variable_that(|holds| holds == Holds::Freed) {
-            if self.random.chance(20) {
-                return self.builder.variable_term(freed);
-            }
+        let freed = self.variable_that(|holds| holds == Holds::Freed);
+        if let Some(freed) = freed.filter(|_| self.random.chance(20)) {
+            return self.builder.variable_term(freed);
         }
         match self
             .random
@@ -66,28 +62,21 @@ impl Grower<'_> {
             .below(if depth == 0 || self.full() { 5 } else { 9 });
         match choice {
             0 | 1 => self.likely_predicate(),
-            2 => {
+            2 | 3 => {
                 let term = self.pointer_term(depth);
-                self.builder.valid(term)
-            }
-            3 => {
-                let term = self.pointer_term(depth);
-                self.builder.initialised(term)
+                let kind = self.random.pick(&[30, 31]);
+                self.builder.add(kind, 0, [term, 0, 0])
             }
             4 => self.comparison(depth),
             5 => {
                 let predicate = self.predicate(depth - 1);
                 self.builder.not(predicate)
             }
-            6 => {
-                let left = self.predicate(depth - 1);
-                let right = self.predicate(depth - 1);
-                self.builder.and(left, right)
-            }
             _ => {
                 let left = self.predicate(depth - 1);
                 let right = self.predicate(depth - 1);
-                self.builder.or(left, right)
+                let kind = self.random.pick(&[34, 35]);
+                self.builder.add(kind, 0, [left, right, 0])
             }
         }
     }

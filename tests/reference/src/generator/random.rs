@@ -10,7 +10,7 @@ impl Random {
         Random { state: seed }
     }
 
-    pub fn next(&mut self) -> u64 {
+    pub fn draw(&mut self) -> u64 {
         self.state = self.state.wrapping_add(0x9E37_79B9_7F4A_7C15);
         let mixed = (self.state ^ (self.state >> 30)).wrapping_mul(0xBF58_476D_1CE4_E5B9);
         let mixed = (mixed ^ (mixed >> 27)).wrapping_mul(0x94D0_49BB_1331_11EB);
@@ -19,16 +19,21 @@ impl Random {
 
     /// A number below `limit`; 0 where there is none.
     pub fn below(&mut self, limit: u64) -> u64 {
-        self.next().checked_rem(limit).unwrap_or(0)
+        self.draw().checked_rem(limit).unwrap_or(0)
     }
 
     pub fn index(&mut self, length: usize) -> usize {
         self.below(length as u64) as usize
     }
 
-    /// A number from `low` to `high`, both included.
+    /// A number from `low` to `high`, both included; `low` where there is none.
     pub fn range(&mut self, low: i64, high: i64) -> i64 {
-        low + self.below((high - low + 1).max(1) as u64) as i64
+        if high <= low {
+            return low;
+        }
+        let count = high.wrapping_sub(low).wrapping_add(1) as u64;
+        let above = self.draw().checked_rem(count).unwrap_or(0);
+        low.wrapping_add(above as i64)
     }
 
     pub fn chance(&mut self, percent: u64) -> bool {
@@ -40,7 +45,7 @@ impl Random {
     }
 
     pub fn bytes(&mut self, length: usize) -> Vec<u8> {
-        let words = (0..length.div_ceil(8)).flat_map(|_| self.next().to_le_bytes());
+        let words = (0..length.div_ceil(8)).flat_map(|_| self.draw().to_le_bytes());
         let mut bytes: Vec<u8> = words.collect();
         bytes.truncate(length);
         bytes

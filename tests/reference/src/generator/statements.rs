@@ -98,6 +98,16 @@ impl Grower<'_> {
         self.builder.take(place, expression)
     }
 
+    /// The size of a new block: mostly small, now and then one that ends 45 or 30.
+    fn size(&mut self) -> i64 {
+        match self.random.below(30) {
+            0 => self.random.range(-2, 0),
+            1 | 2 => self.random.range(200, 1100),
+            3 => self.random.pick(&[1019, 1020, 1021, 1024, 1025, i64::MAX]),
+            _ => self.random.range(1, 6),
+        }
+    }
+
     fn take_new(&mut self) -> u16 {
         let free = |holds: Holds| !holds.is_live_pointer() && holds != Holds::Count;
         let some = self.variable_that(free);
@@ -107,12 +117,7 @@ impl Grower<'_> {
         } else {
             self.builder.variable(variable)
         };
-        let length = match self.random.below(30) {
-            0 => self.random.range(-2, 0),
-            1 | 2 => self.random.range(200, 1100),
-            3 => self.random.pick(&[1019, 1020, 1021, 1024, 1025, i64::MAX]),
-            _ => self.random.range(1, 6),
-        };
+        let length = self.size();
         let size = if self.random.chance(6) {
             self.integer(2)
         } else {

@@ -6,6 +6,35 @@ use reference::checker::{check_source, check_target};
 use reference::record::{table, Record};
 use reference::Answer;
 
+/// Each kind that names temporaries, with the last mark it may have.
+const LAST_MARKS: [(u8, u8); 11] = [
+    (12, 63),
+    (60, 63),
+    (61, 63),
+    (63, 61),
+    (64, 62),
+    (65, 62),
+    (66, 63),
+    (67, 63),
+    (68, 62),
+    (69, 63),
+    (70, 63),
+];
+
+/// Literals at and around the ends of 1 to 256.
+const LITERALS: [i64; 10] = [
+    i64::MIN,
+    -1,
+    0,
+    1,
+    2,
+    255,
+    256,
+    257,
+    (1 << 32) + 1,
+    i64::MAX,
+];
+
 fn rules() -> Rules {
     Rules {
         forms: target_forms(),
@@ -79,32 +108,15 @@ fn every_mark_outside_its_range_is_4() {
 
 #[test]
 fn naming_a_temporary_above_63_is_4() {
-    let last_marks = [
-        (12, 63),
-        (60, 63),
-        (61, 63),
-        (63, 61),
-        (64, 62),
-        (65, 62),
-        (66, 63),
-    ];
-    for (kind, last) in last_marks
-        .into_iter()
-        .chain([(67, 63), (68, 62), (69, 63), (70, 63)])
-    {
-        let form = target_forms()
-            .into_iter()
-            .find(|form| form.kind == kind)
-            .unwrap();
+    for (kind, last) in LAST_MARKS {
+        let forms = target_forms();
+        let form = *forms.iter().find(|form| form.kind == kind).unwrap();
         let mut around = Around::new(form, 1);
         around.record().mark = last;
         assert_eq!(end(&around.table()), (0, 0), "kind {kind}");
         around.record().mark = last + 1;
-        assert_eq!(
-            end(&around.table()),
-            (4, around.number as u32),
-            "kind {kind}"
-        );
+        let expected = (4, around.number as u32);
+        assert_eq!(end(&around.table()), expected, "kind {kind}");
     }
 }
 
@@ -135,18 +147,7 @@ fn operators_are_1_to_8_and_queries_1_to_5() {
 #[test]
 fn literals_from_kind_40_on_are_1_to_256() {
     for form in target_forms() {
-        for literal in [
-            i64::MIN,
-            -1,
-            0,
-            1,
-            2,
-            255,
-            256,
-            257,
-            (1 << 32) + 1,
-            i64::MAX,
-        ] {
+        for literal in LITERALS {
             let mut around = Around::new(form, 1);
             around.record().literal = literal;
             let allowed = match form.kind {
@@ -154,17 +155,10 @@ fn literals_from_kind_40_on_are_1_to_256() {
                 40.. => (1..=256).contains(&literal),
                 _ => literal == 0,
             };
-            let expected = if allowed {
-                (0, 0)
-            } else {
-                (4, around.number as u32)
-            };
-            assert_eq!(
-                end(&around.table()),
-                expected,
-                "kind {} {literal}",
-                form.kind
-            );
+            let record = around.number as u32;
+            let expected = if allowed { (0, 0) } else { (4, record) };
+            let kind = form.kind;
+            assert_eq!(end(&around.table()), expected, "kind {kind} {literal}");
         }
     }
 }

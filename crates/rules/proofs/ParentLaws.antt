@@ -1,0 +1,248 @@
+-- Parents in a table that keeps 3 to 6: a child's parent is the record that has it, and has a greater number.
+use Prim.Native.Nat.{ℕ, zero, suc, _+_, _≤_, _<_}
+use native.Mathlib.Omega.{arith}
+use native.Mathlib.Decide.{decLt}
+use mathlib.Core.Path.{_≡_, refl, ap, subst}
+use mathlib.Core.Bool.{Bool, true, false, cond, _&&_}
+use mathlib.Core.List.{List}
+use mathlib.Core.Option.{Option, none, some}
+use lib.Dec.{ltb, eqb}
+use borrow.Author.Tests.{ltb-true, ltb-false, lt-ltb, le-ltb, eq-eqb, eqb-true, ne-eqb, not-false}
+use Rattle.rules.specs.Records.{Record, recordCount, kindOf, childA, childB, childC, recordAt}
+use Rattle.rules.specs.Kinds.{Language, Sort, sortNumber, Field, unnamed, child, number, Form, formOf}
+use Rattle.rules.specs.Checker.{fieldFits, literalFits, fieldsFit, sortOf, childFits, childrenFit, faultOf, recordFault, timesIn, timesOf, timesChildOf, timesChild, shapeFault, parentOf}
+use Rattle.rules.specs.declared.Search.{Search}
+use Rattle.rules.specs.declared.Search.the-variants as search
+use Rattle.rules.proofs.SearchLaws.{lowest-nothing, lowest-at, Outcome, lowest-outcome}
+
+-- a table that keeps 3, 4, 5 and 6
+pub record Passed (l : Language) (t : List ℕ) : Type 0 where
+  pub records : (n : ℕ) → 1 ≤ n → n ≤ recordCount t → recordFault l t n ≡ 0
+  pub shape : (n : ℕ) → 1 ≤ n → n ≤ recordCount t → shapeFault l t n ≡ false
+
+pub clash : false ≡ true → ⊥
+clash e = let z : _≡_ {A = ℕ} 0 1 = cc in omega arith
+
+-- tests that all pass
+pub two-pass : (p q : Bool) → (p && q) ≡ true → (p ≡ true) × (q ≡ true)
+two-pass true q e = (refl, e)
+two-pass false q e = absurd (clash e)
+
+pub three-pass : (p q r : Bool) → (p && q && r) ≡ true → (p ≡ true) × (q ≡ true) × (r ≡ true)
+three-pass p q r e =
+    let front : (p && q ≡ true) × (r ≡ true) = two-pass (p && q) r e in
+    let first : (p ≡ true) × (q ≡ true) = two-pass p q (front .0) in
+    (first .0, first .1, front .1)
+
+pub five-pass : (p q r s u : Bool) → (p && q && r && s && u) ≡ true
+    → (p ≡ true) × (q ≡ true) × (r ≡ true) × (s ≡ true) × (u ≡ true)
+five-pass p q r s u e =
+    let back : (p && q && r ≡ true) × (s ≡ true) × (u ≡ true) = three-pass (p && q && r) s u e in
+    let front : (p ≡ true) × (q ≡ true) × (r ≡ true) = three-pass p q r (back .0) in
+    (front .0, front .1, front .2, back .1, back .2)
+
+fits-of : (p q : Bool) → _≡_ {A = ℕ} (cond p (cond q 0 5) 4) 0 → (p ≡ true) × (q ≡ true)
+fits-of true true e = (refl, refl)
+fits-of true false e = absurd (omega arith)
+fits-of false q e = absurd (omega arith)
+
+module _ (l : Language) (t : List ℕ) (m : ℕ) where
+  -- what is a child in a field of record m
+  in-field : (F : Field) (x c : ℕ) → fieldFits F x ≡ true → childFits l t m F x ≡ true → 0 < timesIn F x c
+      → (0 < c) × (c < m)
+  in-field unnamed x c f g h = absurd (omega arith)
+  in-field (number p) x c f g h = absurd (omega arith)
+  in-field (child s) x c f g h = go (eqb x c) refl h
+    where
+      go : (b : Bool) → eqb x c ≡ b → 0 < cond b 1 0 → (0 < c) × (c < m)
+      go false e k = absurd (omega arith)
+      go true e k =
+          let both = two-pass (ltb x m) (eqb (sortOf l (kindOf t x)) (sortNumber s)) g in
+          omega (arith, eqb-true x c e, ltb-true 0 x f, ltb-true x m (both .0))
+
+  in-fields : (f : Form) (r : Record) (c : ℕ) → fieldsFit f r ≡ true → childrenFit l t m f r ≡ true
+      → 0 < timesOf (some f) r c → (0 < c) × (c < m)
+  in-fields f r c p q h =
+      let ps = five-pass (fieldFits (f .mark) (r .mark)) (fieldFits (f .a) (r .a)) (fieldFits (f .b) (r .b))
+        (fieldFits (f .c) (r .c)) (literalFits (f .literal) (r .literal)) p in
+      let qs = three-pass (childFits l t m (f .a) (r .a)) (childFits l t m (f .b) (r .b))
+        (childFits l t m (f .c) (r .c)) q in
+      go (decLt 0 (timesIn (f .a) (r .a) c)) (decLt 0 (timesIn (f .b) (r .b) c))
+        (in-field (f .a) (r .a) c (ps .1) (qs .0))
+        (in-field (f .b) (r .b) c (ps .2) (qs .1))
+        (in-field (f .c) (r .c) c (ps .3) (qs .2))
+    where
+      go : Dec (0 < timesIn (f .a) (r .a) c) → Dec (0 < timesIn (f .b) (r .b) c)
+          → (0 < timesIn (f .a) (r .a) c → (0 < c) × (c < m)) → (0 < timesIn (f .b) (r .b) c → (0 < c) × (c < m))
+          → (0 < timesIn (f .c) (r .c) c → (0 < c) × (c < m)) → (0 < c) × (c < m)
+      go (yes u) v a b d = a u
+      go (no u) (yes v) a b d = b v
+      go (no u) (no v) a b d = d (omega arith)
+
+  in-record : (o : Option Form) (c : ℕ) → faultOf l t m o ≡ 0 → 0 < timesOf o (recordAt t m) c → (0 < c) × (c < m)
+  in-record none c e h = absurd (omega arith)
+  in-record (some f) c e h =
+      let both : (fieldsFit f (recordAt t m) ≡ true) × (childrenFit l t m f (recordAt t m) ≡ true) = fits-of _ _ e in
+      in-fields f (recordAt t m) c (both .0) (both .1) h
+
+  pub child-below : (c : ℕ) → recordFault l t m ≡ 0 → 0 < timesChildOf l t m c → (0 < c) × (c < m)
+  unfolding recordFault timesChildOf
+  child-below c e h = in-record (formOf l (kindOf t m)) c e h
+
+-- ---- counts
+module _ (l : Language) (t : List ℕ) (c : ℕ) where
+  pub times-suc : (k : ℕ) → timesChild l t (suc k) c ≡ timesChild l t k c + timesChildOf l t (suc k) c
+  unfolding timesChild
+  times-suc k = refl
+
+  pub times-zero : timesChild l t 0 c ≡ 0
+  unfolding timesChild
+  times-zero = refl
+
+  times-same : (i j : ℕ) → i ≡ j → timesChildOf l t i c ≡ timesChildOf l t j c
+  times-same i j e = ap (λ (n : ℕ). timesChildOf l t n c) e
+
+  -- the count holds what any record, and any two, add to it
+  pub times-least : (i k : ℕ) → 1 ≤ i → i ≤ k → timesChildOf l t i c ≤ timesChild l t k c
+  times-least i zero p q = absurd (omega arith)
+  times-least i (suc k) p q = go (decLt i (suc k)) (times-least i k p)
+    where
+      go : Dec (i < suc k) → (i ≤ k → timesChildOf l t i c ≤ timesChild l t k c)
+          → timesChildOf l t i c ≤ timesChild l t (suc k) c
+      go (yes h) f = omega (arith, times-suc k, f (omega arith))
+      go (no h) f = omega (arith, times-suc k, times-same i (suc k) (omega arith))
+
+  pub times-both : (i n k : ℕ) → 1 ≤ i → i < n → n ≤ k
+      → timesChildOf l t i c + timesChildOf l t n c ≤ timesChild l t k c
+  times-both i n zero p q r = absurd (omega arith)
+  times-both i n (suc k) p q r = go (decLt n (suc k)) (times-both i n k p q)
+    where
+      go : Dec (n < suc k) → (n ≤ k → timesChildOf l t i c + timesChildOf l t n c ≤ timesChild l t k c)
+          → timesChildOf l t i c + timesChildOf l t n c ≤ timesChild l t (suc k) c
+      go (yes h) f = omega (arith, times-suc k, f (omega arith))
+      go (no h) f = omega (arith, times-suc k, times-same n (suc k) (omega arith), times-least i k p (omega arith))
+
+  pub times-none : (k : ℕ) → ((i : ℕ) → 1 ≤ i → i ≤ k → timesChildOf l t i c ≡ 0) → timesChild l t k c ≡ 0
+  times-none zero h = times-zero
+  times-none (suc k) h =
+      omega (arith, times-suc k, times-none k (λ i p q. h i p (omega arith)), h (suc k) (omega arith) (omega arith))
+
+  -- what the search for a parent finds
+  pub parent-outcome : Outcome (λ m. ltb 0 (timesChildOf l t m c)) 1 (recordCount t) (parentOf l t c)
+  unfolding parentOf
+  parent-outcome = lowest-outcome (λ m. ltb 0 (timesChildOf l t m c)) 1 (recordCount t)
+
+  pub parent-lowest : (n : ℕ) → 1 ≤ n → n ≤ recordCount t → 0 < timesChildOf l t n c
+      → ((i : ℕ) → 1 ≤ i → i < n → timesChildOf l t i c ≡ 0) → parentOf l t c ≡ search.At n
+  unfolding parentOf
+  parent-lowest n p q h f =
+      lowest-at (λ m. ltb 0 (timesChildOf l t m c)) 1 (recordCount t) n p (omega arith) (lt-ltb 0 _ h)
+        (λ i a b. le-ltb 0 (timesChildOf l t i c) (omega (arith, f i a b)))
+
+  pub parent-none : ((i : ℕ) → 1 ≤ i → i ≤ recordCount t → timesChildOf l t i c ≡ 0) → parentOf l t c ≡ search.Nothing
+  unfolding parentOf
+  parent-none f =
+      lowest-nothing (λ m. ltb 0 (timesChildOf l t m c)) 1 (recordCount t)
+        (λ i a b. le-ltb 0 (timesChildOf l t i c) (omega (arith, f i a (omega arith))))
+
+-- what 6 asks of another record than the last
+once-of : (l : Language) (t : List ℕ) (c : ℕ) → eqb c (recordCount t) ≡ false → shapeFault l t c ≡ false
+    → timesChild l t (recordCount t) c ≡ 1
+unfolding shapeFault
+once-of l t c e h = eqb-true (timesChild l t (recordCount t) c) 1 (not-false _ (rw (e, shapeFault) at h))
+
+-- ---- a table that keeps 3 to 6
+pub record IsParent (l : Language) (t : List ℕ) (m c : ℕ) : Type 0 where
+  pub in-table : (1 ≤ m) × (m ≤ recordCount t)
+  pub has-child : 0 < timesChildOf l t m c
+
+pub record Parent (l : Language) (t : List ℕ) (c : ℕ) : Type 0 where
+  pub number : ℕ
+  pub is-parent : IsParent l t number c
+
+pub parent-is : (l : Language) (t : List ℕ) (m c : ℕ) → parentOf l t c ≡ search.At m → IsParent l t m c
+parent-is l t m c e =
+    let h : (1 ≤ m) × (m < 1 + recordCount t) × (ltb 0 (timesChildOf l t m c) ≡ true) =
+        subst (Outcome (λ m. ltb 0 (timesChildOf l t m c)) 1 (recordCount t)) e (parent-outcome l t c) in
+    record { in-table = omega arith; has-child = ltb-true 0 (timesChildOf l t m c) (h .2) }
+
+-- a record has those for children that stand in its fields for children
+module _ (l : Language) (t : List ℕ) (n : ℕ) (f : Form) (s : Sort) (is-form : formOf l (kindOf t n) ≡ some f)
+    (in-table : (1 ≤ n) × (n ≤ recordCount t)) where
+  times-of : (c : ℕ) → timesChildOf l t n c
+      ≡ timesIn (f .a) (childA t n) c + timesIn (f .b) (childB t n) c + timesIn (f .c) (childC t n) c
+  unfolding timesChildOf
+  times-of c = ap (λ (o : Option Form). timesOf o (recordAt t n) c) is-form
+
+  times-self : (F : Field) (c : ℕ) → F ≡ child s → timesIn F c c ≡ 1
+  times-self F c e = rw (e, eq-eqb c c refl)
+
+  pub parent-a : f .a ≡ child s → IsParent l t n (childA t n)
+  parent-a e = record {
+    in-table = in-table;
+    has-child = omega (arith, times-of (childA t n), times-self (f .a) (childA t n) e) }
+
+  pub parent-b : f .b ≡ child s → IsParent l t n (childB t n)
+  parent-b e = record {
+    in-table = in-table;
+    has-child = omega (arith, times-of (childB t n), times-self (f .b) (childB t n) e) }
+
+  pub parent-c : f .c ≡ child s → IsParent l t n (childC t n)
+  parent-c e = record {
+    in-table = in-table;
+    has-child = omega (arith, times-of (childC t n), times-self (f .c) (childC t n) e) }
+
+module _ (l : Language) (t : List ℕ) (keeps : Passed l t) where
+  pub parent-above : (m c : ℕ) → IsParent l t m c → (0 < c) × (c < m)
+  parent-above m c h = child-below l t m c (keeps .records m (h .in-table .0) (h .in-table .1)) (h .has-child)
+
+  -- another record than the last is a child exactly once
+  pub child-once : (c : ℕ) → 1 ≤ c → c < recordCount t → timesChild l t (recordCount t) c ≡ 1
+  child-once c p q = once-of l t c (ne-eqb c (recordCount t) (omega arith)) (keeps .shape c p (omega arith))
+
+  -- a child's parent is the record that has it
+  pub parent-of-child : (m c : ℕ) → IsParent l t m c → parentOf l t c ≡ search.At m
+  parent-of-child m c h =
+      let below : (0 < c) × (c < m) = parent-above m c h in
+      parent-lowest l t c m (h .in-table .0) (h .in-table .1) (h .has-child)
+        (λ i a b. omega (arith, times-both l t c i m (recordCount t) a b (h .in-table .1), h .has-child,
+          child-once c (below .0) (omega arith)))
+
+  -- the last record has none
+  pub last-parent : (n : ℕ) → recordCount t ≤ n → parentOf l t n ≡ search.Nothing
+  last-parent n h = parent-none l t n (λ i a b. go i a b (decLt 0 (timesChildOf l t i n)))
+    where
+      go : (i : ℕ) → 1 ≤ i → i ≤ recordCount t → Dec (0 < timesChildOf l t i n) → timesChildOf l t i n ≡ 0
+      go i a b (no q) = omega arith
+      go i a b (yes q) = absurd (omega (arith, parent-above i n (record { in-table = (a, b); has-child = q })))
+
+  -- every other record has one
+  pub has-parent : (c : ℕ) → 1 ≤ c → c < recordCount t → Parent l t c
+  has-parent c p q = go (parentOf l t c) (parent-outcome l t c)
+    where
+      go : (s : Search) → Outcome (λ m. ltb 0 (timesChildOf l t m c)) 1 (recordCount t) s → Parent l t c
+      go (search.At m) h = record {
+        number = m;
+        is-parent = record { in-table = omega arith; has-child = ltb-true 0 (timesChildOf l t m c) (h .2) } }
+      go search.Nothing h =
+          absurd (omega (arith, child-once c p q, times-none l t c (recordCount t)
+            (λ i a b. omega (arith, ltb-false 0 (timesChildOf l t i c) (h i a (omega arith))))))
+
+  -- every record is reached from the last by going to children
+  pub by-descent : (P : ℕ → Type 0) → P (recordCount t) → ((m c : ℕ) → IsParent l t m c → P m → P c)
+      → (n : ℕ) → 1 ≤ n → n ≤ recordCount t → P n
+  by-descent P last down n p q = reach (recordCount t) n p q (omega arith)
+    where
+      here : (n : ℕ) → n ≤ recordCount t → recordCount t ≤ n → P n
+      here n q h = subst P (omega arith) last
+      over : (d n : ℕ) → 1 ≤ n → n ≤ recordCount t → recordCount t ≤ n + suc d
+          → ((m : ℕ) → 1 ≤ m → m ≤ recordCount t → recordCount t ≤ m + d → P m) → Dec (n < recordCount t) → P n
+      over d n p q h f (no r) = here n q (omega arith)
+      over d n p q h f (yes r) =
+          let above : Parent l t n = has-parent n p r in
+          let m : ℕ = above .number in
+          let is : IsParent l t m n = above .is-parent in
+          down m n is (f m (is .in-table .0) (is .in-table .1) (omega (arith, parent-above m n is)))
+      reach : (d n : ℕ) → 1 ≤ n → n ≤ recordCount t → recordCount t ≤ n + d → P n
+      reach zero n p q h = here n q (omega arith)
+      reach (suc d) n p q h = over d n p q h (λ m a b e. reach d m a b e) (decLt n (recordCount t))

@@ -1,0 +1,84 @@
+-- The tree of an accepted source table is sound.
+use Prim.Native.Nat.{ℕ, zero, suc, _≤_, _<_}
+use native.Mathlib.Omega.{arith}
+use mathlib.Core.Bool.{true, false, cond}
+use mathlib.Core.List.{List}
+use mathlib.Core.Path.{_≡_, refl}
+use borrow.Author.Tests.{leb-true, eq-eqb}
+use lib.Dec.{leb, eqb}
+use Rattle.rules.specs.Records.{markOf, childA, childB}
+use Rattle.rules.specs.Kinds.{source, Sort, between}
+use Rattle.rules.specs.Checker.{check}
+use Rattle.rules.specs.declared.Checked.the-variants as checked
+use Rattle.rules.specs.Trees.{Term}
+use Rattle.rules.specs.Nodes.{operatorOf, asTerm, nodeAt, sourceProgram}
+use Rattle.rules.proofs.Sound.{Scope, startScope, isPlainOperator, SoundTerm, SoundStatement}
+use Rattle.rules.proofs.Acceptance.{Accepted, accepted-says}
+use Rattle.rules.proofs.KindViews.{and-split, formAt, SourceKind, literal, read, address, operation, shifted, variable, pointed, value, base, offset, blockLength, combined, valid, initialised, compared, negated, both, either, skip, assign, new, free, sequence, branch, while, letIn, assert}
+use Rattle.rules.proofs.FormLaws.{nodeAs}
+use Rattle.rules.proofs.Descent.{scopeAt, levelAt}
+use Rattle.rules.proofs.Readiness.{SoundAs, Ready, sound-last}
+
+pub up-to : (high x : ℕ) → between 0 high x ≡ true → x ≤ high
+up-to high x h = leb-true x high (and-split (leb 0 x) (leb x high) h .1)
+
+-- operators 1–7
+pub plain-operator : (m : ℕ) → between 1 7 m ≡ true → isPlainOperator (operatorOf m) ≡ true
+plain-operator m h =
+    let r = and-split (leb 1 m) (leb m 7) h in
+    go m (leb-true 1 m (r .0)) (leb-true m 7 (r .1))
+  where
+    go : (m : ℕ) → 1 ≤ m → m ≤ 7 → isPlainOperator (operatorOf m) ≡ true
+    go zero p q = absurd (omega arith)
+    go (suc zero) p q = refl
+    go (suc (suc zero)) p q = refl
+    go (suc (suc (suc zero))) p q = refl
+    go (suc (suc (suc (suc zero)))) p q = refl
+    go (suc (suc (suc (suc (suc zero))))) p q = refl
+    go (suc (suc (suc (suc (suc (suc zero)))))) p q = refl
+    go (suc (suc (suc (suc (suc (suc (suc zero))))))) p q = refl
+    go (suc (suc (suc (suc (suc (suc (suc (suc m)))))))) p q = absurd (omega arith)
+
+-- A at the next level, B at the one after it
+two-terms : (x y : Term) (ρ : Scope) (v a b : ℕ) → suc (suc v) < 64 → eqb b a ≡ false
+    → SoundTerm x ρ (cond (eqb b a) (suc (suc v)) (suc v)) → SoundTerm y ρ (cond (eqb b b) (suc (suc v)) (suc v))
+    → (suc (suc v) < 64) × SoundTerm x ρ (suc v) × SoundTerm y ρ (suc (suc v))
+two-terms x y ρ v a b h e p q = (h, rw e at p, rw (eq-eqb b b refl) at q)
+
+source-arm : (t : List ℕ) (n : ℕ) {s : Sort} {k : ℕ} → SourceKind s k → Ready source t n (formAt source k)
+    → SoundAs source s (nodeAs source k t n) (scopeAt source t n) (levelAt source t n)
+source-arm t n literal r = r .range
+source-arm t n read r = r .a
+source-arm t n address r = r .a
+source-arm t n operation r = (plain-operator (markOf t n) (r .holds .mark), r .a, r .b)
+source-arm t n shifted r = (r .a, r .b)
+source-arm t n variable r = (omega (arith, up-to 63 (markOf t n) (r .holds .mark)), r .uses refl)
+source-arm t n pointed r = r .a
+source-arm t n value r = (r .names refl, r .a)
+source-arm t n base r = (r .names refl, r .a)
+source-arm t n offset r = (r .names refl, r .a)
+source-arm t n blockLength r = (r .names refl, r .a)
+source-arm t n combined r =
+    two-terms (asTerm (nodeAt source t (childA t n))) (asTerm (nodeAt source t (childB t n))) (scopeAt source t n)
+    (levelAt source t n) (childA t n) (childB t n) (r .names refl) (r .apart) (r .a) (r .b)
+source-arm t n valid r = (r .names refl, r .a)
+source-arm t n initialised r = (r .names refl, r .a)
+source-arm t n compared r =
+    two-terms (asTerm (nodeAt source t (childA t n))) (asTerm (nodeAt source t (childB t n))) (scopeAt source t n)
+    (levelAt source t n) (childA t n) (childB t n) (r .names refl) (r .apart) (r .a) (r .b)
+source-arm t n negated r = (r .names refl, r .a)
+source-arm t n both r = (r .names refl, r .a, r .b)
+source-arm t n either r = (r .names refl, r .a, r .b)
+source-arm t n skip r = (r .from-one, r .within)
+source-arm t n assign r = ((r .from-one, r .within), r .a, r .b)
+source-arm t n new r = ((r .from-one, r .within), r .a, r .b)
+source-arm t n free r = ((r .from-one, r .within), r .a)
+source-arm t n sequence r = ((r .from-one, r .within), r .a, r .b)
+source-arm t n branch r = ((r .from-one, r .within), r .a, r .b, r .c)
+source-arm t n while r = ((r .from-one, r .within), r .a, r .b)
+source-arm t n letIn r =
+    ((r .from-one, r .within), omega (arith, up-to 63 (markOf t n) (r .holds .mark)), r .lets refl, r .a)
+source-arm t n assert r = ((r .from-one, r .within), r .a)
+
+pub sound-source : (t : List ℕ) → check source t ≡ checked.Accepted → SoundStatement (sourceProgram t) startScope
+sound-source t h = sound-last source t (accepted-says source t h) (λ n s k v r. source-arm t n v r)

@@ -1,0 +1,59 @@
+//! Running and building the programs of these tests.
+
+use reference::builder::Builder;
+use reference::host::{inputs, plain, translated, watched};
+use reference::Answer;
+
+/// Both runs on inputs 7, 9 with this fuel.
+pub fn both(b: &Builder, fuel: u32) -> (Answer, Vec<u8>) {
+    let (source, inputs) = (b.table(), inputs(&[7, 9]));
+    let (answer, memory) = plain(&source, &inputs, fuel);
+    let target = translated(&source).expect("accepted");
+    let (watched_answer, watched_memory, _) = watched(&target, &inputs, fuel);
+    assert_eq!((answer, &memory), (watched_answer, &watched_memory));
+    (answer, memory)
+}
+
+/// Builds a program, which tells the statement it should name, and expects its ending.
+pub fn ends(number: u32, build: impl FnOnce(&mut Builder) -> u16) {
+    let mut b = Builder::source();
+    let statement = build(&mut b);
+    let (answer, _) = both(&b, 1000);
+    assert_eq!(
+        (answer.number, answer.record),
+        (number, u32::from(statement))
+    );
+}
+
+/// Division of 1 by 0, which ends 44.
+pub fn zero_divisor(b: &mut Builder) -> u16 {
+    let one = b.literal(1);
+    let zero = b.literal(0);
+    b.operator(4, one, zero)
+}
+
+/// Addition that ends 43.
+pub fn overflow(b: &mut Builder) -> u16 {
+    let most = b.literal(i64::MAX);
+    let one = b.literal(1);
+    b.operator(1, most, one)
+}
+
+/// let 1 in (variable 0 takes the expression), where variable 1 is undefined.
+pub fn with_expression(b: &mut Builder, build: impl FnOnce(&mut Builder) -> u16) -> u16 {
+    let place = b.variable(0);
+    let expression = build(b);
+    let take = b.take(place, expression);
+    b.let_in(1, take);
+    take
+}
+
+/// let 1 in (1 = new 2; free 1; the rest), where variable 1 points to a dead block.
+pub fn with_dead_block(b: &mut Builder, build: impl FnOnce(&mut Builder) -> u16) -> u16 {
+    let new = b.new_in(1, 2);
+    let free = b.free_variable(1);
+    let rest = build(b);
+    let body = b.sequence(&[new, free, rest]);
+    b.let_in(1, body);
+    rest
+}
