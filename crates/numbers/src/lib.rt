@@ -1,0 +1,185 @@
+// The operators on integers, exact. No function has a `requires`; the pointer shift's offset sum is `add`.
+ghost use mathlib.Core.Path.{_≡_};
+ghost use lib.IntN.{natAbs, _+ℤ_, _-ℤ_, _*ℤ_};
+ghost use lib.Signed.{leZ};
+ghost use Prim.Native.Nat.{_*_, _<_};
+ghost use lib.Dec.{leb};
+ghost use mir.Syntax.{w64};
+ghost use mir.Val.{ofZ, toZ};
+ghost use Rattle.rules.specs.Numbers.{ranged, signed, divided, towardZero, toNearest, sameInteger};
+use rules::Number;
+
+pub fn add(a: i64, b: i64) -> Number
+    ensures { λ r. ⌜ r ≡ ranged (a +ℤ b) ⌝ }
+{
+    if 0 <= b {
+        if a <= 9223372036854775807 - b {
+            Number::Is(a + b)
+        } else {
+            Number::Overflow
+        }
+    } else {
+        if (-9223372036854775808) - b <= a {
+            Number::Is(a + b)
+        } else {
+            Number::Overflow
+        }
+    }
+}
+
+pub fn subtract(a: i64, b: i64) -> Number
+    ensures { λ r. ⌜ r ≡ ranged (a -ℤ b) ⌝ }
+{
+    if 0 <= b {
+        if (-9223372036854775808) + b <= a {
+            Number::Is(a - b)
+        } else {
+            Number::Overflow
+        }
+    } else {
+        if a <= 9223372036854775807 + b {
+            Number::Is(a - b)
+        } else {
+            Number::Overflow
+        }
+    }
+}
+
+// At most 2^63.
+fn magnitude(a: i64) -> u64
+    ensures { λ r. ⌜ r ≡ natAbs a ⌝ }
+{
+    if a < 0 {
+        ((-1 - a) as u64) + 1
+    } else {
+        a as u64
+    }
+}
+
+// The number of a sign and a magnitude.
+fn from_parts(negative: bool, m: u64) -> Number
+    ensures { λ r. ⌜ r ≡ ranged (signed negative m) ⌝ }
+{
+    if negative {
+        if m == 0 {
+            Number::Is(0)
+        } else if m <= 9223372036854775808 {
+            Number::Is(-1 - ((m - 1) as i64))
+        } else {
+            Number::Overflow
+        }
+    } else {
+        if m < 9223372036854775808 {
+            Number::Is(m as i64)
+        } else {
+            Number::Overflow
+        }
+    }
+}
+
+// The number of a sign and the product of two magnitudes.
+fn from_product(negative: bool, x: u64, y: u64) -> Number
+    ensures { λ r. ⌜ r ≡ ranged (signed negative (x * y)) ⌝ }
+{
+    if y == 0 {
+        return Number::Is(0);
+    }
+    if 9223372036854775808 / y < x {
+        return Number::Overflow;
+    }
+    from_parts(negative, x * y)
+}
+
+// Small magnitudes are multiplied as they are; only large ones cost a division.
+pub fn multiply(a: i64, b: i64) -> Number
+    ensures { λ r. ⌜ r ≡ ranged (a *ℤ b) ⌝ }
+{
+    let x = magnitude(a);
+    let y = magnitude(b);
+    if x < 2147483648 {
+        if y < 2147483648 {
+            return Number::Is(a * b);
+        }
+    }
+    from_product((a < 0) != (b < 0), x, y)
+}
+
+// Rounded toward zero.
+pub fn divide(a: i64, b: i64) -> Number
+    ensures { λ r. ⌜ r ≡ divided towardZero a b ⌝ }
+{
+    if b == 0 {
+        return Number::ZeroDivisor;
+    }
+    if b == -1 {
+        return subtract(0, a);
+    }
+    Number::Is(a / b)
+}
+
+// Whether twice the magnitude of r is at least that of b.
+fn half_or_more(r: i64, b: i64) -> bool
+    requires { ⌜ natAbs r < natAbs b ⌝ }
+    ensures { λ t. ⌜ t ≡ leb (natAbs b) (2 * natAbs r) ⌝ }
+{
+    let m = magnitude(r);
+    let d = magnitude(b);
+    d - m <= m
+}
+
+// Rounded to the nearest, a half away from zero.
+pub fn divide_nearest(a: i64, b: i64) -> Number
+    ensures { λ r. ⌜ r ≡ divided toNearest a b ⌝ }
+{
+    if b == 0 {
+        return Number::ZeroDivisor;
+    }
+    if b == -1 {
+        return subtract(0, a);
+    }
+    let q = a / b;
+    let r = a % b;
+    if half_or_more(r, b) {
+        if (a < 0) != (b < 0) {
+            Number::Is(q - 1)
+        } else {
+            Number::Is(q + 1)
+        }
+    } else {
+        Number::Is(q)
+    }
+}
+
+pub fn at_most(a: i64, b: i64) -> bool
+    ensures { λ r. ⌜ r ≡ leZ a b ⌝ }
+{
+    a <= b
+}
+
+pub fn equal(a: i64, b: i64) -> bool
+    ensures { λ r. ⌜ r ≡ sameInteger a b ⌝ }
+{
+    a == b
+}
+
+// The 64 bits of a, in two's complement.
+pub fn to_bits(a: i64) -> u64
+    ensures { λ r. ⌜ r ≡ ofZ w64 a ⌝ }
+{
+    if a < 0 {
+        18446744073709551615 - ((-1 - a) as u64)
+    } else {
+        a as u64
+    }
+}
+
+// The number that 64 bits are in two's complement.
+pub fn from_bits(v: u64) -> i64
+    ensures { λ r. ⌜ r ≡ toZ w64 v ⌝ }
+{
+    if v < 9223372036854775808 {
+        v as i64
+    } else {
+        -1 - ((18446744073709551615 - v) as i64)
+    }
+}
