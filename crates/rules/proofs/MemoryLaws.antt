@@ -1,0 +1,188 @@
+-- Facts about lists by place and by name, runs of places, searches and coverage.
+use Prim.Native.Nat.{ℕ, zero, suc, _+_, _-_, _≤_, _<_}
+use native.Mathlib.Omega.{arith}
+use native.Mathlib.Decide.{ℕ-discrete}
+use mathlib.Core.Path.{_≡_, refl, sym, ap, _∙_}
+use mathlib.Core.Logic.{_≢_, _⊎_, inl, inr}
+use mathlib.Core.Bool.{Bool, true, false, _&&_}
+use mathlib.Core.List.{List, [], _∷_, map}
+use lib.Dec.{leb, ltb}
+use lib.ListN.{length, getD, set, length-set, List·getD-map}
+use lib.Seq.{getD-set-same, getD-set-other}
+use borrow.Author.Tests.{leb-true, leb-false, ltb-true, ltb-false}
+use Rattle.rules.specs.Checker.{lowest}
+use Rattle.rules.specs.Memory.{named, rename, fill, allFree, one}
+use Rattle.rules.specs.Observation.{covers, covered}
+use Rattle.rules.specs.declared.Search.{Search}
+use Rattle.rules.specs.declared.Search.the-variants as search
+use Rattle.rules.specs.declared.Recorded.{Recorded}
+use Rattle.rules.specs.declared.Recorded.the-variants as recorded
+
+pub true-is-not-false : _≡_ {A = Bool} true false → ⊥
+true-is-not-false e = let z : _≡_ {A = ℕ} 0 1 = cc in omega arith
+
+module _ {A B : Type 0} (g : A → B) where
+  pub map-set : (l : List A) (i : ℕ) (x : A) → map g (set l i x) ≡ set (map g l) i (g x)
+  map-set [] i x = refl
+  map-set (y ∷ l) zero x = refl
+  map-set (y ∷ l) (suc i) x = ap (λ r. g y ∷ r) (map-set l i x)
+
+  pub map-rename : (l : List A) (k : ℕ) (x : A) → map g (rename l k x) ≡ rename (map g l) k (g x)
+  map-rename l zero x = refl
+  map-rename l (suc k) x = map-set l k x
+
+  pub map-fill : (l : List A) (s n : ℕ) (x : A) → map g (fill l s n x) ≡ fill (map g l) s n (g x)
+  map-fill [] s n x = refl
+  map-fill (y ∷ l) zero zero x = refl
+  map-fill (y ∷ l) zero (suc n) x = ap (λ r. g x ∷ r) (map-fill l zero n x)
+  map-fill (y ∷ l) (suc s) n x = ap (λ r. g y ∷ r) (map-fill l s n x)
+
+  pub named-map : (l : List A) (k : ℕ) (d : A) → named (map g l) k (g d) ≡ g (named l k d)
+  named-map l zero d = refl
+  named-map l (suc k) d = List·getD-map g l k d
+
+module _ {A : Type 0} where
+  pub length-rename : (l : List A) (k : ℕ) (x : A) → length (rename l k x) ≡ length l
+  length-rename l zero x = refl
+  length-rename l (suc k) x = length-set l k x
+
+  pub length-fill : (l : List A) (s n : ℕ) (x : A) → length (fill l s n x) ≡ length l
+  length-fill [] s n x = refl
+  length-fill (y ∷ l) zero zero x = refl
+  length-fill (y ∷ l) zero (suc n) x = ap suc (length-fill l zero n x)
+  length-fill (y ∷ l) (suc s) n x = ap suc (length-fill l s n x)
+
+  pub named-rename-same : (l : List A) (k : ℕ) (x d : A) → 1 ≤ k → k ≤ length l → named (rename l k x) k d ≡ x
+  named-rename-same l zero x d h le = absurd (omega arith)
+  named-rename-same l (suc k) x d h le = getD-set-same l k x d (omega arith)
+
+  pub named-rename-other : (l : List A) (k j : ℕ) (x d : A) → j ≢ k → named (rename l k x) j d ≡ named l j d
+  named-rename-other l zero j x d h = refl
+  named-rename-other l (suc k) zero x d h = refl
+  named-rename-other l (suc k) (suc j) x d h = getD-set-other l k j x d (λ e. h (ap suc e))
+
+  -- what a name names after another was set: that, or what it named
+  pub named-rename : (l : List A) (k j : ℕ) (x d : A)
+      → (named (rename l k x) j d ≡ x) ⊎ (named (rename l k x) j d ≡ named l j d)
+  named-rename l zero j x d = inr refl
+  named-rename l (suc k) zero x d = inr refl
+  named-rename l (suc k) (suc j) x d = go l k j
+    where
+      go : (l : List A) (k j : ℕ) → (getD (set l k x) j d ≡ x) ⊎ (getD (set l k x) j d ≡ getD l j d)
+      go [] k j = inr refl
+      go (y ∷ l) zero zero = inl refl
+      go (y ∷ l) zero (suc j) = inr refl
+      go (y ∷ l) (suc k) zero = inr refl
+      go (y ∷ l) (suc k) (suc j) = go l k j
+
+  pub fill-inside : (l : List A) (s n : ℕ) (x : A) (i : ℕ) (d : A) → i < length l → s ≤ i → i < s + n
+      → getD (fill l s n x) i d ≡ x
+  fill-inside [] s n x i d h p q = absurd (omega arith)
+  fill-inside (y ∷ l) zero zero x i d h p q = absurd (omega arith)
+  fill-inside (y ∷ l) zero (suc n) x zero d h p q = refl
+  fill-inside (y ∷ l) zero (suc n) x (suc i) d h p q =
+      fill-inside l zero n x i d (omega arith) (omega arith) (omega arith)
+  fill-inside (y ∷ l) (suc s) n x zero d h p q = absurd (omega arith)
+  fill-inside (y ∷ l) (suc s) n x (suc i) d h p q = fill-inside l s n x i d (omega arith) (omega arith) (omega arith)
+
+  pub fill-below : (l : List A) (s n : ℕ) (x : A) (i : ℕ) (d : A) → i < s → getD (fill l s n x) i d ≡ getD l i d
+  fill-below [] s n x i d h = refl
+  fill-below (y ∷ l) zero n x i d h = absurd (omega arith)
+  fill-below (y ∷ l) (suc s) n x zero d h = refl
+  fill-below (y ∷ l) (suc s) n x (suc i) d h = fill-below l s n x i d (omega arith)
+
+  pub fill-above : (l : List A) (s n : ℕ) (x : A) (i : ℕ) (d : A) → s + n ≤ i → getD (fill l s n x) i d ≡ getD l i d
+  fill-above [] s n x i d h = refl
+  fill-above (y ∷ l) zero zero x i d h = refl
+  fill-above (y ∷ l) zero (suc n) x zero d h = absurd (omega arith)
+  fill-above (y ∷ l) zero (suc n) x (suc i) d h = fill-above l zero n x i d (omega arith)
+  fill-above (y ∷ l) (suc s) n x zero d h = absurd (omega arith)
+  fill-above (y ∷ l) (suc s) n x (suc i) d h = fill-above l s n x i d (omega arith)
+
+-- what a search finds
+abbrev pub Passes : (ℕ → Bool) → ℕ → ℕ → Search → Type 0
+Passes p j k search.Nothing = Unit {0}
+Passes p j k (search.At s) = (p s ≡ true) × (j ≤ s) × (s < j + k)
+
+pub lowest-passes : (p : ℕ → Bool) (j k : ℕ) → Passes p j k (lowest p j k)
+unfolding lowest
+lowest-passes p j zero = tt
+lowest-passes p j (suc k) = go (p j) refl (lowest-passes p (suc j) k)
+  where
+    later : (r : Search) → Passes p (suc j) k r → Passes p j (suc k) r
+    later search.Nothing h = tt
+    later (search.At s) h = (h .0, omega arith, omega arith)
+
+    go : (b : Bool) → p j ≡ b → Passes p (suc j) k (lowest p (suc j) k)
+        → Passes p j (suc k) (elim b [ true ↦ search.At j | false ↦ lowest p (suc j) k ])
+    go true e h = (e, omega arith, omega arith)
+    go false e h = later (lowest p (suc j) k) h
+
+pub allFree-at : (p : ℕ → Bool) (s n i : ℕ) → allFree p s n ≡ true → s ≤ i → i < s + n → p i ≡ true
+unfolding allFree
+allFree-at p s zero i e a b = absurd (omega arith)
+allFree-at p s (suc n) i e a b = go (p s) refl e (ℕ-discrete i s) (λ h c d. allFree-at p (suc s) n i h c d)
+  where
+    go : (c : Bool) → p s ≡ c → (elim c [ true ↦ allFree p (suc s) n | false ↦ false ]) ≡ true → Dec (i ≡ s)
+        → (allFree p (suc s) n ≡ true → suc s ≤ i → i < suc s + n → p i ≡ true) → p i ≡ true
+    go false g h d k = absurd (true-is-not-false (sym h))
+    go true g h (yes d) k = ap p d ∙ g
+    go true g h (no d) k = k h (omega arith) (omega arith)
+
+-- where place i lies, by what `covers` says of n places from s on
+pub data Covering (s n i : ℕ) : Bool → Type 0 where
+  inside : s ≤ i → i < s + n → Covering s n i true
+  below : i < s → Covering s n i false
+  above : s + n ≤ i → Covering s n i false
+
+pub covering : (s n i : ℕ) → Covering s n i (covers (recorded.Live s n) i)
+covering s n i = go (leb s i) (ltb i (s + n)) refl refl
+  where
+    go : (b c : Bool) → leb s i ≡ b → ltb i (s + n) ≡ c → Covering s n i (b && c)
+    go false c p q = below (leb-false s i p)
+    go true true p q = inside (leb-true s i p) (ltb-true i (s + n) q)
+    go true false p q = above (ltb-false i (s + n) q)
+
+-- how many live blocks cover place i
+abbrev pub coverage : List Recorded → ℕ → ℕ
+coverage [] i = 0
+coverage (b ∷ bs) i = one (covers b i) + coverage bs i
+
+coverage-set : (l : List Recorded) (k : ℕ) (x : Recorded) (i : ℕ) → k < length l
+    → coverage (set l k x) i + one (covers (getD l k recorded.Dead) i) ≡ coverage l i + one (covers x i)
+coverage-set [] k x i h = absurd (omega arith)
+coverage-set (y ∷ l) zero x i h = omega arith
+coverage-set (y ∷ l) (suc k) x i h = omega (arith, coverage-set l k x i (omega arith))
+
+pub coverage-rename : (l : List Recorded) (k : ℕ) (x : Recorded) (i : ℕ) → 1 ≤ k → k ≤ length l
+    → coverage (rename l k x) i + one (covers (named l k recorded.Dead) i) ≡ coverage l i + one (covers x i)
+coverage-rename l zero x i h le = absurd (omega arith)
+coverage-rename l (suc k) x i h le = coverage-set l k x i (omega arith)
+
+coverage-at : (l : List Recorded) (k i : ℕ) → one (covers (getD l k recorded.Dead) i) ≤ coverage l i
+coverage-at [] k i = omega arith
+coverage-at (y ∷ l) zero i = omega arith
+coverage-at (y ∷ l) (suc k) i = omega (arith, coverage-at l k i)
+
+pub coverage-named : (l : List Recorded) (k i : ℕ) → one (covers (named l k recorded.Dead) i) ≤ coverage l i
+coverage-named l zero i = omega arith
+coverage-named l (suc k) i = coverage-at l k i
+
+-- covered: by one block at least
+pub data Covered (l : List Recorded) (i : ℕ) : Bool → Type 0 where
+  some : 1 ≤ coverage l i → Covered l i true
+  none : coverage l i ≡ 0 → Covered l i false
+
+pub covered-is : (l : List Recorded) (i : ℕ) → Covered l i (covered l i)
+unfolding covered
+covered-is [] i = none refl
+covered-is (b ∷ l) i = go (covers b i) refl (covered-is l i)
+  where
+    more : {c : Bool} → covers b i ≡ false → Covered l i c → Covered (b ∷ l) i c
+    more e (some h) = some (omega arith)
+    more e (none h) = none (omega (arith, ap one e))
+
+    go : (c : Bool) → covers b i ≡ c → Covered l i (covered l i)
+        → Covered (b ∷ l) i (elim c [ true ↦ true | false ↦ covered l i ])
+    go true e h = some (omega (arith, ap one e))
+    go false e h = more e h

@@ -1,0 +1,78 @@
+-- Demand 3 for every sound source tree, inputs and fuel.
+use Prim.Native.Nat.{ℕ, _≤_}
+use native.Mathlib.Omega.{arith}
+use mathlib.Core.Path.{_≡_, refl, sym}
+use mathlib.Core.Logic.{_≢_, _⊎_, inl, inr}
+use mathlib.Core.List.{List}
+use lib.IntN.{ℤ}
+use lib.ListN.{length, length-replicate}
+use Rattle.rules.specs.Sizes.{inputLimit}
+use Rattle.rules.specs.Trees.{Statement}
+use Rattle.rules.specs.TargetTrees.{TargetStatement}
+use Rattle.rules.specs.Memory.{startMemory}
+use Rattle.rules.specs.Observation.{startObservation, mirror}
+use Rattle.rules.specs.Plain.{Outcome, run, startVariables}
+use Rattle.rules.specs.Past.{PastOutcome, runPast, atFirstFalse}
+use Rattle.rules.specs.Watched.{WatchedOutcome, watch, startTemporaries}
+use Rattle.rules.specs.Translation.{translate}
+use Rattle.rules.specs.Answers.{endingOf, memoryAfter, watchedEndingOf, watchedMemoryAfter, observationAfter}
+use Rattle.rules.proofs.Sound.{Scope, SoundStatement}
+use Rattle.rules.proofs.PastRun.{past-is}
+use Rattle.rules.proofs.PlainNumbers.{FairOutcome, fair-run}
+use Rattle.rules.proofs.StatementSteps.{Agree, both-finish, both-end}
+use Rattle.rules.proofs.Simulation.{simulates}
+use Rattle.rules.proofs.Start.{start-invariant}
+use Rattle.rules.proofs.StartObservation.{start-mirrors}
+use Rattle.rules.proofs.Orderly.{Orderly, plain-orderly, watched-orderly}
+use Rattle.rules.specs.declared.Temporary.the-variants as temporary
+
+-- a plain and a watched run come out alike
+pub record Same (p : Outcome) (w : WatchedOutcome) : Type 0 where
+  pub same-ending : endingOf p ≡ watchedEndingOf w
+  pub same-memory : memoryAfter p ≡ watchedMemoryAfter w
+  pub mirrors : (endingOf p .number ≡ 0) ⊎ (endingOf p .number ≡ 33) → observationAfter w ≡ mirror (memoryAfter p)
+  pub no-contradiction : (watchedEndingOf w .number ≢ 48) × (watchedEndingOf w .number ≢ 49)
+
+same-of : {p : Outcome} {w : WatchedOutcome} → Agree p w → FairOutcome p → Same p w
+same-of (both-finish e l) c = record {
+  same-ending = refl; same-memory = refl; mirrors = λ h. e; no-contradiction = (omega arith, omega arith) }
+same-of (both-end {c = n} {m = m} {o = o} h) c = record {
+  same-ending = refl; same-memory = refl; mirrors = go; no-contradiction = (omega arith, omega arith) }
+  where
+    go : (n ≡ 0) ⊎ (n ≡ 33) → o ≡ mirror m
+    go (inl z) = absurd (omega arith)
+    go (inr z) = h z
+
+-- the runs of a source tree, and a target tree's
+abbrev pub plainFrom : Statement → List ℤ → ℕ → Outcome
+plainFrom a is f = run a startVariables (startMemory is) f
+
+abbrev pub pastFrom : Statement → List ℤ → ℕ → PastOutcome
+pastFrom a is f = runPast a startVariables (startMemory is) f
+
+abbrev pub watchedFrom : TargetStatement → List ℤ → ℕ → WatchedOutcome
+watchedFrom a is f = watch a startVariables (startMemory is) (startObservation (length is)) startTemporaries f
+
+pub up-to-first-false : (a : Statement) (is : List ℤ) (f : ℕ) → plainFrom a is f ≡ atFirstFalse (pastFrom a is f)
+up-to-first-false a is f = sym (past-is a startVariables (startMemory is) f)
+
+pub runs-same : (a : Statement) (σ : Scope) (is : List ℤ) (f : ℕ) → SoundStatement a σ → 1 ≤ length is
+    → length is ≤ inputLimit
+    → Same (plainFrom a is f) (watchedFrom (translate a) is f)
+runs-same a σ is f d h le =
+    rw (start-mirrors is h le)
+      (same-of
+        (simulates a σ startVariables (startMemory is) startTemporaries f d (start-invariant is le)
+          (length-replicate 64 temporary.Empty))
+        (fair-run a startVariables (startMemory is) f))
+
+-- what holds of the execution memory after a run, of the translation or of any other target statement
+pub plain-keeps : (a : Statement) (is : List ℤ) (f : ℕ) → length is ≤ inputLimit
+    → Orderly (startMemory is) (memoryAfter (plainFrom a is f))
+plain-keeps a is f le = plain-orderly a startVariables (startMemory is) f (start-invariant is le)
+
+pub watched-keeps : (a : TargetStatement) (is : List ℤ) (f : ℕ) → length is ≤ inputLimit
+    → Orderly (startMemory is) (watchedMemoryAfter (watchedFrom a is f))
+watched-keeps a is f le =
+    watched-orderly a startVariables (startMemory is) (startObservation (length is)) startTemporaries f
+      (start-invariant is le)
