@@ -38,24 +38,52 @@ lowest-at p j (suc k) n a b e h = go (decLt j n) (lowest-at p (suc j) k n)
     go (yes q) f =
         lowest-next p j k (h j (omega arith) q) ∙ f (omega arith) (omega arith) e (λ i c d. h i (omega arith) d)
 
--- and back: none passes, or the one that was found does
+-- and back: the test passes nowhere from j up to, not including, n; or first at n
+abbrev pub NonePass : (ℕ → Bool) → ℕ → ℕ → Type 0
+NonePass p j n = (i : ℕ) → j ≤ i → i < n → p i ≡ false
+
+pub record Lowest (p : ℕ → Bool) (j k n : ℕ) : Type 0 where
+  pub from : j ≤ n
+  pub below : n < j + k
+  pub passes : p n ≡ true
+  pub none-lower : NonePass p j n
+
+abbrev pub Found : (ℕ → Bool) → ℕ → ℕ → Search → Type 0
+Found p j k search.Nothing = NonePass p j (j + k)
+Found p j k (search.At n) = Lowest p j k n
+
+pub lowest-found : (p : ℕ → Bool) (j k : ℕ) → Found p j k (lowest p j k)
+unfolding lowest
+lowest-found p j zero = λ i a b. absurd (omega arith)
+lowest-found p j (suc k) = go (p j) refl (lowest p (suc j) k) (lowest-found p (suc j) k)
+  where
+    more : (n : ℕ) → p j ≡ false → NonePass p (suc j) n → (i : ℕ) → j ≤ i → i < n → Dec (j < i) → p i ≡ false
+    more n e h i a b (no q) = ap p (omega arith) ∙ e
+    more n e h i a b (yes q) = h i q b
+    later : p j ≡ false → (s : Search) → Found p (suc j) k s → Found p j (suc k) s
+    later e search.Nothing h = λ i a b. more (j + suc k) e (λ i c d. h i c (omega arith)) i a b (decLt j i)
+    later e (search.At n) h = record {
+      from = omega (arith, h .from);
+      below = omega (arith, h .below);
+      passes = h .passes;
+      none-lower = λ i a b. more n e (h .none-lower) i a b (decLt j i) }
+    go : (b : Bool) → p j ≡ b → (s : Search) → Found p (suc j) k s
+        → Found p j (suc k) (elim b as (λ q. Search) [ true ↦ search.At j | false ↦ s ])
+    go true e s h = record {
+      from = omega arith;
+      below = omega arith;
+      passes = e;
+      none-lower = λ i a b. absurd (omega arith) }
+    go false e s h = later e s h
+
+-- the same without what is lower
 abbrev pub Outcome : (ℕ → Bool) → ℕ → ℕ → Search → Type 0
 Outcome p j k search.Nothing = (i : ℕ) → j ≤ i → i < j + k → p i ≡ false
 Outcome p j k (search.At n) = (j ≤ n) × (n < j + k) × (p n ≡ true)
 
 pub lowest-outcome : (p : ℕ → Bool) (j k : ℕ) → Outcome p j k (lowest p j k)
-unfolding lowest
-lowest-outcome p j zero = λ i a b. absurd (omega arith)
-lowest-outcome p j (suc k) = go (p j) refl (lowest p (suc j) k) (lowest-outcome p (suc j) k)
+lowest-outcome p j k = of (lowest p j k) (lowest-found p j k)
   where
-    first : p j ≡ false → ((i : ℕ) → suc j ≤ i → i < suc j + k → p i ≡ false) → (i : ℕ) → j ≤ i → i < j + suc k
-        → Dec (j < i) → p i ≡ false
-    first e h i a b (no q) = ap p (omega arith) ∙ e
-    first e h i a b (yes q) = h i (omega arith) (omega arith)
-    later : p j ≡ false → (s : Search) → Outcome p (suc j) k s → Outcome p j (suc k) s
-    later e search.Nothing h = λ i a b. first e h i a b (decLt j i)
-    later e (search.At n) h = (omega arith, omega arith, h .2)
-    go : (b : Bool) → p j ≡ b → (s : Search) → Outcome p (suc j) k s
-        → Outcome p j (suc k) (elim b as (λ q. Search) [ true ↦ search.At j | false ↦ s ])
-    go true e s h = (omega arith, omega arith, e)
-    go false e s h = later e s h
+    of : (s : Search) → Found p j k s → Outcome p j k s
+    of search.Nothing h = h
+    of (search.At n) h = (h .from, h .below, h .passes)
