@@ -1,7 +1,7 @@
 -- In an accepted table no record's node is junk: each has its kind's sort, and the last is a statement.
 use Prim.Native.Nat.{ℕ, zero, suc, _≤_, _<_}
 use native.Mathlib.Omega.{arith}
-use mathlib.Core.Bool.{Bool, true, false, not, _&&_}
+use mathlib.Core.Bool.{true, false, not}
 use mathlib.Core.List.{List}
 use mathlib.Core.Path.{_≡_, refl, sym, ap, _∙_}
 use borrow.Author.Tests.{ltb-true, eqb-true, eq-eqb, not-false}
@@ -11,16 +11,13 @@ use Rattle.rules.specs.Kinds.{Language, Sort, sortNumber, statement, Fie
 use Rattle.rules.specs.Checker.{fieldFits, formSort, sortOf, childFits, recordFault, shapeFault}
 use Rattle.rules.specs.Nodes.{sortOfNode, nodeFits, nodeIn, nodes, nodeAt}
 use Rattle.rules.proofs.Acceptance.{Accepted}
-use Rattle.rules.proofs.KindViews.{and-split}
+use Rattle.rules.proofs.BooleanLaws.{and-split, both-true, three-pass}
 use Rattle.rules.proofs.NodeLaws.{node-earlier}
 use Rattle.rules.proofs.FormLaws.{fields-split, Faultless, faultless, node-built}
 use Rattle.rules.proofs.Standing.{form-sort, Stands, stands}
 
 abbrev pub Sorted : (l : Language) → List ℕ → ℕ → Type 0
 Sorted l t n = sortOfNode l (nodeAt l t n) ≡ sortOf l (kindOf t n)
-
-and-join : (a b : Bool) → a ≡ true → b ≡ true → (a && b) ≡ true
-and-join a b p q = rw (p, q)
 
 module _ (l : Language) (t : List ℕ) (rules : (n : ℕ) → 1 ≤ n → n ≤ recordCount t → recordFault l t n ≡ 0) where
   child-fits : (n : ℕ) → n ≤ recordCount t → ((x : ℕ) → x < n → 1 ≤ x → x ≤ recordCount t → Sorted l t x)
@@ -43,12 +40,12 @@ module _ (l : Language) (t : List ℕ) (rules : (n : ℕ) → 1 ≤ n → n ≤ 
       let w = faultless l t n e in
       let f = w .form in
       let v = fields-split f (recordAt t n) (w .fields) in
-      let j = and-split _ (childFits l t n (f .c) (childC t n)) (w .children) in
-      let k = and-split (childFits l t n (f .a) (childA t n)) (childFits l t n (f .b) (childB t n)) (j .0) in
+      let k = three-pass (childFits l t n (f .a) (childA t n)) (childFits l t n (f .b) (childB t n))
+        (childFits l t n (f .c) (childC t n)) (w .children) in
       let x = child-fits n q ih (f .a) (childA t n) (v .1) (k .0) in
       let y = child-fits n q ih (f .b) (childB t n) (v .2) (k .1) in
-      let z = child-fits n q ih (f .c) (childC t n) (v .3) (j .1) in
-      let g = and-join _ _ (and-join _ _ x y) z in
+      let z = child-fits n q ih (f .c) (childC t n) (v .3) (k .2) in
+      let g = both-true _ _ (both-true _ _ x y) z in
       form-sort l t n f (w .found) (node-built l t n f p q e (w .found) (w .fields) g) ∙ sym (ap formSort (w .found))
 
   sorted-below : (m n : ℕ) → n < m → 1 ≤ n → n ≤ recordCount t → Sorted l t n

@@ -1,41 +1,14 @@
--- The nodes of a table, each from its record and the nodes of its children.
-use Prim.Native.Nat.{ℕ, zero, suc, _≤_, _<_}
-use native.Mathlib.Omega.{arith}
-use native.Mathlib.Decide.{decLt}
-use mathlib.Core.Path.{_≡_, refl, ap, _∙_, subst}
+-- The node of a record without fault, of the nodes of its children.
+use Prim.Native.Nat.{ℕ, _≤_, _<_}
+use mathlib.Core.Path.{_≡_, _∙_, subst}
 use mathlib.Core.Bool.{Bool, true}
-use mathlib.Core.List.{List, [], _∷_, _++_}
-use lib.ListN.{length, length-append, List·getD-append}
-use lib.Seq.{getD-at}
+use mathlib.Core.List.{List}
 use borrow.Author.Tests.{lt-ltb, le-leb, eq-eqb}
 use Rattle.rules.specs.Records.{Record, recordCount, recordAt}
 use Rattle.rules.specs.Kinds.{Language, formOf}
 use Rattle.rules.specs.Checker.{recordFault}
-use Rattle.rules.specs.Nodes.{NodeOf, buildNode, junkNode, nodesFit, guarded, nodeFrom, nodeIn, makeNode, nodes, nodeAt}
-use Rattle.rules.proofs.FittingTrees.{both-true}
-
-pub length-nodes : (l : Language) (t : List ℕ) (n : ℕ) → length (nodes l t n) ≡ n
-unfolding nodes
-length-nodes l t zero = refl
-length-nodes l t (suc n) =
-    length-append (nodes l t n) (makeNode l t n (nodes l t n) ∷ []) ∙ omega (arith, length-nodes l t n)
-
--- a node that stands before is that record's node
-pub node-before : (l : Language) (t : List ℕ) (n x : ℕ) → x < n → nodeIn l (nodes l t n) x ≡ nodeAt l t x
-unfolding nodes nodeAt
-node-before l t zero x h = absurd (omega arith)
-node-before l t (suc n) x h = go (decLt x n) (node-before l t n x)
-  where
-    own : NodeOf l
-    own = makeNode l t n (nodes l t n)
-    go : Dec (x < n) → (x < n → nodeIn l (nodes l t n) x ≡ makeNode l t x (nodes l t x))
-        → nodeIn l (nodes l t n ++ (own ∷ [])) x ≡ makeNode l t x (nodes l t x)
-    go (yes p) f =
-        List·getD-append (nodes l t n) (own ∷ []) (junkNode l) x (omega (arith, length-nodes l t n)) ∙ f p
-    go (no p) f =
-        let e : n ≡ x = omega arith in
-        getD-at (nodes l t n) own [] (junkNode l) x (length-nodes l t n ∙ e)
-        ∙ ap (λ (y : ℕ). makeNode l t y (nodes l t y)) e
+use Rattle.rules.specs.Nodes.{NodeOf, buildNode, nodesFit, guarded, nodeFrom, nodeIn, makeNode, nodes, nodeAt}
+use Rattle.rules.proofs.BooleanLaws.{both-true}
 
 -- the nodes that record r, numbered n, has for children, of the sorts that its form asks for
 abbrev pub ChildNodes : (l : Language) → List ℕ → ℕ → Record → NodeOf l → NodeOf l → NodeOf l → Type 0

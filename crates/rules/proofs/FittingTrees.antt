@@ -2,7 +2,7 @@
 use Prim.Native.Nat.{ℕ, suc, _+_, _≤_, _<_}
 use native.Mathlib.Omega.{arith}
 use mathlib.Core.Path.{_≡_, refl, ap, _∙_, subst}
-use mathlib.Core.Bool.{Bool, true, false, _&&_, _||_}
+use mathlib.Core.Bool.{true, false, _&&_, _||_}
 use mathlib.Core.List.{List}
 use mathlib.Core.Option.{none, some}
 use lib.Dec.{eqb}
@@ -14,11 +14,9 @@ use Rattle.rules.specs.Checker.{fieldFits, literalFits, fieldsFit, sortO
 use Rattle.rules.specs.Numbers.{inRange}
 use Rattle.rules.specs.Translation.{RecordTree, node, treeSize, rootNumber, fieldC}
 use Rattle.rules.specs.Translation as tree
+use Rattle.rules.proofs.BooleanLaws.{both-true}
 use Rattle.rules.proofs.Sound.{Scope}
 use Rattle.rules.proofs.EmissionLaws.{Holds, ownRecord, field-root, Step, everywhere}
-
-pub both-true : (p q : Bool) → p ≡ true → q ≡ true → (p && q) ≡ true
-both-true p q h k = rw (h, k)
 
 abbrev pub rootKind : RecordTree → ℕ
 rootKind tree.none = 0

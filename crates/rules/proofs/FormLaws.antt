@@ -14,6 +14,7 @@ use Rattle.rules.specs.Records.{Record, recordCount, kindOf, markOf, chi
 use Rattle.rules.specs.Kinds.{Language, source, target, Sort, sortNumber, expression, place, term, predicate, statement, Field, unnamed, child, number, Literal, zeroLiteral, anyLiteral, statementLiteral, Form, forms, formOf}
 use Rattle.rules.specs.Checker.{fieldFits, literalFits, fieldsFit, childrenFit, faultOf, recordFault}
 use Rattle.rules.specs.Nodes.{NodeOf, buildNode, sortOfNode, nodeFits, nodesFit, guarded, nodeAt}
+use Rattle.rules.proofs.BooleanLaws.{three-pass, five-pass}
 use Rattle.rules.proofs.KindViews.{and-split, every, found-passes, found-kind}
 use Rattle.rules.proofs.NodeLaws.{nodeBefore, node-earlier, node-later, node-law, junk-sort}
 
@@ -103,12 +104,7 @@ field-holds l t n (number p) x h q = h
 pub fields-split : (f : Form) (r : Record) → fieldsFit f r ≡ true
     → (fieldFits (f .mark) (r .mark) ≡ true) × (fieldFits (f .a) (r .a) ≡ true) × (fieldFits (f .b) (r .b) ≡ true)
     × (fieldFits (f .c) (r .c) ≡ true) × (literalFits (f .literal) (r .literal) ≡ true)
-fields-split f r h =
-    let v = and-split _ (literalFits (f .literal) (r .literal)) h in
-    let w = and-split _ (fieldFits (f .c) (r .c)) (v .0) in
-    let x = and-split _ (fieldFits (f .b) (r .b)) (w .0) in
-    let y = and-split (fieldFits (f .mark) (r .mark)) (fieldFits (f .a) (r .a)) (x .0) in
-    (y .0, y .1, x .1, w .1, v .1)
+fields-split f r h = five-pass _ _ _ _ (literalFits (f .literal) (r .literal)) h
 
 -- a record without fault has a form, and its fields and children fit it
 pub record Faultless (l : Language) (t : List ℕ) (n : ℕ) (o : Option Form) : Type 0 where
@@ -200,12 +196,11 @@ kept l t n f p o h q e =
     let B = nodeBefore l t n (childB t n) in
     let C = nodeBefore l t n (childC t n) in
     let k = kindOf t n in
-    let s = and-split (nodeFits l (f .a) A && nodeFits l (f .b) B) (nodeFits l (f .c) C) q in
-    let u = and-split (nodeFits l (f .a) A) (nodeFits l (f .b) B) (s .0) in
+    let u = three-pass (nodeFits l (f .a) A) (nodeFits l (f .b) B) (nodeFits l (f .c) C) q in
     let v = fields-split f (recordAt t n) h in
     let a = field-holds l t n (f .a) (childA t n) (v .1) (u .0) in
     let b = field-holds l t n (f .b) (childB t n) (v .2) (u .1) in
-    let c = field-holds l t n (f .c) (childC t n) (v .3) (s .1) in
+    let c = field-holds l t n (f .c) (childC t n) (v .3) (u .2) in
     record {
       mark = mark-holds (f .mark) (markOf t n) (v .0);
       a = a;

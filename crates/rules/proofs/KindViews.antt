@@ -1,16 +1,14 @@
 -- The kinds of each language as a view, by sort: one constructor for each, so that a match makes the kind a literal.
 use Prim.Native.Nat.{ℕ}
-use mathlib.Core.Bool.{Bool, true, false, _&&_, true≢false}
+use mathlib.Core.Bool.{Bool, true, false, _&&_}
 use mathlib.Core.List.{List, [], _∷_}
 use mathlib.Core.Option.{Option, none, some}
 use mathlib.Core.Path.{_≡_, refl, sym, subst}
 use borrow.Author.Tests.{eqb-true}
 use lib.Dec.{eqb}
+pub use Rattle.rules.proofs.BooleanLaws.{and-split}
+use Rattle.rules.proofs.BooleanLaws.{and-split}
 use Rattle.rules.specs.Kinds.{Language, source, target, Sort, expression, place, term, predicate, statement, unnamed, zeroLiteral, Form, form, forms, lookUp, formOf}
-
-pub and-split : (a b : Bool) → (a && b) ≡ true → (a ≡ true) × (b ≡ true)
-and-split true b h = (refl, h)
-and-split false b h = absurd (true≢false (sym h))
 
 -- what holds of every form of a list holds of the one found
 abbrev pub Each : (Form → Type 0) → List Form → Type 0

@@ -1,13 +1,13 @@
 -- Facts about the definitions.
 pub mod Cases
 pub mod Sound
+pub mod BooleanLaws
 pub mod Acceptance
 pub mod KindViews
 pub mod NodeLaws
 pub mod FormLaws
 pub mod Standing
 pub mod AcceptedTrees
-pub mod Parents
 pub mod Descent
 pub mod Ranges
 pub mod Readiness

@@ -3,7 +3,7 @@ use Prim.Native.Nat.{ℕ, zero, suc, _+_, _≤_, _<_}
 use native.Mathlib.Omega.{arith}
 use native.Mathlib.Decide.{decLt}
 use mathlib.Core.Path.{_≡_, refl, ap, subst}
-use mathlib.Core.Bool.{Bool, true, false, cond, _&&_}
+use mathlib.Core.Bool.{Bool, true, false, cond, _&&_, false≢true}
 use mathlib.Core.List.{List}
 use mathlib.Core.Option.{Option, none, some}
 use lib.Dec.{ltb, eqb}
@@ -13,6 +13,8 @@ use Rattle.rules.specs.Kinds.{Language, Sort, sortNumber, Field, unnamed
 use Rattle.rules.specs.Checker.{fieldFits, literalFits, fieldsFit, sortOf, childFits, childrenFit, faultOf, recordFault, timesIn, timesOf, timesChildOf, timesChild, shapeFault, parentOf}
 use Rattle.rules.specs.declared.Search.{Search}
 use Rattle.rules.specs.declared.Search.the-variants as search
+pub use Rattle.rules.proofs.BooleanLaws.{three-pass, five-pass}
+use Rattle.rules.proofs.BooleanLaws.{and-split}
 use Rattle.rules.proofs.SearchLaws.{lowest-nothing, lowest-at, Outcome, lowest-outcome}
 
 -- a table that keeps 3, 4, 5 and 6
@@ -21,25 +23,10 @@ pub record Passed (l : Language) (t : List ℕ) : Type 0 where
   pub shape : (n : ℕ) → 1 ≤ n → n ≤ recordCount t → shapeFault l t n ≡ false
 
 pub clash : false ≡ true → ⊥
-clash e = let z : _≡_ {A = ℕ} 0 1 = cc in omega arith
+clash e = false≢true e
 
--- tests that all pass
 pub two-pass : (p q : Bool) → (p && q) ≡ true → (p ≡ true) × (q ≡ true)
-two-pass true q e = (refl, e)
-two-pass false q e = absurd (clash e)
-
-pub three-pass : (p q r : Bool) → (p && q && r) ≡ true → (p ≡ true) × (q ≡ true) × (r ≡ true)
-three-pass p q r e =
-    let front : (p && q ≡ true) × (r ≡ true) = two-pass (p && q) r e in
-    let first : (p ≡ true) × (q ≡ true) = two-pass p q (front .0) in
-    (first .0, first .1, front .1)
-
-pub five-pass : (p q r s u : Bool) → (p && q && r && s && u) ≡ true
-    → (p ≡ true) × (q ≡ true) × (r ≡ true) × (s ≡ true) × (u ≡ true)
-five-pass p q r s u e =
-    let back : (p && q && r ≡ true) × (s ≡ true) × (u ≡ true) = three-pass (p && q && r) s u e in
-    let front : (p ≡ true) × (q ≡ true) × (r ≡ true) = three-pass p q r (back .0) in
-    (front .0, front .1, front .2, back .1, back .2)
+two-pass p q e = and-split p q e
 
 fits-of : (p q : Bool) → _≡_ {A = ℕ} (cond p (cond q 0 5) 4) 0 → (p ≡ true) × (q ≡ true)
 fits-of true true e = (refl, refl)
@@ -57,7 +44,7 @@ module _ (l : Language) (t : List ℕ) (m : ℕ) where
       go : (b : Bool) → eqb x c ≡ b → 0 < cond b 1 0 → (0 < c) × (c < m)
       go false e k = absurd (omega arith)
       go true e k =
-          let both = two-pass (ltb x m) (eqb (sortOf l (kindOf t x)) (sortNumber s)) g in
+          let both = and-split (ltb x m) (eqb (sortOf l (kindOf t x)) (sortNumber s)) g in
           omega (arith, eqb-true x c e, ltb-true 0 x f, ltb-true x m (both .0))
 
   in-fields : (f : Form) (r : Record) (c : ℕ) → fieldsFit f r ≡ true → childrenFit l t m f r ≡ true
@@ -166,16 +153,29 @@ parent-is l t m c e =
         subst (Outcome (λ m. ltb 0 (timesChildOf l t m c)) 1 (recordCount t)) e (parent-outcome l t c) in
     record { in-table = omega arith; has-child = ltb-true 0 (timesChildOf l t m c) (h .2) }
 
+-- how often c is a child of n, by the fields
+pub times-by-fields : (l : Language) (t : List ℕ) (n c : ℕ) (f : Form) → formOf l (kindOf t n) ≡ some f
+    → timesChildOf l t n c
+    ≡ timesIn (f .a) (childA t n) c + timesIn (f .b) (childB t n) c + timesIn (f .c) (childC t n) c
+unfolding timesChildOf
+times-by-fields l t n c f e = ap (λ (o : Option Form). timesOf o (recordAt t n) c) e
+
+-- 1 if the numbers are the same
+abbrev pub same : ℕ → ℕ → ℕ
+same x j = cond (eqb x j) 1 0
+
+pub same-yes : (j : ℕ) → same j j ≡ 1
+same-yes j = ap (λ (b : Bool). cond b 1 0) (eq-eqb j j refl)
+
 -- a record has those for children that stand in its fields for children
 module _ (l : Language) (t : List ℕ) (n : ℕ) (f : Form) (s : Sort) (is-form : formOf l (kindOf t n) ≡ some f)
     (in-table : (1 ≤ n) × (n ≤ recordCount t)) where
   times-of : (c : ℕ) → timesChildOf l t n c
       ≡ timesIn (f .a) (childA t n) c + timesIn (f .b) (childB t n) c + timesIn (f .c) (childC t n) c
-  unfolding timesChildOf
-  times-of c = ap (λ (o : Option Form). timesOf o (recordAt t n) c) is-form
+  times-of c = times-by-fields l t n c f is-form
 
   times-self : (F : Field) (c : ℕ) → F ≡ child s → timesIn F c c ≡ 1
-  times-self F c e = rw (e, eq-eqb c c refl)
+  times-self F c e = rw e (same-yes c)
 
   pub parent-a : f .a ≡ child s → IsParent l t n (childA t n)
   parent-a e = record {
@@ -208,13 +208,25 @@ module _ (l : Language) (t : List ℕ) (keeps : Passed l t) where
         (λ i a b. omega (arith, times-both l t c i m (recordCount t) a b (h .in-table .1), h .has-child,
           child-once c (below .0) (omega arith)))
 
-  -- the last record has none
-  pub last-parent : (n : ℕ) → recordCount t ≤ n → parentOf l t n ≡ search.Nothing
-  last-parent n h = parent-none l t n (λ i a b. go i a b (decLt 0 (timesChildOf l t i n)))
+  pub child-single : (m c : ℕ) → IsParent l t m c → timesChildOf l t m c ≡ 1
+  child-single m c h =
+      let below = parent-above m c h in
+      omega (arith, h .has-child, times-least l t c m (recordCount t) (h .in-table .0) (h .in-table .1),
+        child-once c (below .0) (omega (arith, below .1, h .in-table .1)))
+
+  -- the last record is no child, and has no parent
+  not-child : (n : ℕ) → recordCount t ≤ n → (i : ℕ) → 1 ≤ i → i ≤ recordCount t → timesChildOf l t i n ≡ 0
+  not-child n h i a b = go (decLt 0 (timesChildOf l t i n))
     where
-      go : (i : ℕ) → 1 ≤ i → i ≤ recordCount t → Dec (0 < timesChildOf l t i n) → timesChildOf l t i n ≡ 0
-      go i a b (no q) = omega arith
-      go i a b (yes q) = absurd (omega (arith, parent-above i n (record { in-table = (a, b); has-child = q })))
+      go : Dec (0 < timesChildOf l t i n) → timesChildOf l t i n ≡ 0
+      go (no q) = omega arith
+      go (yes q) = absurd (omega (arith, parent-above i n (record { in-table = (a, b); has-child = q })))
+
+  pub last-no-child : timesChild l t (recordCount t) (recordCount t) ≡ 0
+  last-no-child = times-none l t (recordCount t) (recordCount t) (not-child (recordCount t) (omega arith))
+
+  pub last-parent : (n : ℕ) → recordCount t ≤ n → parentOf l t n ≡ search.Nothing
+  last-parent n h = parent-none l t n (not-child n h)
 
   -- every other record has one
   pub has-parent : (c : ℕ) → 1 ≤ c → c < recordCount t → Parent l t c

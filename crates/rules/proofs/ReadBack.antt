@@ -17,7 +17,8 @@ use Rattle.rules.proofs.EmissionLaws.{Holds, ownRecord, root-most, root
 use Rattle.rules.proofs.FittingTrees.{Held, records-fit}
 use Rattle.rules.proofs.TargetFitting.{statement-fits}
 use Rattle.rules.proofs.EmittedBytes.{emitted, emitted-count}
-use Rattle.rules.proofs.BuiltNodes.{node-before, built}
+use Rattle.rules.proofs.NodeLaws.{node-earlier}
+use Rattle.rules.proofs.BuiltNodes.{built}
 
 pub operator-back : (o : Operator) → operatorOf (operatorNumber o) ≡ o
 operator-back add = refl
@@ -48,7 +49,7 @@ no-node t n = refl
 module _ (t : List ℕ) (faultless : (j : ℕ) → 0 < j → j ≤ recordCount t → recordFault target t j ≡ 0) where
   child-node : (w : RecordTree) (n j : ℕ) (x : TargetNode) → n + treeSize w < j → IsNode t w n x
       → nodeIn target (nodes target t j) (rootNumber w n) ≡ x
-  child-node w n j x h e = node-before target t j (rootNumber w n) (omega (arith, root-most w n)) ∙ e
+  child-node w n j x h e = node-earlier target t j (rootNumber w n) (omega (arith, root-most w n)) ∙ e
 
   field-node : (w : RecordTree) (n j : ℕ) (x : TargetNode) → n + treeSize w < j → IsNode t w n x
       → nodeIn target (nodes target t j) (fieldC w 0 n) ≡ x

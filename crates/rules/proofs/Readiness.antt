@@ -9,17 +9,16 @@ use borrow.Author.Tests.{leb-false, eq-eqb, ne-eqb, not-false}
 use lib.Dec.{eqb}
 use Rattle.rules.specs.Records.{recordCount, kindOf, markOf, childA, childB, childC, literalOf, start}
 use Rattle.rules.specs.Kinds.{Language, source, target, Sort, expression, place, term, predicate, statement, Field, unnamed, child, number, Form, formOf, recordLimit}
-use Rattle.rules.specs.Checker.{timesIn, timesChildOf, parentOf, scopeFault, levelBelow, highestNamed, isTermOrPredicate, levelFault}
-use Rattle.rules.specs.declared.Search.the-variants as search
+use Rattle.rules.specs.Checker.{timesIn, timesChildOf, scopeFault, levelBelow, highestNamed, isTermOrPredicate, levelFault}
 use Rattle.rules.specs.Numbers.{inRange}
 use Rattle.rules.specs.Nodes.{NodeOf, asExpression, asPlace, asTerm, asPredicate, sourceStatement, targetStatement, nodeAt}
 use Rattle.rules.proofs.Sound.{Scope, startScope, SoundExpression, SoundPlace, NoName, Named, SoundTerm, SoundPredicate, SoundStatement, SoundTarget}
-use Rattle.rules.proofs.Acceptance.{Accepted}
+use Rattle.rules.proofs.Acceptance.{Accepted, passed-of}
 use Rattle.rules.proofs.KindViews.{formAt, found-at, found-kind, KindOf}
 use Rattle.rules.proofs.FormLaws.{FieldHolds, nodeAs, FormHolds}
 use Rattle.rules.proofs.Standing.{Stands, stands}
 use Rattle.rules.proofs.AcceptedTrees.{accepted-last}
-use Rattle.rules.proofs.Parents.{times-by-fields, times-own, parent-is, child-single}
+use Rattle.rules.proofs.ParentLaws.{times-by-fields, same-yes, IsParent, child-single}
 use Rattle.rules.proofs.Descent.{scopeAt, levelAt, scopeBelow, scope-child, scope-last, level-child}
 use Rattle.rules.proofs.Ranges.{integer-range}
 
@@ -100,7 +99,7 @@ names-below : (l : Language) (t : List ℕ) → Accepted l t → (n : ℕ) → 1
 names-below source t a n p q = level-named t n (a .levels n p q)
 names-below target t a n p q = tt
 
-level-of-child : (l : Language) (t : List ℕ) → Accepted l t → (m n : ℕ) → parentOf l t n ≡ search.At m
+level-of-child : (l : Language) (t : List ℕ) → Accepted l t → (m n : ℕ) → IsParent l t m n
     → levelAt l t n ≡ levelUnder l (kindOf t m) (eqb (childB t m) n) (levelAt l t m)
 level-of-child source t a m n e = level-child t a m n e
 level-of-child target t a m n e = refl
@@ -109,7 +108,7 @@ level-of-child target t a m n e = refl
 are-apart : (g h : Field) (x y z : ℕ) → timesIn g x x + timesIn h y x + z ≡ 1 → Apart g h x y
 are-apart unnamed h x y z e = tt
 are-apart (child r) unnamed x y z e = tt
-are-apart (child r) (child s) x y z e = go (eqb y x) (omega (arith, times-own x, e))
+are-apart (child r) (child s) x y z e = go (eqb y x) (omega (arith, same-yes x, e))
   where
     go : (b : Bool) → cond b 1 0 ≤ 0 → b ≡ false
     go true q = absurd (omega arith)
@@ -126,7 +125,7 @@ module _ (l : Language) (t : List ℕ) (a : Accepted l t) (n : ℕ) (p : 1 ≤ n
   child-sound unnamed x h w = tt
   child-sound (child s) x h w =
       let k = found-kind l (kindOf t n) f o in
-      let e = parent-is l t a n x p q (omega (arith, times-own x)) in
+      let e : IsParent l t n x = record { in-table = (p, q); has-child = omega (arith, same-yes x) } in
       subst₂ (SoundAs l s (nodeAt l t x))
       (scope-child l t a n x e ∙ ap (λ (j : ℕ). scopeBelow j (markOf t n) (scopeAt l t n)) k)
       (level-of-child l t a n x e ∙ ap (λ (j : ℕ). levelUnder l j (eqb (childB t n) x) (levelAt l t n)) k)
@@ -142,7 +141,8 @@ module _ (l : Language) (t : List ℕ) (a : Accepted l t) (n : ℕ) (p : 1 ≤ n
         ap (λ (g : Field). timesIn g x x + timesIn (f .b) (childB t n) x + rest) e
         ∙ sym (times-by-fields l t n x f o) in
       are-apart (child s) (f .b) x (childB t n) rest
-      (w ∙ child-single l t a n x p q (omega (arith, times-own x, w)))
+      (w ∙ child-single l t (passed-of l t a) n x
+        (record { in-table = (p, q); has-child = omega (arith, same-yes x, w) }))
   apart-here (number g) e h = tt
 
   pub ready : Ready l t n f

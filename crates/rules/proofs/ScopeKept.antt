@@ -4,7 +4,7 @@ use native.Mathlib.Omega.{arith}
 use mathlib.Core.Path.{_≡_, refl, sym, ap, _∙_}
 use mathlib.Core.Bool.{Bool, true, false, not, _&&_, _||_}
 use mathlib.Core.List.{List}
-use lib.Dec.{eqb, eqb·suc-zero}
+use lib.Dec.{eqb}
 use lib.IntN.{ℤ}
 use Rattle.rules.specs.Records.{Record, recordCount, kindOf, markOf, recordAt}
 use Rattle.rules.specs.Kinds.{Language}
@@ -13,9 +13,9 @@ use Rattle.rules.specs.Translation.{RecordTree, node, treeSize, rootNumb
 use Rattle.rules.proofs.Sound.{Scope, startScope}
 use Rattle.rules.proofs.EmissionLaws.{Holds, root-size, Step, everywhere}
 use Rattle.rules.proofs.FittingTrees.{OwnScope, scopeBelow, Fitting}
-use Rattle.rules.proofs.ParentLaws.{Passed, IsParent}
-use Rattle.rules.proofs.ScopeLaws.{scope-child, scope-last}
-use Rattle.rules.proofs.ShapeLaws.{same, same-yes, times-own}
+use Rattle.rules.proofs.ParentLaws.{Passed, IsParent, same, same-yes}
+use Rattle.rules.proofs.ScopeLaws.{scope-child, scope-last, start-scope}
+use Rattle.rules.proofs.ShapeLaws.{times-own}
 
 -- 7 at a record, by what its kind is, and by whether its variable is in scope
 abbrev verdict : Bool → Bool → Bool → Bool
@@ -88,10 +88,6 @@ module _ (l : Language) (t : List ℕ) (keeps : Passed l t) where
   pub scopes-kept : (w : RecordTree) (n : ℕ) → Scoped l t w n → (j : ℕ) → n < j → j ≤ n + treeSize w
       → scopeFault l t j ≡ false
   scopes-kept = everywhere (λ j. scopeFault l t j ≡ false) (Scoped l t) step
-
-start-scope : (x : ℕ) → eqb x 0 ≡ startScope x
-start-scope zero = refl
-start-scope (suc x) = eqb·suc-zero x
 
 -- a whole table
 pub scope-kept : (l : Language) (t : List ℕ) (w : RecordTree) → Passed l t → recordCount t ≡ treeSize w

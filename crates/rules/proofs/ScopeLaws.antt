@@ -4,12 +4,13 @@ use native.Mathlib.Omega.{arith}
 use mathlib.Core.Path.{_≡_, refl, sym, ap, _∙_}
 use mathlib.Core.Bool.{Bool, true, false, _||_}
 use mathlib.Core.List.{List}
-use lib.Dec.{eqb}
+use lib.Dec.{eqb, eqb·suc-zero}
 use Rattle.rules.specs.Records.{recordCount, kindOf, childB}
 use Rattle.rules.specs.Kinds.{Language, source}
 use Rattle.rules.specs.Checker.{parentOf, isLetOf, inScope, levelBelow, levelOf}
 use Rattle.rules.specs.declared.Search.{Search}
 use Rattle.rules.specs.declared.Search.the-variants as search
+use Rattle.rules.proofs.Sound.{startScope}
 use Rattle.rules.proofs.ParentLaws.{Passed, IsParent, parent-is, parent-above, parent-of-child, last-parent}
 
 -- what record n has, d records up at most: top where none is above, and up n m of what its parent m has
@@ -111,6 +112,10 @@ module _ (l : Language) (t : List ℕ) (keeps : Passed l t) where
   -- at the last record: variable 0 alone
   pub scope-last : (x : ℕ) → inScope l t (recordCount t) x (recordCount t) ≡ eqb x 0
   scope-last x = scope-climb l t x (recordCount t) (recordCount t) ∙ climb-last l t (eqb x 0) (scopeUp t x) keeps
+
+pub start-scope : (x : ℕ) → eqb x 0 ≡ startScope x
+start-scope zero = refl
+start-scope (suc x) = eqb·suc-zero x
 
 -- ---- levels, of a source table
 abbrev levelUp : List ℕ → ℕ → ℕ → ℕ → ℕ

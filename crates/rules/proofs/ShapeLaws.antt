@@ -16,14 +16,7 @@ use Rattle.rules.specs.Translation.{RecordTree, none, node, treeSize, ro
 use Rattle.rules.proofs.Sound.{Scope}
 use Rattle.rules.proofs.EmissionLaws.{Holds, ownRecord, root-size, field-root}
 use Rattle.rules.proofs.FittingTrees.{rootKind, FieldTree, scopeBelow, Fits, Fitting, no-sort, root-kind, Held, records-fit}
-use Rattle.rules.proofs.ParentLaws.{Passed, times-suc, times-zero}
-
--- 1 if the numbers are the same
-abbrev pub same : ℕ → ℕ → ℕ
-same x j = cond (eqb x j) 1 0
-
-pub same-yes : (j : ℕ) → same j j ≡ 1
-same-yes j = ap (λ (b : Bool). cond b 1 0) (eq-eqb j j refl)
+use Rattle.rules.proofs.ParentLaws.{Passed, times-suc, times-zero, same, same-yes}
 
 pub same-no : (x j : ℕ) → (x ≡ j → ⊥) → same x j ≡ 0
 same-no x j h = ap (λ (b : Bool). cond b 1 0) (ne-eqb x j h)

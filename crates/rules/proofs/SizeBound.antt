@@ -10,12 +10,12 @@ use Rattle.rules.specs.Checker.{timesIn, timesChildOf, timesChild, check
 use Rattle.rules.specs.declared.Checked.the-variants as checked
 use Rattle.rules.specs.Nodes.{SourceNode, asExpression, asPlace, asTerm, asPredicate, sourceStatement, nodeAt, sourceProgram}
 use Rattle.rules.specs.Translation.{translate, statementTree, treeSize}
-use Rattle.rules.proofs.Acceptance.{Accepted, accepted-says}
+use Rattle.rules.proofs.Acceptance.{Accepted, accepted-says, passed-of}
 use Rattle.rules.proofs.KindViews.{formAt, found-at, SourceKind, literal, read, address, operation, shifted, variable, pointed, value, base, offset, blockLength, combined, valid, initialised, compared, negated, both, either, skip, assign, new, free, sequence, branch, while, letIn, assert}
 use Rattle.rules.proofs.FormLaws.{FieldHolds, nodeAs}
 use Rattle.rules.proofs.Standing.{Stands, stands}
 use Rattle.rules.proofs.AcceptedTrees.{accepted-record, accepted-last}
-use Rattle.rules.proofs.Parents.{times-by-fields, child-once, last-no-child}
+use Rattle.rules.proofs.ParentLaws.{times-by-fields, times-zero, times-suc, child-once, last-no-child}
 use Rattle.rules.proofs.Readiness.{node-as}
 use Rattle.rules.proofs.Counting.{sum, sum-equal, sum-plus, sum-none, sum-pick, count-all}
 use Rattle.rules.proofs.TreeSizes.{expressionSize, placeSize, termSize, predicateSize, statementSize, translation-size}
@@ -119,22 +119,14 @@ size-sum t a n p q =
       field-sum t n (f .b) (childB t n) q (w .holds .b),
       field-sum t n (f .c) (childC t n) q (w .holds .c))
 
-times-none : (t : List ℕ) (j : ℕ) → timesChild source t zero j ≡ 0
-unfolding timesChild
-times-none t j = refl
-
-times-next : (t : List ℕ) (k j : ℕ)
-    → timesChild source t (suc k) j ≡ timesChild source t k j + timesChildOf source t (suc k) j
-unfolding timesChild
-times-next t k j = refl
-
 -- the whole tree has one node for each record
 all-counted : (t : List ℕ) → Accepted source t → (d : ℕ) → recordCount t ≡ suc d → sizeOf t (suc d) ≡ suc d
 all-counted t a d e =
-    count-all d (sizeOf t) (timesChildOf source t) (timesChild source t) (times-none t) (times-next t)
+    count-all d (sizeOf t) (timesChildOf source t) (timesChild source t) (times-zero source t)
+    (λ k j. times-suc source t j k)
     (λ m p q. rw e at (size-sum t a m p (omega arith)))
-    (λ j p q. rw e at (child-once source t a j p (omega arith)))
-    (rw e at (last-no-child source t a (recordCount t) (omega arith)))
+    (λ j p q. rw e at (child-once source t (passed-of source t a) j p (omega arith)))
+    (rw e at (last-no-child source t (passed-of source t a)))
 
 pub program-size : (t : List ℕ) → Accepted source t → statementSize (sourceProgram t) ≡ recordCount t
 program-size t a =

@@ -14,7 +14,8 @@ use Rattle.rules.specs.Trees.{Operator, add, subtract, multiply, divide,
 use Rattle.rules.specs.TargetTrees.{TargetStatement, skip, assign, new, free, sequence, branch, while, letIn, takeAddress, takeValue, takeOperation, takeQuery, takeNot, branchOn, assertOn, storeBlock, deleteBlock, initialise}
 use Rattle.rules.specs.Translation.{RecordTree, none, operatorNumber, queryNumber, expressionTree, placeTree, statementTree}
 use Rattle.rules.proofs.Sound.{Scope, adding, isPlainOperator, SoundExpression, SoundPlace, Named, Numbered, SoundTarget}
-use Rattle.rules.proofs.FittingTrees.{both-true, rootKind, FieldTree, OwnScope, scopeBelow, Fits, Fitting}
+use Rattle.rules.proofs.BooleanLaws.{both-true}
+use Rattle.rules.proofs.FittingTrees.{rootKind, FieldTree, OwnScope, scopeBelow, Fits, Fitting}
 
 pub between-true : (low high x : ℕ) → low ≤ x → x ≤ high → between low high x ≡ true
 between-true low high x p q = both-true (leb low x) (leb x high) (le-leb low x p) (le-leb x high q)
