@@ -48,14 +48,14 @@ module _ (limit : ℕ) (enough : 48 ≤ limit) where
   ends-test test.No h = tt
   ends-test (test.Stopped c) h = inr h
 
-  ends-evaluated : (e : Evaluated) → EvaluatedLate limit e → Gives AnyValue (Ending limit) e
+  ends-evaluated : (e : Evaluated) → EvaluatedLate AnyValue limit e → Gives AnyValue (Ending limit) e
   ends-evaluated (evaluated.Value v) h = tt
   ends-evaluated (evaluated.Stopped c) h = inr h
 
-  ends-condition : (e : Evaluated) → EvaluatedLate limit e → TestStops (Ending limit) (condition e)
-  ends-condition e h = ends-test (condition e) (condition-late limit enough e h)
+  ends-condition : (e : Evaluated) → EvaluatedLate AnyValue limit e → TestStops (Ending limit) (condition e)
+  ends-condition e h = ends-test (condition e) (condition-late AnyValue (λ z. tt) (λ p. tt) limit enough e h)
 
-  ends-assigned : (m : Memory) (f : Found) (e : Evaluated) → FoundLate limit f → EvaluatedLate limit e
+  ends-assigned : (m : Memory) (f : Found) (e : Evaluated) → FoundLate limit f → EvaluatedLate AnyValue limit e
       → ChangeKeeps AnyMemory (Ending limit) (assigned m f e)
   ends-assigned m f e h k =
       assigned-keeps AnyMemory (Late limit) (Ending limit) known (λ c x. inr x) AnyValue AnyPlace m f e tt h k
@@ -66,13 +66,13 @@ module _ (limit : ℕ) (enough : 48 ≤ limit) where
       makeAt-keeps AnyMemory (Late limit) (Ending limit) known (λ c x. inr x) AnyValue AnyPlace AnyMade m u n
         (nextName m) (freeRun m n) (λ k first x y. tt)
 
-  ends-allocated : (m : Memory) (f : Found) (e : Evaluated) → FoundLate limit f → EvaluatedLate limit e
+  ends-allocated : (m : Memory) (f : Found) (e : Evaluated) → FoundLate limit f → EvaluatedLate AnyValue limit e
       → ChangeKeeps AnyMemory (Ending limit) (allocated m f e)
   ends-allocated m f e h k =
       allocated-keeps AnyMemory (Late limit) (Ending limit) known (λ c x. inr x) AnyValue AnyPlace {K = AnyMade} m f e
         tt h k (omega arith) (λ n. ends-makeBlock m freeable (suc n)) (λ j m₁ x. tt) (λ p x j m₁ y i. tt)
 
-  ends-freed : (m : Memory) (e : Evaluated) → EvaluatedLate limit e → ChangeKeeps AnyMemory (Ending limit) (freed m e)
+  ends-freed : (m : Memory) (e : Evaluated) → EvaluatedLate AnyValue limit e → ChangeKeeps AnyMemory (Ending limit) (freed m e)
   ends-freed m e k =
       freed-keeps AnyMemory (Late limit) (Ending limit) known (λ c x. inr x) AnyValue AnyPlace m e tt k (omega arith)
         (λ j. tt)
@@ -84,11 +84,11 @@ AnyState m f = Unit {0}
 abbrev Ends : Outcome → Type 0
 Ends x = Outcomes AnyState (Ending 48) x
 
-source-late : (e : Expression ⊥) (ρ : Variables) (m : Memory) → EvaluatedLate 48 (evaluateSource e ρ m)
-source-late e ρ m = evaluate-late 48 (omega arith) e noTemporaries (λ t. elim t [ ]) ρ m
+source-late : (e : Expression ⊥) (ρ : Variables) (m : Memory) → EvaluatedLate AnyValue 48 (evaluateSource e ρ m)
+source-late e ρ m = evaluate-late AnyValue (λ z. tt) (λ p. tt) 48 (omega arith) e noTemporaries (λ t. elim t [ ]) ρ m
 
 source-found : (p : Place ⊥) (ρ : Variables) (m : Memory) → FoundLate 48 (findSource p ρ m)
-source-found p ρ m = findPlace-late 48 (omega arith) p noTemporaries (λ t. elim t [ ]) ρ m
+source-found p ρ m = findPlace-late AnyValue (λ z. tt) (λ p. tt) 48 (omega arith) p noTemporaries (λ t. elim t [ ]) ρ m
 
 run-ends : (a : Statement) (ρ : Variables) (m : Memory) (f : ℕ) → Ends (run a ρ m f)
 unfolding run
@@ -121,7 +121,7 @@ run-ends (tree.letIn s x b) ρ m f =
       (ends-makeBlock 48 (omega arith) m fixed 1) (λ k m₁ i. run-ends b (extend ρ x k) m₁ f) (λ k m₂ f₂ i. tt)
 run-ends (tree.assert s p) ρ m f =
     asserted-keeps AnyState (Ending 48) s m f (condition (evaluatePredicate p ρ m)) (inl (omega arith)) tt
-      (ends-condition 48 (omega arith) (evaluatePredicate p ρ m) (evaluatePredicate-late 48 (omega arith) p ρ m))
+      (ends-condition 48 (omega arith) (evaluatePredicate p ρ m) (evaluatePredicate-late AnyValue (λ z. tt) (λ p. tt) 48 (omega arith) p ρ m))
 
 pub run-endings : (a : Statement) (ρ : Variables) (m : Memory) (f : ℕ) → PlainEnds (run a ρ m f)
 run-endings a ρ m f = of (run a ρ m f) (run-ends a ρ m f)
@@ -137,19 +137,19 @@ AnyWatched m o τ f = Unit {0}
 abbrev WatchEnds : WatchedOutcome → Type 0
 WatchEnds x = WatchedOutcomes AnyWatched (Ending 50) x
 
-held-late : (t : Temporary) → EvaluatedLate 50 (held t)
+held-late : (t : Temporary) → EvaluatedLate AnyValue 50 (held t)
 held-late temporary.Empty = omega arith
 held-late (temporary.Holds v) = tt
 
 target-late : (e : Expression ℕ) (τ : Temporaries) (ρ : Variables) (m : Memory)
-    → EvaluatedLate 50 (evaluate e (temporaryOf τ) ρ m)
-target-late e τ ρ m = evaluate-late 50 (omega arith) e (temporaryOf τ) (λ t. held-late (temporaryOf τ t)) ρ m
+    → EvaluatedLate AnyValue 50 (evaluate e (temporaryOf τ) ρ m)
+target-late e τ ρ m = evaluate-late AnyValue (λ z. tt) (λ p. tt) 50 (omega arith) e (temporaryOf τ) (λ t. held-late (temporaryOf τ t)) ρ m
 
 target-found : (p : Place ℕ) (τ : Temporaries) (ρ : Variables) (m : Memory)
     → FoundLate 50 (findPlace p (temporaryOf τ) ρ m)
-target-found p τ ρ m = findPlace-late 50 (omega arith) p (temporaryOf τ) (λ t. held-late (temporaryOf τ t)) ρ m
+target-found p τ ρ m = findPlace-late AnyValue (λ z. tt) (λ p. tt) 50 (omega arith) p (temporaryOf τ) (λ t. held-late (temporaryOf τ t)) ρ m
 
-taken-ends : (s n : ℕ) (e : Evaluated) (m : Memory) (o : Observation) (τ : Temporaries) (f : ℕ) → EvaluatedLate 50 e
+taken-ends : (s n : ℕ) (e : Evaluated) (m : Memory) (o : Observation) (τ : Temporaries) (f : ℕ) → EvaluatedLate AnyValue 50 e
     → WatchEnds (watched.taken s n e m o τ f)
 taken-ends s n e m o τ f h =
     taken-keeps AnyWatched (Ending 50) AnyValue s n e m o τ f tt (ends-evaluated 50 (omega arith) e h) (λ v g. tt)
@@ -161,10 +161,10 @@ observed-ends s x m o τ f h = observed-keeps AnyWatched (Ending 50) AnyObservat
 held-ends : (τ : Temporaries) (n : ℕ) → Gives AnyValue (Ending 50) (heldIn τ n)
 held-ends τ n = ends-evaluated 50 (omega arith) (heldIn τ n) (held-late (temporaryOf τ n))
 
-query-late : (q : tree.Query) (o : Observation) (v : Value) → EvaluatedLate 50 (queryObservation q o v)
+query-late : (q : tree.Query) (o : Observation) (v : Value) → EvaluatedLate AnyValue 50 (queryObservation q o v)
 query-late q o v =
-    on-pointer (EvaluatedLate 50) (Late 50) evaluated.Stopped (λ c x. x) AnyValue v _ (omega arith) tt
-      (λ p u. queried-late 50 (omega arith) q (recordOf o (p .name)) (λ i. markOf o i) p)
+    on-pointer (EvaluatedLate AnyValue 50) (Late 50) evaluated.Stopped (λ c x. x) AnyValue v _ (omega arith) tt
+      (λ p u. queried-late AnyValue (λ z. tt) (λ p. tt) 50 (omega arith) q (recordOf o (p .name)) (λ i. markOf o i) p)
 
 watch-ends : (a : TargetStatement) (ρ : Variables) (m : Memory) (o : Observation) (τ : Temporaries) (f : ℕ)
     → WatchEnds (watch a ρ m o τ f)
@@ -202,20 +202,20 @@ watch-ends (letIn s x b) ρ m o τ f =
       (λ k m₁ i. watch-ends b (extend ρ x k) m₁ o τ f) (λ k m₂ o₂ τ₂ f₂ i. tt)
 watch-ends (takeAddress s n p) ρ m o τ f =
     taken-ends s n (addressOf (findPlace p (temporaryOf τ) ρ m)) m o τ f
-      (addressOf-late 50 (omega arith) (findPlace p (temporaryOf τ) ρ m) (target-found p τ ρ m))
+      (addressOf-late AnyValue (λ z. tt) (λ p. tt) 50 (omega arith) (findPlace p (temporaryOf τ) ρ m) (target-found p τ ρ m))
 watch-ends (takeValue s n e) ρ m o τ f = taken-ends s n (evaluate e (temporaryOf τ) ρ m) m o τ f (target-late e τ ρ m)
 watch-ends (takeOperation s n q) ρ m o τ f =
     taken-ends s n (operated q (heldIn τ (suc n)) (heldIn τ (suc (suc n)))) m o τ f
-      (operated-late 50 (omega arith) q (heldIn τ (suc n)) (heldIn τ (suc (suc n)))
+      (operated-late AnyValue (λ z. tt) (λ p. tt) 50 (omega arith) q (heldIn τ (suc n)) (heldIn τ (suc (suc n)))
         (held-late (temporaryOf τ (suc n))) (held-late (temporaryOf τ (suc (suc n)))))
 watch-ends (takeQuery s n q) ρ m o τ f =
     taken-ends s n (onValue (heldIn τ (suc n)) evaluated.Stopped (queryObservation q o)) m o τ f
-      (on-value (EvaluatedLate 50) (Late 50) evaluated.Stopped (λ c x. x) (heldIn τ (suc n)) _
+      (on-value (EvaluatedLate AnyValue 50) (Late 50) evaluated.Stopped (λ c x. x) (heldIn τ (suc n)) _
         (held-late (temporaryOf τ (suc n))) (λ v u. query-late q o v))
 watch-ends (takeNot s n) ρ m o τ f =
     taken-ends s n (onValue (heldIn τ (suc n)) evaluated.Stopped opposite) m o τ f
-      (on-value (EvaluatedLate 50) (Late 50) evaluated.Stopped (λ c x. x) (heldIn τ (suc n)) _
-        (held-late (temporaryOf τ (suc n))) (λ v u. opposite-late 50 (omega arith) v))
+      (on-value (EvaluatedLate AnyValue 50) (Late 50) evaluated.Stopped (λ c x. x) (heldIn τ (suc n)) _
+        (held-late (temporaryOf τ (suc n))) (λ v u. opposite-late AnyValue (λ z. tt) (λ p. tt) 50 (omega arith) v))
 watch-ends (branchOn s n a b) ρ m o τ f =
     watched-decide AnyWatched (Ending 50) s (condition (heldIn τ n)) _ _ m o τ f
       (ends-condition 50 (omega arith) (heldIn τ n) (held-late (temporaryOf τ n))) tt

@@ -60,7 +60,6 @@ pub mod WatchedKept
 pub mod Totals
 pub mod Orderly
 pub mod DefinedValues
-pub mod PlainNumbers
 pub mod Mirror
 pub mod PredicateSimulation
 pub mod StatementSteps

@@ -1,8 +1,8 @@
 -- Demand 3 for every sound source tree, inputs and fuel.
-use Prim.Native.Nat.{ℕ, _≤_}
+use Prim.Native.Nat.{ℕ, _≤_, _<_}
 use native.Mathlib.Omega.{arith}
 use mathlib.Core.Path.{_≡_, refl, sym}
-use mathlib.Core.Logic.{_≢_, _⊎_, inl, inr}
+use mathlib.Core.Logic.{_≢_, _⊎_, inl, inr, ⊎-elim}
 use mathlib.Core.List.{List}
 use lib.IntN.{ℤ}
 use lib.ListN.{length, length-replicate}
@@ -18,7 +18,7 @@ use Rattle.rules.specs.Translation.{translate}
 use Rattle.rules.specs.Answers.{endingOf, memoryAfter, watchedEndingOf, watchedMemoryAfter, observationAfter}
 use Rattle.rules.proofs.Sound.{Scope, SoundStatement}
 use Rattle.rules.proofs.PastRun.{past-is}
-use Rattle.rules.proofs.PlainNumbers.{FairOutcome, fair-run}
+use Rattle.rules.proofs.Endings.{PlainEnds, run-endings}
 use Rattle.rules.proofs.StatementSteps.{Agree, both-finish, both-end}
 use Rattle.rules.proofs.Simulation.{simulates}
 use Rattle.rules.proofs.Start.{start-invariant}
@@ -33,14 +33,16 @@ pub record Same (p : Outcome) (w : WatchedOutcome) : Type 0 where
   pub mirrors : (endingOf p .number ≡ 0) ⊎ (endingOf p .number ≡ 33) → observationAfter w ≡ mirror (memoryAfter p)
   pub no-contradiction : (watchedEndingOf w .number ≢ 48) × (watchedEndingOf w .number ≢ 49)
 
-same-of : {p : Outcome} {w : WatchedOutcome} → Agree p w → FairOutcome p → Same p w
+same-of : {p : Outcome} {w : WatchedOutcome} → Agree p w → PlainEnds p → Same p w
 same-of (both-finish e l) c = record {
   same-ending = refl; same-memory = refl; mirrors = λ h. e; no-contradiction = (omega arith, omega arith) }
 same-of (both-end {c = n} {m = m} {o = o} h) c = record {
-  same-ending = refl; same-memory = refl; mirrors = go; no-contradiction = (omega arith, omega arith) }
+  same-ending = refl; same-memory = refl; mirrors = go; no-contradiction = (omega (arith, late), omega (arith, late)) }
   where
+    late : (30 ≤ n) × (n < 48)
+    late = ⊎-elim (λ q. omega (arith, q)) (λ q. omega (arith, q)) c
     go : (n ≡ 0) ⊎ (n ≡ 33) → o ≡ mirror m
-    go (inl z) = absurd (omega arith)
+    go (inl z) = absurd (omega (arith, late))
     go (inr z) = h z
 
 -- the runs of a source tree, and a target tree's
@@ -64,7 +66,7 @@ runs-same a σ is f d h le =
       (same-of
         (simulates a σ startVariables (startMemory is) startTemporaries f d (start-invariant is le)
           (length-replicate 64 temporary.Empty))
-        (fair-run a startVariables (startMemory is) f))
+        (run-endings a startVariables (startMemory is) f))
 
 -- what holds of the execution memory after a run, of the translation or of any other target statement
 pub plain-keeps : (a : Statement) (is : List ℤ) (f : ℕ) → length is ≤ inputLimit
