@@ -4,7 +4,7 @@ use native.Mathlib.Omega.{arith}
 use native.Mathlib.Decide.{ℕ-discrete}
 use mathlib.Core.Path.{_≡_, refl, sym, ap, _∙_}
 use mathlib.Core.Logic.{_≢_, _⊎_, inl, inr}
-use mathlib.Core.Bool.{Bool, true, false, cond}
+use mathlib.Core.Bool.{Bool, true, false, cond, true≢false}
 use mathlib.Core.List.{List, [], _∷_, map}
 use lib.Dec.{ltb}
 use lib.IntN.{ℤ, pos, negsuc}
@@ -14,7 +14,9 @@ use borrow.Author.Tests.{ltb-true}
 use Rattle.rules.specs.Sizes.{nameCount, cellCount}
 use Rattle.rules.specs.Memory.{Memory, recordedOf, named, rename, blockOf, cellOf, locatedIn, locate, setCell, allFree, lowestRun, isFree, freeRun, isUnused, nextName, Use, fixed, freeable, blockFor, withBlock, withoutCells, endBlock, one}
 use Rattle.rules.specs.Observation.{covers}
-use Rattle.rules.proofs.MemoryLaws.{true-is-not-false, map-rename, named-map, length-rename, length-fill, named-rename-same, named-rename-other, named-rename, fill-inside, fill-below, fill-above, Passes, lowest-passes, allFree-at, Covering, inside, below, above, covering, coverage, coverage-rename, coverage-named}
+use Rattle.rules.proofs.SearchLaws.{Outcome, lowest-outcome}
+use Rattle.rules.proofs.Lists.{length-rename, length-fill}
+use Rattle.rules.proofs.MemoryLaws.{map-rename, named-map, named-rename-same, named-rename-other, named-rename, fill-inside, fill-below, fill-above, allFree-at, Covering, inside, below, above, covering, coverage, coverage-rename, coverage-named}
 use Rattle.rules.proofs.Invariant.{occupied, at-most-one, recordsOf, Invariant, Becomes, becomes-itself, Onward}
 use Rattle.rules.specs.declared.Pointer.{Pointer}
 use Rattle.rules.specs.declared.Value.{Value}
@@ -79,24 +81,24 @@ HasRoom m n (search.At k) (search.At first) = Room m n k first
 
 unused-is : (b : Block) → isUnused b ≡ true → b ≡ block.Unused
 unused-is block.Unused e = refl
-unused-is (block.Fixed first n) e = absurd (true-is-not-false (sym e))
-unused-is (block.Freeable first n) e = absurd (true-is-not-false (sym e))
-unused-is block.Dead e = absurd (true-is-not-false (sym e))
+unused-is (block.Fixed first n) e = absurd (true≢false (sym e))
+unused-is (block.Freeable first n) e = absurd (true≢false (sym e))
+unused-is block.Dead e = absurd (true≢false (sym e))
 
 pub room : (m : Memory) (n : ℕ) → HasRoom m n (nextName m) (freeRun m n)
 unfolding lowestRun
-room m n = go (nextName m) (freeRun m n) (lowest-passes _ _ _) (lowest-passes _ _ _)
+room m n = go (nextName m) (freeRun m n) (lowest-outcome _ _ _) (lowest-outcome _ _ _)
   where
-    go : (r s : Search) → Passes (λ k. isUnused (blockOf m k)) 1 nameCount r
-        → Passes (λ s. allFree (λ i. isFree (cellOf m i)) s n) 0 (suc cellCount - n) s → HasRoom m n r s
+    go : (r s : Search) → Outcome (λ k. isUnused (blockOf m k)) 1 nameCount r
+        → Outcome (λ s. allFree (λ i. isFree (cellOf m i)) s n) 0 (suc cellCount - n) s → HasRoom m n r s
     go search.Nothing s p q = tt
     go (search.At k) search.Nothing p q = tt
     go (search.At k) (search.At first) p q = record {
-      unused = unused-is (blockOf m k) (p .0);
-      from = p .1;
+      unused = unused-is (blockOf m k) (p .2);
+      from = p .0;
       to = omega arith;
       fits = omega arith;
-      clear = λ i a b. allFree-at _ first n i (q .0) a b }
+      clear = λ i a b. allFree-at _ first n i (q .2) a b }
 
 pub recorded-for : (u : Use) (first n : ℕ) → recordedOf (blockFor u first n) ≡ recorded.Live first n
 recorded-for fixed first n = refl
@@ -107,7 +109,7 @@ live-parts a n b l e = (cc, cc)
 
 free-is : (c : Cell) → isFree c ≡ true → occupied c ≡ 0
 free-is cell.Free e = refl
-free-is (cell.Holds o v) e = absurd (true-is-not-false (sym e))
+free-is (cell.Holds o v) e = absurd (true≢false (sym e))
 
 -- a new block
 pub onward-make : (m : Memory) (u : Use) (n k first : ℕ) → Room m n k first → Invariant m

@@ -9,17 +9,16 @@ use lib.IntN.{ℤ, pos, negsuc}
 use borrow.Author.Tests.{ltb-true}
 use lib.ListN.{length, set, replicate, length-append, length-map, length-replicate, length-set}
 use Rattle.rules.specs.Sizes.{nameCount, cellCount}
-use Rattle.rules.specs.Checker.{lowest}
 use Rattle.rules.specs.Numbers.{inRange}
 use Rattle.rules.specs.Memory.{Memory, recordedOf, blockOf, locate, locatedIn, setCell, allFree, lowestRun, isUnused, nextName, Use, fixed, freeable, blockFor, withBlock, withoutCells, endBlock, startMemory}
 use Rattle.rules.specs.Observation.{Observation, recordOf, locateMark, withMarks}
+use Rattle.rules.proofs.SearchLaws.{Outcome, lowest-outcome}
 use Rattle.rules.proofs.Lists.{All, also, all-set, all-fill, all-append, all-replicate, all-named, all-rename, all-map, length-fill, length-rename}
 use Rattle.rules.proofs.Fits.{FitsName, FitsPlaces, FitsBlock, FitsRecorded, FitsCell, FitsMemory, FitsObservation, InsideRecorded, InsideBlock, InsideMemory, InsideObservation}
 use Rattle.rules.specs.declared.Value.the-variants as value
 use Rattle.rules.specs.declared.Pointer.{Pointer}
 use Rattle.rules.specs.declared.Located.{Located}
 use Rattle.rules.specs.declared.Located.the-variants as located
-use Rattle.rules.specs.declared.Search.{Search}
 use Rattle.rules.specs.declared.Search.the-variants as search
 use Rattle.rules.specs.declared.Block.the-variants as block
 use Rattle.rules.specs.declared.Recorded.{Recorded}
@@ -27,37 +26,17 @@ use Rattle.rules.specs.declared.Recorded.the-variants as recorded
 use Rattle.rules.specs.declared.Cell.{Cell}
 use Rattle.rules.specs.declared.Cell.the-variants as cell
 
--- ---- the lowest of some numbers is one of them
-abbrev pub Within : ℕ → ℕ → Search → Type 0
-Within j n (search.At k) = (j ≤ k) × (k < j + n)
-Within j n search.Nothing = Unit {0}
-
-pub lowest-within : (p : ℕ → Bool) (j n : ℕ) → Within j n (lowest p j n)
-unfolding lowest
-lowest-within p j zero = tt
-lowest-within p j (suc n) = pick (p j) (lowest p (suc j) n) (lowest-within p (suc j) n)
-  where
-    further : (s : Search) → Within (suc j) n s → Within j (suc n) s
-    further (search.At k) h = (omega arith, omega arith)
-    further search.Nothing h = tt
-
-    pick : (b : Bool) (s : Search) → Within (suc j) n s
-        → Within j (suc n) (elim b [ true ↦ search.At j | false ↦ s ])
-    pick true s h = (omega arith, omega arith)
-    pick false s h = further s h
-
+-- ---- what a search finds is in range
 pub lowestRun-places : (p : ℕ → Bool) (n first : ℕ) → lowestRun p n ≡ search.At first → first + n ≤ cellCount
 unfolding lowestRun
 lowestRun-places p n first e =
-    let h : Within 0 (suc cellCount - n) (search.At first) =
-      subst (Within 0 (suc cellCount - n)) e (lowest-within (λ s. allFree p s n) 0 (suc cellCount - n)) in
-    omega arith
+    let h = subst (Outcome (λ s. allFree p s n) 0 (suc cellCount - n)) e (lowest-outcome _ 0 (suc cellCount - n)) in
+    omega (arith, h .0, h .1)
 
 pub nextName-fits : (m : Memory) (k : ℕ) → nextName m ≡ search.At k → FitsName k
 nextName-fits m k e =
-    let h : Within 1 nameCount (search.At k) =
-      subst (Within 1 nameCount) e (lowest-within (λ j. isUnused (blockOf m j)) 1 nameCount) in
-    omega arith
+    let h = subst (Outcome (λ j. isUnused (blockOf m j)) 1 nameCount) e (lowest-outcome _ 1 nameCount) in
+    omega (arith, h .0, h .1)
 
 -- ---- the execution memory
 pub setCell-fits : (m : Memory) (i : ℕ) (c : Cell) → FitsMemory m → FitsCell c → FitsMemory (setCell m i c)

@@ -9,7 +9,6 @@ pub mod FormLaws
 pub mod Standing
 pub mod AcceptedTrees
 pub mod Descent
-pub mod Ranges
 pub mod Readiness
 pub mod SoundSource
 pub mod SoundTargets

@@ -1,25 +1,19 @@
--- Facts about lists by place and by name, runs of places, searches and coverage.
+-- Facts about lists by place and by name, runs of places and coverage.
 use Prim.Native.Nat.{ℕ, zero, suc, _+_, _-_, _≤_, _<_}
 use native.Mathlib.Omega.{arith}
 use native.Mathlib.Decide.{ℕ-discrete}
 use mathlib.Core.Path.{_≡_, refl, sym, ap, _∙_}
 use mathlib.Core.Logic.{_≢_, _⊎_, inl, inr}
-use mathlib.Core.Bool.{Bool, true, false, _&&_}
+use mathlib.Core.Bool.{Bool, true, false, _&&_, true≢false}
 use mathlib.Core.List.{List, [], _∷_, map}
 use lib.Dec.{leb, ltb}
-use lib.ListN.{length, getD, set, length-set, List·getD-map}
+use lib.ListN.{length, getD, set, List·getD-map}
 use lib.Seq.{getD-set-same, getD-set-other}
 use borrow.Author.Tests.{leb-true, leb-false, ltb-true, ltb-false}
-use Rattle.rules.specs.Checker.{lowest}
 use Rattle.rules.specs.Memory.{named, rename, fill, allFree, one}
 use Rattle.rules.specs.Observation.{covers, covered}
-use Rattle.rules.specs.declared.Search.{Search}
-use Rattle.rules.specs.declared.Search.the-variants as search
 use Rattle.rules.specs.declared.Recorded.{Recorded}
 use Rattle.rules.specs.declared.Recorded.the-variants as recorded
-
-pub true-is-not-false : _≡_ {A = Bool} true false → ⊥
-true-is-not-false e = let z : _≡_ {A = ℕ} 0 1 = cc in omega arith
 
 module _ {A B : Type 0} (g : A → B) where
   pub map-set : (l : List A) (i : ℕ) (x : A) → map g (set l i x) ≡ set (map g l) i (g x)
@@ -42,16 +36,6 @@ module _ {A B : Type 0} (g : A → B) where
   named-map l (suc k) d = List·getD-map g l k d
 
 module _ {A : Type 0} where
-  pub length-rename : (l : List A) (k : ℕ) (x : A) → length (rename l k x) ≡ length l
-  length-rename l zero x = refl
-  length-rename l (suc k) x = length-set l k x
-
-  pub length-fill : (l : List A) (s n : ℕ) (x : A) → length (fill l s n x) ≡ length l
-  length-fill [] s n x = refl
-  length-fill (y ∷ l) zero zero x = refl
-  length-fill (y ∷ l) zero (suc n) x = ap suc (length-fill l zero n x)
-  length-fill (y ∷ l) (suc s) n x = ap suc (length-fill l s n x)
-
   pub named-rename-same : (l : List A) (k : ℕ) (x d : A) → 1 ≤ k → k ≤ length l → named (rename l k x) k d ≡ x
   named-rename-same l zero x d h le = absurd (omega arith)
   named-rename-same l (suc k) x d h le = getD-set-same l k x d (omega arith)
@@ -99,25 +83,6 @@ module _ {A : Type 0} where
   fill-above (y ∷ l) (suc s) n x zero d h = absurd (omega arith)
   fill-above (y ∷ l) (suc s) n x (suc i) d h = fill-above l s n x i d (omega arith)
 
--- what a search finds
-abbrev pub Passes : (ℕ → Bool) → ℕ → ℕ → Search → Type 0
-Passes p j k search.Nothing = Unit {0}
-Passes p j k (search.At s) = (p s ≡ true) × (j ≤ s) × (s < j + k)
-
-pub lowest-passes : (p : ℕ → Bool) (j k : ℕ) → Passes p j k (lowest p j k)
-unfolding lowest
-lowest-passes p j zero = tt
-lowest-passes p j (suc k) = go (p j) refl (lowest-passes p (suc j) k)
-  where
-    later : (r : Search) → Passes p (suc j) k r → Passes p j (suc k) r
-    later search.Nothing h = tt
-    later (search.At s) h = (h .0, omega arith, omega arith)
-
-    go : (b : Bool) → p j ≡ b → Passes p (suc j) k (lowest p (suc j) k)
-        → Passes p j (suc k) (elim b [ true ↦ search.At j | false ↦ lowest p (suc j) k ])
-    go true e h = (e, omega arith, omega arith)
-    go false e h = later (lowest p (suc j) k) h
-
 pub allFree-at : (p : ℕ → Bool) (s n i : ℕ) → allFree p s n ≡ true → s ≤ i → i < s + n → p i ≡ true
 unfolding allFree
 allFree-at p s zero i e a b = absurd (omega arith)
@@ -125,7 +90,7 @@ allFree-at p s (suc n) i e a b = go (p s) refl e (ℕ-discrete i s) (λ h c d. a
   where
     go : (c : Bool) → p s ≡ c → (elim c [ true ↦ allFree p (suc s) n | false ↦ false ]) ≡ true → Dec (i ≡ s)
         → (allFree p (suc s) n ≡ true → suc s ≤ i → i < suc s + n → p i ≡ true) → p i ≡ true
-    go false g h d k = absurd (true-is-not-false (sym h))
+    go false g h d k = absurd (true≢false (sym h))
     go true g h (yes d) k = ap p d ∙ g
     go true g h (no d) k = k h (omega arith) (omega arith)
 

@@ -4,7 +4,7 @@ use Prim.Native.Nat.{ℕ, zero, suc, _+_, _≤_, _<_}
 use native.Mathlib.Omega.{arith}
 use mathlib.Core.Path.{_≡_, refl, sym, ap, _∙_}
 use mathlib.Core.Logic.{_≢_, inl, inr}
-use mathlib.Core.Bool.{Bool, false}
+use mathlib.Core.Bool.{Bool, false, true≢false}
 use mathlib.Core.List.{List, [], _∷_}
 use lib.ListN.{getD}
 use Rattle.rules.specs.Sizes.{cellCount}
@@ -16,7 +16,7 @@ use Rattle.rules.specs.Observation.{Observation, covers}
 use Rattle.rules.specs.Plain.{run}
 use Rattle.rules.specs.Watched.{Temporaries, watch}
 use Rattle.rules.specs.Answers.{memoryAfter, watchedMemoryAfter}
-use Rattle.rules.proofs.MemoryLaws.{true-is-not-false, named-map, Covering, inside, below, above, covering, coverage, coverage-named}
+use Rattle.rules.proofs.MemoryLaws.{named-map, Covering, inside, below, above, covering, coverage, coverage-named}
 use Rattle.rules.proofs.Invariant.{at-most-one, recordsOf, Invariant, Becomes, Onward}
 use Rattle.rules.proofs.Changes.{onward-made}
 use Rattle.rules.proofs.PlainKept.{plain-onward}
@@ -62,7 +62,7 @@ apart m y j k s n s₁ n₁ d e e₁ i p q p₁ q₁ =
 
 -- a name that was given stays given, a dead one stays dead
 becomes-given : (b c : Block) → Becomes b c → isUnused b ≡ false → isUnused c ≡ false
-becomes-given block.Unused c h e = absurd (true-is-not-false e)
+becomes-given block.Unused c h e = absurd (true≢false e)
 becomes-given (block.Fixed first n) c h e = ap isUnused h
 becomes-given (block.Freeable first n) c (inl h) e = ap isUnused h
 becomes-given (block.Freeable first n) c (inr h) e = ap isUnused h
@@ -106,5 +106,5 @@ pub never-twice : (m m₁ m₂ m₃ : Memory) (u u₂ : Use) (n n₂ k : ℕ) �
     → makeBlock m u n ≡ made k m₁ → ((j : ℕ) → isUnused (blockOf m₁ j) ≡ false → isUnused (blockOf m₂ j) ≡ false)
     → makeBlock m₂ u₂ n₂ ≡ made k m₃ → ⊥
 never-twice m m₁ m₂ m₃ u u₂ n n₂ k y y₂ e h e₂ =
-    true-is-not-false
+    true≢false
       (sym (ap isUnused (made-unused m₂ m₃ u₂ n₂ k y₂ e₂)) ∙ h k (made-given m m₁ u n k y e))

@@ -7,6 +7,7 @@ use mathlib.Core.Option.{some}
 use mathlib.Core.Path.{_≡_, refl, sym, ap, _∙_, subst, subst₂}
 use borrow.Author.Tests.{leb-false, eq-eqb, ne-eqb, not-false}
 use lib.Dec.{eqb}
+use Rattle.rules.specs.Words.{wordAt}
 use Rattle.rules.specs.Records.{recordCount, kindOf, markOf, childA, childB, childC, literalOf, start}
 use Rattle.rules.specs.Kinds.{Language, source, target, Sort, expression, place, term, predicate, statement, Field, unnamed, child, number, Form, formOf, recordLimit}
 use Rattle.rules.specs.Checker.{timesIn, timesChildOf, scopeFault, levelBelow, highestNamed, isTermOrPredicate, levelFault}
@@ -20,7 +21,7 @@ use Rattle.rules.proofs.Standing.{Stands, stands}
 use Rattle.rules.proofs.AcceptedTrees.{accepted-last}
 use Rattle.rules.proofs.ParentLaws.{times-by-fields, same-yes, IsParent, child-single}
 use Rattle.rules.proofs.Descent.{scopeAt, levelAt, scopeBelow, scope-child, scope-last, level-child}
-use Rattle.rules.proofs.Ranges.{integer-range}
+use Rattle.rules.proofs.WordLaws.{integer-range}
 
 -- a node of sort s is sound in scope ρ at level v
 abbrev pub SoundAs : (l : Language) → Sort → NodeOf l → Scope → ℕ → Type 0
@@ -152,7 +153,7 @@ module _ (l : Language) (t : List ℕ) (a : Accepted l t) (n : ℕ) (p : 1 ≤ n
         from-one = p;
         within = omega (arith, a .not-too-many);
         holds = holds;
-        range = integer-range t (start n + 8);
+        range = integer-range (wordAt 8 t (start n + 8));
         uses = λ e. scope-used l t n (a .scopes n p q) (k ∙ e);
         lets = λ e. scope-let l t n (a .scopes n p q) (k ∙ e);
         names = subst (λ (j : ℕ). NamesBelow l j (levelAt l t n)) k (names-below l t a n p q);

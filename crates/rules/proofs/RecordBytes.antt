@@ -5,28 +5,20 @@ use native.Mathlib.Nat.{add-zero}
 use mathlib.Core.Path.{_≡_, refl, ap, _∙_}
 use mathlib.Core.Bool.{true}
 use mathlib.Core.List.{List, [], _∷_, _++_}
-use lib.IntN.{ℤ, pos, negsuc}
+use lib.IntN.{ℤ, pos}
 use lib.ListN.{length, getD, take, length-append}
 use lib.Seq.{getD-append-add, drop-append-add, take-at}
-use borrow.Author.Tests.{ltb-true}
 use mir.Syntax.{w64}
 use mir.Val.{toZ, ofZ}
-use mir.Facts.{toZ-ofZ}
+use mir.Facts.{toZ-ofZ, fits-ofZ}
 use Rattle.rules.specs.Words.{little, digits, integerBytes, wordAt, flat}
 use Rattle.rules.specs.Records.{Record, recordCount, start, recordAt, recordBytes, tableBytes}
 use Rattle.rules.specs.Numbers.{inRange}
+pub use Rattle.rules.proofs.WordLaws.{length-digits, digits-value, bytes-digits}
+use Rattle.rules.proofs.WordLaws.{length-digits, digits-value, Bytes, no-bytes, more-bytes, bytes-digits, bytes-getD, range-fits}
+use Rattle.rules.proofs.WordLaws as words
 
 -- ---- numbers in bytes
-pub length-digits : (n v : ℕ) → length (digits n v) ≡ n
-unfolding digits
-length-digits zero v = refl
-length-digits (suc n) v = ap suc (length-digits n (v / 256))
-
-pub digits-value : (n v : ℕ) → v < 256 ^ n → little (digits n v) ≡ v
-unfolding digits little
-digits-value zero v h = omega arith
-digits-value (suc n) v h = rw (digits-value n (v / 256) (omega arith)) (omega arith)
-
 pub word-front : (n v : ℕ) (rest : List ℕ) → v < 256 ^ n → wordAt n (digits n v ++ rest) 0 ≡ v
 unfolding wordAt
 word-front n v rest h = ap little (take-at (digits n v) rest n (length-digits n v)) ∙ digits-value n v h
@@ -36,12 +28,10 @@ unfolding wordAt
 word-after n front l i = ap (λ (r : List ℕ). little (take n r)) (drop-append-add front l i)
 
 pub integer-fits : (z : ℤ) → inRange z ≡ true → ofZ w64 z < 256 ^ 8
-integer-fits (pos n) h = omega (arith, ltb-true n (2 ^ 63) h)
-integer-fits (negsuc n) h = omega (arith, ltb-true n (2 ^ 63) h)
+integer-fits z h = fits-ofZ (range-fits z h) .fits
 
 pub integer-back : (z : ℤ) → inRange z ≡ true → toZ w64 (ofZ w64 z) ≡ z
-integer-back (pos n) h = toZ-ofZ {w = w64} {z = pos n} (record { sfits = ltb-true n (2 ^ 63) h })
-integer-back (negsuc n) h = toZ-ofZ {w = w64} {z = negsuc n} (record { sfits = ltb-true n (2 ^ 63) h })
+integer-back z h = toZ-ofZ (range-fits z h)
 
 -- ---- a record
 pub record FitsRecord (r : Record) : Type 0 where
@@ -125,35 +115,26 @@ table-record-at rs (suc i) h low high = table-record rs i h high ∙ ap (λ (j :
 
 -- ---- every byte is below 256
 abbrev pub AllBytes : List ℕ → Type 0
-AllBytes [] = Unit {0}
-AllBytes (b ∷ bs) = (b < 256) × AllBytes bs
+AllBytes bs = Bytes bs
 
 pub bytes-append : (bs cs : List ℕ) → AllBytes bs → AllBytes cs → AllBytes (bs ++ cs)
-bytes-append [] cs h k = k
-bytes-append (b ∷ bs) cs h k = (h .0, bytes-append bs cs (h .1) k)
-
-pub bytes-digits : (n v : ℕ) → AllBytes (digits n v)
-unfolding digits
-bytes-digits zero v = tt
-bytes-digits (suc n) v = (omega arith, bytes-digits n (v / 256))
+bytes-append bs cs h k = words.bytes-append h k
 
 pub bytes-record : (r : Record) → FitsRecord r → AllBytes (recordBytes r)
 bytes-record r h =
     let a : List ℕ = digits 2 (r .a) in
     let b : List ℕ = digits 2 (r .b) in
     let c : List ℕ = digits 2 (r .c) in
-    (h .kind-fits, (h .mark-fits,
-      bytes-append (a ++ b ++ c) (integerBytes (r .literal))
+    more-bytes (h .kind-fits) (more-bytes (h .mark-fits)
+      (bytes-append (a ++ b ++ c) (integerBytes (r .literal))
         (bytes-append (a ++ b) c (bytes-append a b (bytes-digits 2 (r .a)) (bytes-digits 2 (r .b)))
           (bytes-digits 2 (r .c)))
         (bytes-digits 8 (ofZ w64 (r .literal)))))
 
 pub bytes-table : (rs : List Record) → AllFit rs → AllBytes (tableBytes rs)
 unfolding flat
-bytes-table [] h = tt
+bytes-table [] h = no-bytes
 bytes-table (r ∷ rs) h = bytes-append (recordBytes r) (tableBytes rs) (bytes-record r (h .0)) (bytes-table rs (h .1))
 
 pub byte-small : (bs : List ℕ) (i : ℕ) → AllBytes bs → getD bs i 0 < 256
-byte-small [] i h = omega arith
-byte-small (b ∷ bs) zero h = h .0
-byte-small (b ∷ bs) (suc i) h = byte-small bs i (h .1)
+byte-small bs i h = bytes-getD h i
