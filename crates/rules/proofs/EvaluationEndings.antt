@@ -1,13 +1,13 @@
 -- What evaluating gives: a value of which G holds, or a stop with 40 to 47, and 49 where a temporary is empty.
 use Prim.Native.Nat.{ℕ, _≤_}
 use native.Mathlib.Omega.{arith}
-use mathlib.Core.Bool.{Bool, true, false, cond}
-use lib.IntN.{ℤ, pos, _+ℤ_, _-ℤ_, _*ℤ_}
-use lib.Signed.{leZ}
-use Rattle.rules.specs.Trees.{Operator, add, subtract, multiply, divide, nearest, atMost, equal, shift, Query, valid, initialised, base, offset, blockLength, Expression, literal, read, address, operation, shifted, Place, variable, pointed, temporary, Term, value, asked, combined, Predicate, holds, compared, negated, both, either}
-use Rattle.rules.specs.Numbers.{ranged, towardZero, toNearest, divided, stopNumber, numbered, truthValue, onIntegers, onPointerAndInteger, onPointers, operate, sameInteger, samePointer, tested}
+use mathlib.Core.Bool.{Bool}
+use lib.IntN.{ℤ}
+use Rattle.rules.specs.Trees.{Operator, shift, Query, valid, initialised, base, offset, blockLength, Expression, literal, read, address, operation, shifted, Place, variable, pointed, temporary, Term, value, asked, combined, Predicate, holds, compared, negated, both, either}
+use Rattle.rules.specs.Numbers.{truthValue, tested}
 use Rattle.rules.specs.Memory.{Memory, blockOf, cellOf, recordedOf, locate, locatedIn, defined, readCell, onValue}
 use Rattle.rules.specs.Evaluation.{Variables, Holding, noTemporaries, held, pointedBy, addressOf, operated, evaluate, findPlace, ofLive, queried, queryMemory, isInitialised, isValid, initialisedAt, evaluateTerm, onTest, opposite, evaluatePredicate, condition}
+use Rattle.rules.proofs.Operations.{truth-gives, operated-gives, tested-stops, condition-stops, opposite-gives}
 use Rattle.rules.proofs.Keeping.{AnyValue, AnyPlace, Gives, Finds, TestStops, on-value, on-place, on-pointer, on-test, at-cell, Late}
 use Rattle.rules.specs.declared.Pointer.{Pointer}
 use Rattle.rules.specs.declared.Value.{Value}
@@ -16,13 +16,10 @@ use Rattle.rules.specs.declared.Evaluated.{Evaluated}
 use Rattle.rules.specs.declared.Evaluated.the-variants as evaluated
 use Rattle.rules.specs.declared.Found.{Found}
 use Rattle.rules.specs.declared.Found.the-variants as found
-use Rattle.rules.specs.declared.Test.the-variants as test
 use Rattle.rules.specs.declared.Recorded.{Recorded}
 use Rattle.rules.specs.declared.Recorded.the-variants as recorded
 use Rattle.rules.specs.declared.Cell.{Cell}
 use Rattle.rules.specs.declared.Cell.the-variants as cell
-use Rattle.rules.specs.declared.Number.{Number}
-use Rattle.rules.specs.declared.Number.the-variants as number
 
 -- G of the value; the limit of the numbers
 abbrev pub EvaluatedLate : (Value → Type 0) → ℕ → Evaluated → Type 0
@@ -34,61 +31,11 @@ FoundLate limit f = Finds AnyPlace (Late limit) f
 -- G holds of every defined value; the limit is at least 48
 module _ (G : Value → Type 0) (integers : (z : ℤ) → G (values.Integer z))
     (pointers : (p : Pointer) → G (values.Pointer p)) (limit : ℕ) (enough : 48 ≤ limit) where
-  stopNumber-late : (is : ℤ → Evaluated) (n : Number) → ((z : ℤ) → EvaluatedLate G limit (is z))
-      → EvaluatedLate G limit (stopNumber is evaluated.Stopped n)
-  stopNumber-late is (number.Is z) g = g z
-  stopNumber-late is number.Overflow g = omega arith
-  stopNumber-late is number.ZeroDivisor g = omega arith
-
-  numbered-late : (n : Number) → EvaluatedLate G limit (numbered n)
-  numbered-late n = stopNumber-late _ n integers
+  late : (c : ℕ) → Late 48 c → Late limit c
+  late c h = omega (arith, h)
 
   truth-late : (b : Bool) → EvaluatedLate G limit (truthValue b)
-  truth-late true = integers (pos 1)
-  truth-late false = integers (pos 0)
-
-  onIntegers-late : (o : Operator) (x y : ℤ) → EvaluatedLate G limit (onIntegers o x y)
-  unfolding onIntegers
-  onIntegers-late add x y = numbered-late (ranged (x +ℤ y))
-  onIntegers-late subtract x y = numbered-late (ranged (x -ℤ y))
-  onIntegers-late multiply x y = numbered-late (ranged (x *ℤ y))
-  onIntegers-late divide x y = numbered-late (divided towardZero x y)
-  onIntegers-late nearest x y = numbered-late (divided toNearest x y)
-  onIntegers-late atMost x y = truth-late (leZ x y)
-  onIntegers-late equal x y = truth-late (sameInteger x y)
-  onIntegers-late shift x y = omega arith
-
-  onPointerAndInteger-late : (o : Operator) (p : Pointer) (y : ℤ) → EvaluatedLate G limit (onPointerAndInteger o p y)
-  unfolding onPointerAndInteger
-  onPointerAndInteger-late shift p y = stopNumber-late _ (ranged (p .offset +ℤ y)) (λ z. pointers _)
-  onPointerAndInteger-late add p y = omega arith
-  onPointerAndInteger-late subtract p y = omega arith
-  onPointerAndInteger-late multiply p y = omega arith
-  onPointerAndInteger-late divide p y = omega arith
-  onPointerAndInteger-late nearest p y = omega arith
-  onPointerAndInteger-late atMost p y = omega arith
-  onPointerAndInteger-late equal p y = omega arith
-
-  onPointers-late : (o : Operator) (p q : Pointer) → EvaluatedLate G limit (onPointers o p q)
-  unfolding onPointers
-  onPointers-late equal p q = truth-late (samePointer p q)
-  onPointers-late add p q = omega arith
-  onPointers-late subtract p q = omega arith
-  onPointers-late multiply p q = omega arith
-  onPointers-late divide p q = omega arith
-  onPointers-late nearest p q = omega arith
-  onPointers-late atMost p q = omega arith
-  onPointers-late shift p q = omega arith
-
-  pub operate-late : (o : Operator) (x y : Value) → EvaluatedLate G limit (operate o x y)
-  unfolding operate
-  operate-late o values.Undefined y = omega arith
-  operate-late o (values.Integer x) values.Undefined = omega arith
-  operate-late o (values.Integer x) (values.Integer y) = onIntegers-late o x y
-  operate-late o (values.Integer x) (values.Pointer q) = omega arith
-  operate-late o (values.Pointer p) values.Undefined = omega arith
-  operate-late o (values.Pointer p) (values.Integer y) = onPointerAndInteger-late o p y
-  operate-late o (values.Pointer p) (values.Pointer q) = onPointers-late o p q
+  truth-late b = truth-gives G (Late limit) (λ z e. integers z) (λ p z g e. pointers _) late b
 
   ofLive-late : (b : Recorded) (f : ℕ → Value) → ((n : ℕ) → G (f n)) → EvaluatedLate G limit (ofLive b f)
   ofLive-late recorded.Unused f g = omega arith
@@ -104,26 +51,20 @@ module _ (G : Value → Type 0) (integers : (z : ℤ) → G (values.Integer z))
   queried-late offset b marked p = ofLive-late b _ (λ n. integers _)
   queried-late blockLength b marked p = ofLive-late b _ (λ n. integers _)
 
-  pub tested-late : (v : Value) → TestStops (Late limit) (tested v)
-  tested-late values.Undefined = omega arith
-  tested-late (values.Integer z) = pick (sameInteger z (pos 0))
-    where
-      pick : (b : Bool) → TestStops (Late limit) (cond b test.No test.Yes)
-      pick true = tt
-      pick false = tt
-  tested-late (values.Pointer p) = omega arith
+  tested-late : (v : Value) → TestStops (Late limit) (tested v)
+  tested-late v = tested-stops G (Late limit) (λ z e. integers z) (λ p z g e. pointers _) late v
 
   late-value : (e : Evaluated) (next : Value → Evaluated) → EvaluatedLate G limit e
       → ((v : Value) → G v → EvaluatedLate G limit (next v)) → EvaluatedLate G limit (onValue e evaluated.Stopped next)
   late-value e next h g = on-value (EvaluatedLate G limit) (Late limit) evaluated.Stopped (λ c x. x) e next h g
 
   pub condition-late : (e : Evaluated) → EvaluatedLate G limit e → TestStops (Late limit) (condition e)
-  condition-late e h =
-      on-value (TestStops (Late limit)) (Late limit) test.Stopped (λ c x. x) e tested h (λ v u. tested-late v)
+  condition-late e h = condition-stops G (Late limit) (λ z e. integers z) (λ p z g e. pointers _) late e h
 
   pub operated-late : (o : Operator) (a b : Evaluated) → EvaluatedLate G limit a → EvaluatedLate G limit b
       → EvaluatedLate G limit (operated o a b)
-  operated-late o a b g h = late-value a _ g (λ x u. late-value b _ h (λ y w. operate-late o x y))
+  operated-late o a b g h =
+      operated-gives G (Late limit) (λ z e. integers z) (λ p z g e. pointers _) late o a b g h
 
   defined-late : (c : Cell) → EvaluatedLate G limit (defined c)
   defined-late cell.Free = omega arith
@@ -146,9 +87,7 @@ module _ (G : Value → Type 0) (integers : (z : ℤ) → G (values.Integer z))
         (λ p w. tt))
 
   pub opposite-late : (v : Value) → EvaluatedLate G limit (opposite v)
-  opposite-late v =
-      on-test (EvaluatedLate G limit) (Late limit) evaluated.Stopped (λ c x. x) (tested v) _ _ (tested-late v)
-        (truth-late false) (truth-late true)
+  opposite-late v = opposite-gives G (Late limit) (λ z e. integers z) (λ p z g e. pointers _) late v
 
   mutual
     unfolding evaluate

@@ -32,6 +32,7 @@ pub mod CheckLaws
 pub mod TargetAccepted
 pub mod TranslatedTables
 pub mod Keeping
+pub mod Operations
 pub mod EvaluationEndings
 pub mod Outcomes
 pub mod Calls

@@ -13,6 +13,7 @@ use Rattle.rules.specs.Memory.{Memory, cellOf, locate, locatedIn, define
 use Rattle.rules.specs.Evaluation.{Variables, Holding, held, pointedBy, addressOf, operated, evaluate, findPlace, isValid, initialisedAt, ofLive, queried, opposite}
 use Rattle.rules.specs.Observation.{Observation, recordOf, markOf, queryObservation}
 use Rattle.rules.proofs.Sound.{Scope, SoundExpression, SoundPlace}
+use Rattle.rules.proofs.Operations.{truth-gives, operated-gives, opposite-gives}
 use Rattle.rules.proofs.Keeping.{AnyNumber, any-test, Gives, Finds, on-value, on-place, on-pointer, on-test, at-cell}
 use Rattle.rules.proofs.Lists.{all-getD, all-named}
 use Rattle.rules.proofs.Fits.{FitsName, FitsPointer, FitsValue, FitsRecorded, FitsCell, FitsTemporary, FitsMemory, FitsObservation}
@@ -38,94 +39,17 @@ EvaluatedFits e = Gives FitsValue AnyNumber e
 abbrev pub FoundFits : Found → Type 0
 FoundFits f = Finds FitsPointer AnyNumber f
 
--- what an operator on integers gives
-abbrev FitsNumber : Number → Type 0
-FitsNumber (number.Is z) = inRange z ≡ true
-FitsNumber number.Overflow = Unit {0}
-FitsNumber number.ZeroDivisor = Unit {0}
-
-ranged-fits : (z : ℤ) → FitsNumber (ranged z)
-ranged-fits z = pick (inRange z) refl
-  where
-    pick : (b : Bool) → inRange z ≡ b → FitsNumber (cond b (number.Is z) number.Overflow)
-    pick true e = e
-    pick false e = tt
-
-divided-fits : (rounded : ℕ → ℕ → ℕ) (x y : ℤ) → FitsNumber (divided rounded x y)
-divided-fits rounded x y = pick (eqb (natAbs y) 0)
-  where
-    quotient : ℤ
-    quotient = signed (signsDiffer x y) (rounded (natAbs x) (natAbs y))
-
-    pick : (b : Bool) → FitsNumber (cond b number.ZeroDivisor (ranged quotient))
-    pick true = tt
-    pick false = ranged-fits quotient
-
-stopNumber-fits : (is : ℤ → Evaluated) (n : Number) → FitsNumber n
-    → ((z : ℤ) → inRange z ≡ true → EvaluatedFits (is z)) → EvaluatedFits (stopNumber is evaluated.Stopped n)
-stopNumber-fits is (number.Is z) h g = g z h
-stopNumber-fits is number.Overflow h g = tt
-stopNumber-fits is number.ZeroDivisor h g = tt
-
-numbered-fits : (n : Number) → FitsNumber n → EvaluatedFits (numbered n)
-numbered-fits n h = stopNumber-fits _ n h (λ z e. e)
+-- operators
+moved-fits : (p : Pointer) (z : ℤ) → FitsPointer p → inRange z ≡ true
+    → FitsPointer (record { name = p .name; offset = z })
+moved-fits p z h e = (h .0, e)
 
 truth-fits : (b : Bool) → EvaluatedFits (truthValue b)
-truth-fits true = refl
-truth-fits false = refl
-
-onIntegers-fits : (o : Operator) (x y : ℤ) → EvaluatedFits (onIntegers o x y)
-unfolding onIntegers
-onIntegers-fits add x y = numbered-fits (ranged (x +ℤ y)) (ranged-fits (x +ℤ y))
-onIntegers-fits subtract x y = numbered-fits (ranged (x -ℤ y)) (ranged-fits (x -ℤ y))
-onIntegers-fits multiply x y = numbered-fits (ranged (x *ℤ y)) (ranged-fits (x *ℤ y))
-onIntegers-fits divide x y = numbered-fits (divided towardZero x y) (divided-fits towardZero x y)
-onIntegers-fits nearest x y = numbered-fits (divided toNearest x y) (divided-fits toNearest x y)
-onIntegers-fits atMost x y = truth-fits (leZ x y)
-onIntegers-fits equal x y = truth-fits (sameInteger x y)
-onIntegers-fits shift x y = tt
-
-onPointerAndInteger-fits : (o : Operator) (p : Pointer) (y : ℤ) → FitsName (p .name)
-    → EvaluatedFits (onPointerAndInteger o p y)
-unfolding onPointerAndInteger
-onPointerAndInteger-fits shift p y h =
-    stopNumber-fits _ (ranged (p .offset +ℤ y)) (ranged-fits (p .offset +ℤ y)) (λ z e. (h, e))
-onPointerAndInteger-fits add p y h = tt
-onPointerAndInteger-fits subtract p y h = tt
-onPointerAndInteger-fits multiply p y h = tt
-onPointerAndInteger-fits divide p y h = tt
-onPointerAndInteger-fits nearest p y h = tt
-onPointerAndInteger-fits atMost p y h = tt
-onPointerAndInteger-fits equal p y h = tt
-
-onPointers-fits : (o : Operator) (p q : Pointer) → EvaluatedFits (onPointers o p q)
-unfolding onPointers
-onPointers-fits equal p q = truth-fits (samePointer p q)
-onPointers-fits add p q = tt
-onPointers-fits subtract p q = tt
-onPointers-fits multiply p q = tt
-onPointers-fits divide p q = tt
-onPointers-fits nearest p q = tt
-onPointers-fits atMost p q = tt
-onPointers-fits shift p q = tt
-
-operate-fits : (o : Operator) (x y : Value) → FitsValue x → EvaluatedFits (operate o x y)
-unfolding operate
-operate-fits o values.Undefined y h = tt
-operate-fits o (values.Integer x) values.Undefined h = tt
-operate-fits o (values.Integer x) (values.Integer y) h = onIntegers-fits o x y
-operate-fits o (values.Integer x) (values.Pointer q) h = tt
-operate-fits o (values.Pointer p) values.Undefined h = tt
-operate-fits o (values.Pointer p) (values.Integer y) h = onPointerAndInteger-fits o p y (h .0)
-operate-fits o (values.Pointer p) (values.Pointer q) h = onPointers-fits o p q
-
-fits-value : (e : Evaluated) (next : Value → Evaluated) → EvaluatedFits e
-    → ((v : Value) → FitsValue v → EvaluatedFits (next v)) → EvaluatedFits (onValue e evaluated.Stopped next)
-fits-value e next h g = on-value EvaluatedFits AnyNumber evaluated.Stopped (λ c x. tt) e next h g
+truth-fits b = truth-gives FitsValue AnyNumber (λ z e. e) moved-fits (λ c h. tt) b
 
 pub operated-fits : (o : Operator) (a b : Evaluated) → EvaluatedFits a → EvaluatedFits b
     → EvaluatedFits (operated o a b)
-operated-fits o a b g h = fits-value a _ g (λ x p. fits-value b _ h (λ y q. operate-fits o x y p))
+operated-fits o a b g h = operated-gives FitsValue AnyNumber (λ z e. e) moved-fits (λ c h. tt) o a b g h
 
 -- queries
 ofLive-fits : (b : Recorded) (f : ℕ → Value) → FitsRecorded b → ((n : ℕ) → n < 65536 → FitsValue (f n))
@@ -151,8 +75,7 @@ queryObservation-fits q o v h k =
       (all-named (h .records-fit) (p .name) recorded.Dead tt) l)
 
 pub opposite-fits : (v : Value) → EvaluatedFits (opposite v)
-opposite-fits v =
-    on-test EvaluatedFits AnyNumber evaluated.Stopped (λ c x. tt) (tested v) _ _ (any-test (tested v)) refl refl
+opposite-fits v = opposite-gives FitsValue AnyNumber (λ z e. e) moved-fits (λ c h. tt) v
 
 -- temporaries, places and expressions
 pub held-fits : (t : Temporary) → FitsTemporary t → EvaluatedFits (held t)
