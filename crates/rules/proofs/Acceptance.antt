@@ -17,7 +17,6 @@ use Rattle.rules.proofs.ParentLaws.{Passed}
 use Rattle.rules.proofs.CheckLaws.{none-fails, each-passes, check-kept, accepted-keeps, accepted-last}
 use Rattle.rules.specs.declared.Search.{Search}
 use Rattle.rules.specs.declared.Search.the-variants as search
-use Rattle.rules.specs.declared.Checked.{Checked}
 use Rattle.rules.specs.declared.Checked.the-variants as checked
 
 -- the lowest that passes is found, and only it; the same of none

@@ -4,7 +4,7 @@ use native.Mathlib.Omega.{arith}
 use mathlib.Core.Path.{_≡_, refl, ap, _∙_}
 use lib.IntN.{pos, negsuc}
 use lib.Seq.{getD-set-same}
-use Rattle.rules.specs.Memory.{Memory, recordedOf, blockOf, locate, readCell, setCell, nextName, freeRun, fixed, freeable, withBlock, made, makeAt, endBlock, onPlace, storeNew, allocated}
+use Rattle.rules.specs.Memory.{Memory, recordedOf, blockOf, locate, readCell, setCell, nextName, freeRun, fixed, freeable, withBlock, makeAt, endBlock, onPlace, storeNew, allocated}
 use Rattle.rules.specs.Evaluation.{pointedBy, addressOf}
 use Rattle.rules.specs.Observation.{Observation, noted, storeBlock, deleteBlock, initialise, pointerTo, mirror}
 use Rattle.rules.specs.Plain.{Outcome}

@@ -10,13 +10,12 @@ use Rattle.rules.specs.Evaluation.{evaluate, queried, evaluateTerm, eval
 use Rattle.rules.specs.Plain.{turns, run}
 use Rattle.rules.specs.Observation.{covered, markAll}
 use Rattle.rules.specs.Watched.{watch}
-use Rattle.rules.specs.Watched as watched
 use Rattle.rules.specs.Translation.{embed, translateTerm, translatePredicate, translate, expressionTree, statementTree, emit, translatedRecords}
 use Rattle.rules.specs.Layout.{blockBytes, memoryImage}
 use Rattle.rules.specs.Listing.{decimalDigits, recordLines}
-use Prim.Native.Nat.{ℕ, _-_, _^_}
-use mathlib.Core.List.{List, [], _∷_, _++_, map}
-use lib.IntN.{ℤ, pos, negsuc}
+use Prim.Native.Nat.{_-_, _^_}
+use mathlib.Core.List.{[], _∷_, _++_, map}
+use lib.IntN.{pos, negsuc}
 use Rattle.rules.specs.Records.{tableBytes}
 use Rattle.rules.specs.Trees.{divide, nearest}
 use Rattle.rules.specs.Listing.{listing}

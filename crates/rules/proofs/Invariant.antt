@@ -1,13 +1,12 @@
 -- What holds of the execution memory at every step, and what can become of a block.
-use Prim.Native.Nat.{ℕ, _+_, _-_, _≤_}
+use Prim.Native.Nat.{ℕ, _+_, _≤_}
 use native.Mathlib.Omega.{arith}
 use mathlib.Core.Path.{_≡_, refl}
 use mathlib.Core.Logic.{_⊎_, inl, inr}
 use mathlib.Core.List.{List, map}
 use lib.ListN.{length}
 use Rattle.rules.specs.Sizes.{nameCount, cellCount}
-use Rattle.rules.specs.Memory.{Memory, recordedOf, blockOf, cellOf, fixed, freeable, one}
-use Rattle.rules.specs.Observation.{covers}
+use Rattle.rules.specs.Memory.{Memory, recordedOf, blockOf, cellOf}
 use Rattle.rules.proofs.MemoryLaws.{coverage}
 use Rattle.rules.specs.declared.Block.{Block}
 use Rattle.rules.specs.declared.Block.the-variants as block

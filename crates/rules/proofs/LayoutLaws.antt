@@ -18,7 +18,6 @@ use Rattle.rules.proofs.WordLaws.{digits-value, integer-value, Bytes, n
 use Rattle.rules.proofs.Rows.{table-list, length-flat, row-byte, row-word}
 use Rattle.rules.proofs.Lists.{All, none, also, all-getD}
 use Rattle.rules.proofs.Fits.{FitsBlock, FitsRecorded, FitsCell, FitsMemory, FitsObservation}
-use Rattle.rules.specs.declared.Pointer.{Pointer}
 use Rattle.rules.specs.declared.Value.the-variants as value
 use Rattle.rules.specs.declared.Block.{Block}
 use Rattle.rules.specs.declared.Block.the-variants as block

@@ -1,20 +1,18 @@
 -- Evaluating on a memory that fits gives values that fit: integers and offsets in 64 bits, names below 256.
 use Prim.Native.Nat.{ℕ, _^_, _<_}
 use native.Mathlib.Omega.{arith}
-use mathlib.Core.Bool.{Bool, true, false, cond}
+use mathlib.Core.Bool.{Bool, true}
 use mathlib.Core.Path.{_≡_, refl}
-use lib.Dec.{eqb}
-use lib.IntN.{ℤ, natAbs, _+ℤ_, _-ℤ_, _*ℤ_}
-use lib.Signed.{leZ}
+use lib.IntN.{ℤ}
 use borrow.Author.Tests.{lt-ltb}
-use Rattle.rules.specs.Trees.{Operator, add, subtract, multiply, divide, nearest, atMost, equal, shift, Query, valid, initialised, base, offset, blockLength, Expression, literal, read, address, operation, shifted, Place, variable, pointed, temporary}
-use Rattle.rules.specs.Numbers.{inRange, ranged, signed, signsDiffer, towardZero, toNearest, divided, sameInteger, samePointer, stopNumber, numbered, truthValue, onIntegers, onPointerAndInteger, onPointers, operate, tested}
-use Rattle.rules.specs.Memory.{Memory, cellOf, locate, locatedIn, defined, readCell, onValue}
+use Rattle.rules.specs.Trees.{Operator, shift, Query, valid, initialised, base, offset, blockLength, Expression, literal, read, address, operation, shifted, Place, variable, pointed, temporary}
+use Rattle.rules.specs.Numbers.{inRange, truthValue}
+use Rattle.rules.specs.Memory.{Memory, cellOf, locate, locatedIn, defined, readCell}
 use Rattle.rules.specs.Evaluation.{Variables, Holding, held, pointedBy, addressOf, operated, evaluate, findPlace, isValid, initialisedAt, ofLive, queried, opposite}
 use Rattle.rules.specs.Observation.{Observation, recordOf, markOf, queryObservation}
 use Rattle.rules.proofs.Sound.{Scope, SoundExpression, SoundPlace}
 use Rattle.rules.proofs.Operations.{truth-gives, operated-gives, opposite-gives}
-use Rattle.rules.proofs.Keeping.{AnyNumber, any-test, Gives, Finds, on-value, on-place, on-pointer, on-test, at-cell}
+use Rattle.rules.proofs.Keeping.{AnyNumber, Gives, Finds, on-value, on-place, on-pointer, at-cell}
 use Rattle.rules.proofs.Lists.{all-getD, all-named}
 use Rattle.rules.proofs.Fits.{FitsName, FitsPointer, FitsValue, FitsRecorded, FitsCell, FitsTemporary, FitsMemory, FitsObservation}
 use Rattle.rules.specs.declared.Pointer.{Pointer}
@@ -24,8 +22,6 @@ use Rattle.rules.specs.declared.Evaluated.{Evaluated}
 use Rattle.rules.specs.declared.Evaluated.the-variants as evaluated
 use Rattle.rules.specs.declared.Found.{Found}
 use Rattle.rules.specs.declared.Found.the-variants as found
-use Rattle.rules.specs.declared.Number.{Number}
-use Rattle.rules.specs.declared.Number.the-variants as number
 use Rattle.rules.specs.declared.Recorded.{Recorded}
 use Rattle.rules.specs.declared.Recorded.the-variants as recorded
 use Rattle.rules.specs.declared.Cell.{Cell}

@@ -13,7 +13,7 @@ use Rattle.rules.specs.declared.Checked.the-variants as checked
 use Rattle.rules.specs.Trees.{Term}
 use Rattle.rules.specs.Nodes.{operatorOf, asTerm, nodeAt, sourceProgram}
 use Rattle.rules.proofs.Sound.{Scope, startScope, isPlainOperator, SoundTerm, SoundStatement}
-use Rattle.rules.proofs.Acceptance.{Accepted, accepted-says}
+use Rattle.rules.proofs.Acceptance.{accepted-says}
 use Rattle.rules.proofs.KindViews.{and-split, formAt, SourceKind, literal, read, address, operation, shifted, variable, pointed, value, base, offset, blockLength, combined, valid, initialised, compared, negated, both, either, skip, assign, new, free, sequence, branch, while, letIn, assert}
 use Rattle.rules.proofs.FormLaws.{nodeAs}
 use Rattle.rules.proofs.Descent.{scopeAt, levelAt}
