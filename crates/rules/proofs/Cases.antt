@@ -1,8 +1,21 @@
 -- The rules give what document 01 works out on paper, by computation.
-use mathlib.Core.Path.{_≡_, refl}
+use Prim.Native.Nat.{ℕ, _-_, _^_}
+use mathlib.Core.Bool.{Bool, true, false, not}
+use mathlib.Core.List.{List, [], _∷_, _++_, map}
+use mathlib.Core.Path.{_≡_, refl, ap, _∙_}
+use borrow.Author.Tests.{eq-eqb}
+use lib.Dec.{eqb}
+use lib.ListN.{length, replicate, length-replicate}
+use Rattle.rules.specs.Sizes.{memoryLength, observationLength}
+use Rattle.rules.specs.Kinds.{source, target}
+use Rattle.rules.specs.Translation.{translation}
+use Rattle.rules.specs.Answers.{plainOutcome, endingOf, plainRefused, plainEnded, plainBy, runPlain, watchedOutcome, watchedEndingOf, watchedRefused, watchedEnded, watchedBy, runWatched}
+use Rattle.rules.specs.Cases as cases
+use Rattle.rules.specs.declared.Checked.{Checked}
+use Rattle.rules.specs.declared.Checked.the-variants as checked
 use Rattle.rules.specs.Words.{little, digits, wordAt, flat}
 use Rattle.rules.specs.Kinds.{lookUp, formOf}
-use Rattle.rules.specs.Checker.{lowest, recordFault, timesChildOf, timesChild, shapeFault, parentOf, inScope, scopeFault, levelOf, levelFault, check}
+use Rattle.rules.specs.Checker.{lowest, recordFault, timesChildOf, timesChild, shapeFault, parentOf, inScope, scopeFault, levelOf, levelFault, check, memoryFault, observationFault}
 use Rattle.rules.specs.Nodes.{makeNode, nodes, nodeAt}
 use Rattle.rules.specs.Numbers.{onIntegers, onPointerAndInteger, onPointers, operate}
 use Rattle.rules.specs.Memory.{locate, allFree, lowestRun, startMemory}
@@ -13,15 +26,62 @@ use Rattle.rules.specs.Watched.{watch}
 use Rattle.rules.specs.Translation.{embed, translateTerm, translatePredicate, translate, expressionTree, statementTree, emit, translatedRecords}
 use Rattle.rules.specs.Layout.{blockBytes, memoryImage}
 use Rattle.rules.specs.Listing.{decimalDigits, recordLines}
-use Prim.Native.Nat.{_-_, _^_}
-use mathlib.Core.List.{[], _∷_, _++_, map}
 use lib.IntN.{pos, negsuc}
-use Rattle.rules.specs.Records.{tableBytes}
+use Rattle.rules.specs.Records.{Record, tableBytes}
 use Rattle.rules.specs.Trees.{divide, nearest}
 use Rattle.rules.specs.Listing.{listing}
-use Rattle.rules.specs.Cases.{p1, p5, p6, p7, p8, p9, p10, listingOnPaper, plain, watched, ending, endings, by, blockAfter, worked, onPaper}
+use Rattle.rules.specs.Cases.{p1, p5, p6, p7, p8, p9, p10, inputs, listingOnPaper, plain, ending, endings, by, blockAfter, worked, onPaper}
 
--- P1 to P10: no image of a memory is worked out for these
+-- A run's number is worked out by itself: the lent memories are of the right length, and no image is asked for.
+plainly : List ℕ → Checked × ℕ
+plainly t = (check source t, endingOf (plainOutcome t inputs 0) .number)
+
+watchedly : List ℕ → Checked × ℕ
+watchedly t = (check target t, watchedEndingOf (watchedOutcome t inputs 0) .number)
+
+right-length : (n : ℕ) → not (eqb (length (replicate {A = ℕ} n 0)) n) ≡ false
+right-length n = ap not (eq-eqb (length (replicate {A = ℕ} n 0)) n (length-replicate n 0))
+
+pick : {A : Type 0} → Bool → A → A → A
+pick b x y = elim b [ true ↦ x | false ↦ y ]
+
+plain-number : (t memory : List ℕ) → check source t ≡ checked.Accepted → memoryFault memory ≡ false
+    → runPlain t inputs 0 memory .answer .number ≡ endingOf (plainOutcome t inputs 0) .number
+unfolding digits pick
+plain-number t memory c e =
+    ap (λ (c : Checked). plainBy c t inputs 0 memory .answer .number) c
+    ∙ (λ i. pick (e i) (plainRefused 21 0 memory) (plainEnded (plainOutcome t inputs 0)) .answer .number)
+
+watched-number : (t memory observation : List ℕ) → check target t ≡ checked.Accepted → memoryFault memory ≡ false
+    → observationFault observation ≡ false
+    → runWatched t inputs 0 memory observation .answer .number ≡ watchedEndingOf (watchedOutcome t inputs 0) .number
+unfolding digits pick
+watched-number t memory observation c e o =
+    ap (λ (c : Checked). watchedBy c t inputs 0 memory observation .answer .number) c
+    ∙ (λ i. pick (e i) (watchedRefused 21 0 memory observation)
+        (pick (o i) (watchedRefused 22 0 memory observation) (watchedEnded (watchedOutcome t inputs 0)))
+        .answer .number)
+
+ending-is : (rs : List Record) (k : ℕ) → plainly (tableBytes rs) ≡ (checked.Accepted, k) → ending rs ≡ k
+unfolding plainly plain ending
+ending-is rs k e =
+    plain-number (tableBytes rs) (replicate memoryLength 0) (ap (λ x. x .0) e) (right-length memoryLength)
+    ∙ ap (λ x. x .1) e
+
+watched-is : (rs : List Record) (k : ℕ) → watchedly (translation (tableBytes rs)) ≡ (checked.Accepted, k)
+    → cases.watched rs .answer .number ≡ k
+unfolding watchedly cases.watched
+watched-is rs k e =
+    watched-number (translation (tableBytes rs)) (replicate memoryLength 0) (replicate observationLength 0)
+      (ap (λ x. x .0) e) (right-length memoryLength) (right-length observationLength)
+    ∙ ap (λ x. x .1) e
+
+endings-are : (rs : List Record) (k : ℕ) → plainly (tableBytes rs) ≡ (checked.Accepted, k)
+    → watchedly (translation (tableBytes rs)) ≡ (checked.Accepted, k) → endings rs ≡ (k ∷ k ∷ [])
+unfolding endings
+endings-are rs k p w = λ i. ending-is rs k p i ∷ watched-is rs k w i ∷ []
+
+-- P1 to P4
 numbers :
     (listing (tableBytes p1) ≡ listingOnPaper)
     × ((by nearest (pos 7) (pos 2) ∷ by nearest (negsuc 6) (pos 2) ∷ by nearest (pos 5) (pos 2)
@@ -29,15 +89,29 @@ numbers :
     × (by divide (negsuc 6) (pos 2) ≡ negsuc 2)
     × ((by divide (negsuc (2 ^ 63 - 1)) (negsuc 0) ∷ by divide (negsuc (2 ^ 63 - 1)) (pos 0) ∷ [])
       ≡ (pos 43 ∷ pos 44 ∷ []))
-    × ((endings (p5 (pos 0)) ++ endings (p5 (pos 1)) ++ endings (p5 (negsuc 0)) ++ endings (p5 (pos 2)))
-      ≡ (0 ∷ 0 ∷ 0 ∷ 0 ∷ 33 ∷ 33 ∷ 33 ∷ 33 ∷ []))
+unfolding little digits wordAt flat lookUp formOf lowest recordFault timesChildOf timesChild shapeFault parentOf inScope scopeFault levelOf levelFault check makeNode nodes nodeAt onIntegers onPointerAndInteger onPointers operate evaluate queried evaluateTerm evaluatePredicate embed translateTerm translatePredicate translate expressionTree statementTree emit translatedRecords decimalDigits recordLines by
+numbers = (refl, refl, refl, refl)
+
+-- P5 to P10
+runs :
+    (endings (p5 (pos 0)) ≡ (0 ∷ 0 ∷ []))
+    × (endings (p5 (pos 1)) ≡ (0 ∷ 0 ∷ []))
+    × (endings (p5 (negsuc 0)) ≡ (33 ∷ 33 ∷ []))
+    × (endings (p5 (pos 2)) ≡ (33 ∷ 33 ∷ []))
     × (endings p6 ≡ (0 ∷ 0 ∷ []))
     × (endings p7 ≡ (0 ∷ 0 ∷ []))
-    × ((ending (p8 1020) ∷ ending (p8 1021) ∷ ending (p8 0) ∷ []) ≡ (0 ∷ 30 ∷ 45 ∷ []))
+    × (ending (p8 1020) ≡ 0)
+    × (ending (p8 1021) ≡ 30)
+    × (ending (p8 0) ≡ 45)
     × (endings p9 ≡ (0 ∷ 0 ∷ []))
     × (endings p10 ≡ (33 ∷ 33 ∷ []))
-unfolding little digits wordAt flat lookUp formOf lowest recordFault timesChildOf timesChild shapeFault parentOf inScope scopeFault levelOf levelFault check makeNode nodes nodeAt onIntegers onPointerAndInteger onPointers operate locate allFree lowestRun startMemory evaluate queried evaluateTerm evaluatePredicate turns run covered markAll watch embed translateTerm translatePredicate translate expressionTree statementTree emit translatedRecords decimalDigits recordLines plain watched ending endings by
-numbers = (refl, refl, refl, refl, refl, refl, refl, refl, refl, refl)
+unfolding little digits wordAt flat lookUp formOf lowest recordFault timesChildOf timesChild shapeFault parentOf inScope scopeFault levelOf levelFault check makeNode nodes nodeAt onIntegers onPointerAndInteger onPointers operate locate allFree lowestRun startMemory evaluate queried evaluateTerm evaluatePredicate turns run covered markAll watch embed translateTerm translatePredicate translate expressionTree statementTree emit translatedRecords plainly watchedly
+runs = (
+    endings-are (p5 (pos 0)) 0 refl refl, endings-are (p5 (pos 1)) 0 refl refl,
+    endings-are (p5 (negsuc 0)) 33 refl refl, endings-are (p5 (pos 2)) 33 refl refl,
+    endings-are p6 0 refl refl, endings-are p7 0 refl refl,
+    ending-is (p8 1020) 0 refl, ending-is (p8 1021) 30 refl, ending-is (p8 0) 45 refl,
+    endings-are p9 0 refl refl, endings-are p10 33 refl refl)
 
 -- P9: no bytes of a cell are
 blocks :
@@ -50,6 +124,7 @@ blocks = (refl, refl, refl)
 pub as-on-paper : worked ≡ onPaper
 unfolding worked onPaper
 as-on-paper = λ i.
-    map pos (numbers .0 i) ∷ numbers .1 i ∷ (numbers .2 i ∷ []) ∷ numbers .3 i ∷ map pos (numbers .4 i)
-    ∷ map pos (numbers .5 i) ∷ map pos (numbers .6 i) ∷ map pos (numbers .7 i)
-    ∷ map pos (numbers .8 i ++ blocks .0 i ++ blocks .1 i ++ blocks .2 i) ∷ map pos (numbers .9 i) ∷ []
+    map pos (numbers .0 i) ∷ numbers .1 i ∷ (numbers .2 i ∷ []) ∷ numbers .3 i
+    ∷ map pos (runs .0 i ++ runs .1 i ++ runs .2 i ++ runs .3 i) ∷ map pos (runs .4 i) ∷ map pos (runs .5 i)
+    ∷ map pos (runs .6 i ∷ runs .7 i ∷ runs .8 i ∷ [])
+    ∷ map pos (runs .9 i ++ blocks .0 i ++ blocks .1 i ++ blocks .2 i) ∷ map pos (runs .10 i) ∷ []
