@@ -1,16 +1,22 @@
 -- The rules give what document 01 works out on paper, by computation.
-use Prim.Native.Nat.{ℕ, _-_, _^_}
+use Prim.Native.Nat.{ℕ, zero, suc, _-_, _^_, _≤_, _<_}
+use native.Mathlib.Omega.{arith}
 use mathlib.Core.Bool.{Bool, true, false, not}
 use mathlib.Core.List.{List, [], _∷_, _++_, map}
 use mathlib.Core.Path.{_≡_, refl, ap, _∙_}
 use borrow.Author.Tests.{eq-eqb}
 use lib.Dec.{eqb}
-use lib.ListN.{length, replicate, length-replicate}
+use lib.ListN.{length, replicate, length-replicate, getD-replicate}
 use Rattle.rules.specs.Sizes.{memoryLength, observationLength}
 use Rattle.rules.specs.Kinds.{source, target}
 use Rattle.rules.specs.Translation.{translation}
 use Rattle.rules.specs.Answers.{plainOutcome, endingOf, plainRefused, plainEnded, plainBy, runPlain, watchedOutcome, watchedEndingOf, watchedRefused, watchedEnded, watchedBy, runWatched}
 use Rattle.rules.specs.Cases as cases
+use Rattle.rules.proofs.SearchLaws.{lowest-here, lowest-next}
+use Rattle.rules.proofs.MemoryLaws.{fill-above, allFree-all, allFree-taken}
+use Rattle.rules.specs.declared.Value.the-variants as value
+use Rattle.rules.specs.declared.Search.the-variants as search
+use Rattle.rules.specs.declared.Cell.the-variants as cell
 use Rattle.rules.specs.declared.Checked.{Checked}
 use Rattle.rules.specs.declared.Checked.the-variants as checked
 use Rattle.rules.specs.Words.{little, digits, wordAt, flat}
@@ -18,9 +24,9 @@ use Rattle.rules.specs.Kinds.{lookUp, formOf}
 use Rattle.rules.specs.Checker.{lowest, recordFault, timesChildOf, timesChild, shapeFault, parentOf, inScope, scopeFault, levelOf, levelFault, check, memoryFault, observationFault}
 use Rattle.rules.specs.Nodes.{makeNode, nodes, nodeAt}
 use Rattle.rules.specs.Numbers.{onIntegers, onPointerAndInteger, onPointers, operate}
-use Rattle.rules.specs.Memory.{locate, allFree, lowestRun, startMemory}
-use Rattle.rules.specs.Evaluation.{evaluate, queried, evaluateTerm, evaluatePredicate}
-use Rattle.rules.specs.Plain.{turns, run}
+use Rattle.rules.specs.Memory.{Memory, locate, cellOf, isFree, allFree, lowestRun, freeRun, fixed, freeable, withBlock, makeAt, storeNew, endBlock, startMemory}
+use Rattle.rules.specs.Evaluation.{extend, evaluate, queried, evaluateTerm, evaluatePredicate}
+use Rattle.rules.specs.Plain.{finished, next, after, inLet, turns, run, startVariables}
 use Rattle.rules.specs.Observation.{covered, markAll}
 use Rattle.rules.specs.Watched.{watch}
 use Rattle.rules.specs.Translation.{embed, translateTerm, translatePredicate, translate, expressionTree, statementTree, emit, translatedRecords}
@@ -28,7 +34,7 @@ use Rattle.rules.specs.Layout.{blockBytes, memoryImage}
 use Rattle.rules.specs.Listing.{decimalDigits, recordLines}
 use lib.IntN.{pos, negsuc}
 use Rattle.rules.specs.Records.{Record, tableBytes}
-use Rattle.rules.specs.Trees.{divide, nearest}
+use Rattle.rules.specs.Trees.{divide, nearest, literal, variable, new}
 use Rattle.rules.specs.Listing.{listing}
 use Rattle.rules.specs.Cases.{p1, p5, p6, p7, p8, p9, p10, inputs, listingOnPaper, plain, ending, endings, by, blockAfter, worked, onPaper}
 
@@ -81,6 +87,56 @@ endings-are : (rs : List Record) (k : ℕ) → plainly (tableBytes rs) ≡ (chec
 unfolding endings
 endings-are rs k p w = λ i. ending-is rs k p i ∷ watched-is rs k w i ∷ []
 
+-- P8: 1,020 cells are the last run that is free inside one let
+start : Memory
+start = startMemory (pos 7 ∷ pos 9 ∷ [])
+
+inLetFive : Memory
+inLetFive = withBlock start fixed 3 3 1
+
+free-at-start : (i : ℕ) → 3 ≤ i → i < 1024 → cellOf start i ≡ cell.Free
+unfolding start startMemory
+free-at-start zero h b = absurd (omega arith)
+free-at-start (suc zero) h b = absurd (omega arith)
+free-at-start (suc (suc zero)) h b = absurd (omega arith)
+free-at-start (suc (suc (suc i))) h b = getD-replicate 1021 i cell.Free cell.Free (omega arith)
+
+free-from-four : (i : ℕ) → 4 ≤ i → i < 1024 → isFree (cellOf inLetFive i) ≡ true
+unfolding inLetFive
+free-from-four i h b =
+    ap isFree (fill-above (start .cells) 3 1 (cell.Holds 3 value.Undefined) i cell.Free h
+      ∙ free-at-start i (omega arith) b)
+
+first-room : freeRun start 1 ≡ search.At 3
+unfolding start startMemory lowestRun allFree lowest
+first-room = refl
+
+taken : (isFree (cellOf inLetFive 0) ≡ false) × (isFree (cellOf inLetFive 1) ≡ false)
+    × (isFree (cellOf inLetFive 2) ≡ false) × (isFree (cellOf inLetFive 3) ≡ false)
+unfolding inLetFive start startMemory
+taken = (refl, refl, refl, refl)
+
+last-room : freeRun inLetFive 1020 ≡ search.At 4
+unfolding lowestRun
+last-room =
+    let p : ℕ → Bool = λ i. isFree (cellOf inLetFive i) in
+    let q : ℕ → Bool = λ s. allFree p s 1020 in
+    lowest-next q 0 4 (allFree-taken p 0 1019 (taken .0))
+    ∙ lowest-next q 1 3 (allFree-taken p 1 1019 (taken .1))
+    ∙ lowest-next q 2 2 (allFree-taken p 2 1019 (taken .2))
+    ∙ lowest-next q 3 1 (allFree-taken p 3 1019 (taken .3))
+    ∙ lowest-here q 4 0 (allFree-all p 4 1020 (λ i a b. free-from-four i a b))
+
+last-fits : plainly (tableBytes (p8 1020)) ≡ (checked.Accepted, 0)
+unfolding little digits wordAt flat lookUp formOf lowest recordFault timesChildOf timesChild shapeFault parentOf inScope scopeFault levelOf levelFault check makeNode nodes nodeAt locate startMemory evaluate run plainly start inLetFive
+last-fits =
+    (λ i. (checked.Accepted, endingOf (inLet 4 start 0 (makeAt start fixed 1 (search.At 3) (first-room i))
+      (λ k m f. run (new 3 (variable 5) (literal (pos 1020))) (extend startVariables 5 k) m f)) .number))
+    ∙ (λ i. (checked.Accepted, endingOf (next (after 3 0
+      (storeNew inLetFive (record { name = 3; offset = pos 0 })
+        (makeAt inLetFive freeable 1020 (search.At 4) (last-room i))))
+      (λ m f. finished (endBlock m 3) f)) .number))
+
 -- P1 to P4
 numbers :
     (listing (tableBytes p1) ≡ listingOnPaper)
@@ -110,7 +166,7 @@ runs = (
     endings-are (p5 (pos 0)) 0 refl refl, endings-are (p5 (pos 1)) 0 refl refl,
     endings-are (p5 (negsuc 0)) 33 refl refl, endings-are (p5 (pos 2)) 33 refl refl,
     endings-are p6 0 refl refl, endings-are p7 0 refl refl,
-    ending-is (p8 1020) 0 refl, ending-is (p8 1021) 30 refl, ending-is (p8 0) 45 refl,
+    ending-is (p8 1020) 0 last-fits, ending-is (p8 1021) 30 refl, ending-is (p8 0) 45 refl,
     endings-are p9 0 refl refl, endings-are p10 33 refl refl)
 
 -- P9: no bytes of a cell are

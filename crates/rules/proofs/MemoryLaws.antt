@@ -94,6 +94,17 @@ allFree-at p s (suc n) i e a b = go (p s) refl e (ℕ-discrete i s) (λ h c d. a
     go true g h (yes d) k = ap p d ∙ g
     go true g h (no d) k = k h (omega arith) (omega arith)
 
+pub allFree-all : (p : ℕ → Bool) (s n : ℕ) → ((i : ℕ) → s ≤ i → i < s + n → p i ≡ true) → allFree p s n ≡ true
+unfolding allFree
+allFree-all p s zero h = refl
+allFree-all p s (suc n) h =
+    rw (h s (omega arith) (omega arith), allFree)
+      (allFree-all p (suc s) n (λ i a b. h i (omega arith) (omega arith)))
+
+pub allFree-taken : (p : ℕ → Bool) (s n : ℕ) → p s ≡ false → allFree p s (suc n) ≡ false
+unfolding allFree
+allFree-taken p s n e = rw (e, allFree)
+
 -- where place i lies, by what `covers` says of n places from s on
 pub data Covering (s n i : ℕ) : Bool → Type 0 where
   inside : s ≤ i → i < s + n → Covering s n i true

@@ -9,11 +9,11 @@ use Rattle.rules.specs.declared.Search.{Search}
 use Rattle.rules.specs.declared.Search.the-variants as search
 
 -- one step
-lowest-here : (p : ℕ → Bool) (j k : ℕ) → p j ≡ true → lowest p j (suc k) ≡ search.At j
+pub lowest-here : (p : ℕ → Bool) (j k : ℕ) → p j ≡ true → lowest p j (suc k) ≡ search.At j
 unfolding lowest
 lowest-here p j k e = rw (e, lowest)
 
-lowest-next : (p : ℕ → Bool) (j k : ℕ) → p j ≡ false → lowest p j (suc k) ≡ lowest p (suc j) k
+pub lowest-next : (p : ℕ → Bool) (j k : ℕ) → p j ≡ false → lowest p j (suc k) ≡ lowest p (suc j) k
 unfolding lowest
 lowest-next p j k e = rw (e, lowest)
 
