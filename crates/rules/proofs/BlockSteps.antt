@@ -128,7 +128,8 @@ agree-allocated s m τ f (found.Place p) (evaluated.Value v) x₁ r₁ y l h g =
   where
     go : (v : Value)
         → let c = allocated m (found.Place p) (evaluated.Value v) in
-          Agree (plain.after s f c) (next (after s (mirror m) (put (put τ 0 (value.Pointer p)) 2 v) f c) (recordAfter s))
+          Agree (plain.after s f c)
+            (next (after s (mirror m) (put (put τ 0 (value.Pointer p)) 2 v) f c) (recordAfter s))
     go value.Undefined = both-end (λ z. refl)
     go (value.Integer (pos zero)) = both-end (λ z. refl)
     go (value.Integer (pos (suc n))) =

@@ -128,7 +128,9 @@ last-room =
     ∙ lowest-here q 4 0 (allFree-all p 4 1020 (λ i a b. free-from-four i a b))
 
 last-fits : plainly (tableBytes (p8 1020)) ≡ (checked.Accepted, 0)
-unfolding little digits wordAt flat lookUp formOf lowest recordFault timesChildOf timesChild shapeFault parentOf inScope scopeFault levelOf levelFault check makeNode nodes nodeAt locate startMemory evaluate run plainly start inLetFive
+unfolding little digits wordAt flat lookUp formOf lowest recordFault timesChildOf timesChild shapeFault parentOf
+    inScope scopeFault levelOf levelFault check makeNode nodes nodeAt locate startMemory evaluate run plainly start
+    inLetFive
 last-fits =
     (λ i. (checked.Accepted, endingOf (inLet 4 start 0 (makeAt start fixed 1 (search.At 3) (first-room i))
       (λ k m f. run (new 3 (variable 5) (literal (pos 1020))) (extend startVariables 5 k) m f)) .number))
@@ -145,7 +147,10 @@ numbers :
     × (by divide (negsuc 6) (pos 2) ≡ negsuc 2)
     × ((by divide (negsuc (2 ^ 63 - 1)) (negsuc 0) ∷ by divide (negsuc (2 ^ 63 - 1)) (pos 0) ∷ [])
       ≡ (pos 43 ∷ pos 44 ∷ []))
-unfolding little digits wordAt flat lookUp formOf lowest recordFault timesChildOf timesChild shapeFault parentOf inScope scopeFault levelOf levelFault check makeNode nodes nodeAt onIntegers onPointerAndInteger onPointers operate evaluate queried evaluateTerm evaluatePredicate embed translateTerm translatePredicate translate expressionTree statementTree emit translatedRecords decimalDigits recordLines by
+unfolding little digits wordAt flat lookUp formOf lowest recordFault timesChildOf timesChild shapeFault parentOf
+    inScope scopeFault levelOf levelFault check makeNode nodes nodeAt onIntegers onPointerAndInteger onPointers
+    operate evaluate queried evaluateTerm evaluatePredicate embed translateTerm translatePredicate translate
+    expressionTree statementTree emit translatedRecords decimalDigits recordLines by
 numbers = (refl, refl, refl, refl)
 
 -- P5 to P10
@@ -161,7 +166,11 @@ runs :
     × (ending (p8 0) ≡ 45)
     × (endings p9 ≡ (0 ∷ 0 ∷ []))
     × (endings p10 ≡ (33 ∷ 33 ∷ []))
-unfolding little digits wordAt flat lookUp formOf lowest recordFault timesChildOf timesChild shapeFault parentOf inScope scopeFault levelOf levelFault check makeNode nodes nodeAt onIntegers onPointerAndInteger onPointers operate locate allFree lowestRun startMemory evaluate queried evaluateTerm evaluatePredicate turns run covered markAll watch embed translateTerm translatePredicate translate expressionTree statementTree emit translatedRecords plainly watchedly
+unfolding little digits wordAt flat lookUp formOf lowest recordFault timesChildOf timesChild shapeFault parentOf
+    inScope scopeFault levelOf levelFault check makeNode nodes nodeAt onIntegers onPointerAndInteger onPointers
+    operate locate allFree lowestRun startMemory evaluate queried evaluateTerm evaluatePredicate turns run covered
+    markAll watch embed translateTerm translatePredicate translate expressionTree statementTree emit
+    translatedRecords plainly watchedly
 runs = (
     endings-are (p5 (pos 0)) 0 refl refl, endings-are (p5 (pos 1)) 0 refl refl,
     endings-are (p5 (negsuc 0)) 33 refl refl, endings-are (p5 (pos 2)) 33 refl refl,
@@ -169,12 +178,14 @@ runs = (
     ending-is (p8 1020) 0 last-fits, ending-is (p8 1021) 30 refl, ending-is (p8 0) 45 refl,
     endings-are p9 0 refl refl, endings-are p10 33 refl refl)
 
--- P9: no bytes of a cell are
+-- the blocks of P9: no bytes of a cell are worked out for them
 blocks :
     (blockAfter (p8 6) 4 ≡ (2 ∷ 0 ∷ 4 ∷ 0 ∷ 6 ∷ 0 ∷ 0 ∷ 0 ∷ []))
     × (blockAfter p9 4 ≡ (3 ∷ 0 ∷ 0 ∷ 0 ∷ 0 ∷ 0 ∷ 0 ∷ 0 ∷ []))
     × (blockAfter p9 5 ≡ (2 ∷ 0 ∷ 4 ∷ 0 ∷ 6 ∷ 0 ∷ 0 ∷ 0 ∷ []))
-unfolding little digits wordAt flat lookUp formOf lowest recordFault timesChildOf timesChild shapeFault parentOf inScope scopeFault levelOf levelFault check makeNode nodes nodeAt locate allFree lowestRun startMemory evaluate turns run plain blockAfter blockBytes memoryImage
+unfolding little digits wordAt flat lookUp formOf lowest recordFault timesChildOf timesChild shapeFault parentOf
+    inScope scopeFault levelOf levelFault check makeNode nodes nodeAt locate allFree lowestRun startMemory evaluate
+    turns run plain blockAfter blockBytes memoryImage
 blocks = (refl, refl, refl)
 
 pub as-on-paper : worked ≡ onPaper

@@ -72,7 +72,8 @@ module _ (limit : ℕ) (enough : 48 ≤ limit) where
       allocated-keeps AnyMemory (Late limit) (Ending limit) known (λ c x. inr x) AnyValue AnyPlace {K = AnyMade} m f e
         tt h k (omega arith) (λ n. ends-makeBlock m freeable (suc n)) (λ j m₁ x. tt) (λ p x j m₁ y i. tt)
 
-  ends-freed : (m : Memory) (e : Evaluated) → EvaluatedLate AnyValue limit e → ChangeKeeps AnyMemory (Ending limit) (freed m e)
+  ends-freed : (m : Memory) (e : Evaluated) → EvaluatedLate AnyValue limit e
+      → ChangeKeeps AnyMemory (Ending limit) (freed m e)
   ends-freed m e k =
       freed-keeps AnyMemory (Late limit) (Ending limit) known (λ c x. inr x) AnyValue AnyPlace m e tt k (omega arith)
         (λ j. tt)
@@ -121,7 +122,8 @@ run-ends (tree.letIn s x b) ρ m f =
       (ends-makeBlock 48 (omega arith) m fixed 1) (λ k m₁ i. run-ends b (extend ρ x k) m₁ f) (λ k m₂ f₂ i. tt)
 run-ends (tree.assert s p) ρ m f =
     asserted-keeps AnyState (Ending 48) s m f (condition (evaluatePredicate p ρ m)) (inl (omega arith)) tt
-      (ends-condition 48 (omega arith) (evaluatePredicate p ρ m) (evaluatePredicate-late AnyValue (λ z. tt) (λ p. tt) 48 (omega arith) p ρ m))
+      (ends-condition 48 (omega arith) (evaluatePredicate p ρ m)
+        (evaluatePredicate-late AnyValue (λ z. tt) (λ p. tt) 48 (omega arith) p ρ m))
 
 pub run-endings : (a : Statement) (ρ : Variables) (m : Memory) (f : ℕ) → PlainEnds (run a ρ m f)
 run-endings a ρ m f = of (run a ρ m f) (run-ends a ρ m f)
@@ -143,14 +145,16 @@ held-late (temporary.Holds v) = tt
 
 target-late : (e : Expression ℕ) (τ : Temporaries) (ρ : Variables) (m : Memory)
     → EvaluatedLate AnyValue 50 (evaluate e (temporaryOf τ) ρ m)
-target-late e τ ρ m = evaluate-late AnyValue (λ z. tt) (λ p. tt) 50 (omega arith) e (temporaryOf τ) (λ t. held-late (temporaryOf τ t)) ρ m
+target-late e τ ρ m =
+    evaluate-late AnyValue (λ z. tt) (λ p. tt) 50 (omega arith) e (temporaryOf τ) (λ t. held-late (temporaryOf τ t)) ρ m
 
 target-found : (p : Place ℕ) (τ : Temporaries) (ρ : Variables) (m : Memory)
     → FoundLate 50 (findPlace p (temporaryOf τ) ρ m)
-target-found p τ ρ m = findPlace-late AnyValue (λ z. tt) (λ p. tt) 50 (omega arith) p (temporaryOf τ) (λ t. held-late (temporaryOf τ t)) ρ m
+target-found p τ ρ m =
+    findPlace-late AnyValue (λ z. tt) (λ p. tt) 50 (omega arith) p (temporaryOf τ) (λ t. held-late (temporaryOf τ t)) ρ m
 
-taken-ends : (s n : ℕ) (e : Evaluated) (m : Memory) (o : Observation) (τ : Temporaries) (f : ℕ) → EvaluatedLate AnyValue 50 e
-    → WatchEnds (watched.taken s n e m o τ f)
+taken-ends : (s n : ℕ) (e : Evaluated) (m : Memory) (o : Observation) (τ : Temporaries) (f : ℕ)
+    → EvaluatedLate AnyValue 50 e → WatchEnds (watched.taken s n e m o τ f)
 taken-ends s n e m o τ f h =
     taken-keeps AnyWatched (Ending 50) AnyValue s n e m o τ f tt (ends-evaluated 50 (omega arith) e h) (λ v g. tt)
 
@@ -202,7 +206,8 @@ watch-ends (letIn s x b) ρ m o τ f =
       (λ k m₁ i. watch-ends b (extend ρ x k) m₁ o τ f) (λ k m₂ o₂ τ₂ f₂ i. tt)
 watch-ends (takeAddress s n p) ρ m o τ f =
     taken-ends s n (addressOf (findPlace p (temporaryOf τ) ρ m)) m o τ f
-      (addressOf-late AnyValue (λ z. tt) (λ p. tt) 50 (omega arith) (findPlace p (temporaryOf τ) ρ m) (target-found p τ ρ m))
+      (addressOf-late AnyValue (λ z. tt) (λ p. tt) 50 (omega arith)
+        (findPlace p (temporaryOf τ) ρ m) (target-found p τ ρ m))
 watch-ends (takeValue s n e) ρ m o τ f = taken-ends s n (evaluate e (temporaryOf τ) ρ m) m o τ f (target-late e τ ρ m)
 watch-ends (takeOperation s n q) ρ m o τ f =
     taken-ends s n (operated q (heldIn τ (suc n)) (heldIn τ (suc (suc n)))) m o τ f

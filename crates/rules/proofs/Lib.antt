@@ -1,7 +1,17 @@
 -- Facts about the definitions.
-pub mod Cases
-pub mod Sound
+
+-- Tests, searches, bytes and lists.
 pub mod BooleanLaws
+pub mod SearchLaws
+pub mod Lists
+pub mod WordLaws
+pub mod Rows
+
+-- Acceptance, and the trees of accepted tables.
+pub mod Sound
+pub mod ParentLaws
+pub mod ScopeLaws
+pub mod CheckLaws
 pub mod Acceptance
 pub mod KindViews
 pub mod NodeLaws
@@ -15,6 +25,8 @@ pub mod SoundTargets
 pub mod Counting
 pub mod TreeSizes
 pub mod SizeBound
+
+-- Emission: what is emitted is accepted and read back.
 pub mod SoundTranslation
 pub mod RecordBytes
 pub mod EmissionLaws
@@ -23,34 +35,24 @@ pub mod TargetFitting
 pub mod EmittedBytes
 pub mod BuiltNodes
 pub mod ReadBack
-pub mod SearchLaws
-pub mod ParentLaws
-pub mod ScopeLaws
 pub mod ShapeLaws
 pub mod ScopeKept
-pub mod CheckLaws
 pub mod TargetAccepted
 pub mod TranslatedTables
+
+-- Runs: how they end, their fuel, a while by its turns, past false assertions.
 pub mod Keeping
 pub mod Operations
 pub mod EvaluationEndings
+pub mod DefinedValues
 pub mod Outcomes
 pub mod Calls
 pub mod Endings
 pub mod Fuel
 pub mod Turns
-pub mod WordLaws
-pub mod Rows
-pub mod Lists
-pub mod Fits
-pub mod LayoutLaws
-pub mod Ranged
-pub mod FitsLaws
-pub mod Invariants
-pub mod Reachable
-pub mod ReachableRoundTrip
-pub mod ImagePuts
 pub mod PastRun
+
+-- Memories: what every change keeps.
 pub mod MemoryLaws
 pub mod Invariant
 pub mod BlockChanges
@@ -59,12 +61,26 @@ pub mod PlainKept
 pub mod WatchedKept
 pub mod Totals
 pub mod Orderly
-pub mod DefinedValues
+
+-- Layouts: what fits, and is read back from its bytes.
+pub mod Fits
+pub mod FitsLaws
+pub mod LayoutLaws
+pub mod ImagePuts
+pub mod Ranged
+pub mod Invariants
+pub mod Reachable
+pub mod ReachableRoundTrip
+
+-- Simulation: the translation runs as its source does.
 pub mod Mirror
 pub mod PredicateSimulation
 pub mod StatementSteps
 pub mod BlockSteps
 pub mod Simulation
+
+-- The claim, from the start on, and what is worked out on paper.
 pub mod Start
 pub mod StartObservation
 pub mod WholeRun
+pub mod Cases
