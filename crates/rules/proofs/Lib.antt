@@ -18,7 +18,7 @@ pub mod NodeLaws
 pub mod FormLaws
 pub mod Standing
 pub mod AcceptedTrees
-pub mod Descent
+pub mod RecordScopes
 pub mod Readiness
 pub mod SoundSource
 pub mod SoundTargets
@@ -67,8 +67,8 @@ pub mod Fits
 pub mod FitsLaws
 pub mod LayoutLaws
 pub mod ImagePuts
-pub mod Ranged
-pub mod Invariants
+pub mod FittingValues
+pub mod KeptPredicates
 pub mod Reachable
 pub mod ReachableRoundTrip
 

@@ -22,8 +22,8 @@ use Rattle.rules.proofs.Outcomes.{Outcomes, next-keeps, after-keeps, de
 use Rattle.rules.proofs.Calls.{store-called, delete-called, initialise-called}
 use Rattle.rules.proofs.Lists.{All, all-getD, all-set, all-replicate}
 use Rattle.rules.proofs.Fits.{FitsName, FitsPointer, FitsValue, FitsTemporary}
-use Rattle.rules.proofs.Invariants.{MemoryInvariant, ObservationInvariant, MadeWith, makeBlock-keeps, stored-keeps}
-use Rattle.rules.proofs.Ranged.{EvaluatedFits, operated-fits, queryObservation-fits, opposite-fits, held-fits, addressOf-fits, evaluate-fits, findPlace-fits}
+use Rattle.rules.proofs.KeptPredicates.{MemoryInvariant, ObservationInvariant, MadeWith, makeBlock-keeps, stored-keeps}
+use Rattle.rules.proofs.FittingValues.{EvaluatedFits, operated-fits, queryObservation-fits, opposite-fits, held-fits, addressOf-fits, evaluate-fits, findPlace-fits}
 use Rattle.rules.specs.declared.Value.the-variants as value
 use Rattle.rules.specs.declared.Evaluated.{Evaluated}
 use Rattle.rules.specs.declared.Evaluated.the-variants as evaluated

@@ -30,7 +30,7 @@ use Rattle.rules.proofs.Lists.{All, none, also}
 use Rattle.rules.proofs.Outcomes.{Outcomes, WatchedOutcomes}
 use Rattle.rules.proofs.Fits.{FitsTemporary, FitsMemory, FitsObservation, InsideMemory, InsideObservation}
 use Rattle.rules.proofs.FitsLaws.{InRange, startMemory-inside}
-use Rattle.rules.proofs.Invariants.{fits-invariant, inside-invariant, fits-observation-invariant, inside-observation-invariant, startObservation-inside}
+use Rattle.rules.proofs.KeptPredicates.{fits-invariant, inside-invariant, fits-observation-invariant, inside-observation-invariant, startObservation-inside}
 use Rattle.rules.proofs.LayoutLaws.{length-memoryImage, length-observationImage, memory-back, observation-back, bytes-memoryImage, bytes-observationImage}
 use Rattle.rules.proofs.Reachable.{NamesFit, startVariables-fit, Plainly, run-keeps, Watchedly, watch-keeps, startTemporaries-fit}
 

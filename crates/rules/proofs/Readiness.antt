@@ -20,7 +20,7 @@ use Rattle.rules.proofs.FormLaws.{FieldHolds, nodeAs, FormHolds}
 use Rattle.rules.proofs.Standing.{Stands, stands}
 use Rattle.rules.proofs.AcceptedTrees.{accepted-last}
 use Rattle.rules.proofs.ParentLaws.{times-by-fields, same-yes, IsParent, child-single}
-use Rattle.rules.proofs.Descent.{scopeAt, levelAt, scopeBelow, scope-child, scope-last, level-child}
+use Rattle.rules.proofs.RecordScopes.{scopeAt, levelAt, scopeBelow, scope-child, scope-last, level-child}
 use Rattle.rules.proofs.WordLaws.{integer-range}
 
 -- a node of sort s is sound in scope ρ at level v

@@ -16,7 +16,7 @@ use Rattle.rules.proofs.Sound.{Scope, startScope, isPlainOperator, Soun
 use Rattle.rules.proofs.Acceptance.{accepted-says}
 use Rattle.rules.proofs.KindViews.{and-split, formAt, SourceKind, literal, read, address, operation, shifted, variable, pointed, value, base, offset, blockLength, combined, valid, initialised, compared, negated, both, either, skip, assign, new, free, sequence, branch, while, letIn, assert}
 use Rattle.rules.proofs.FormLaws.{nodeAs}
-use Rattle.rules.proofs.Descent.{scopeAt, levelAt}
+use Rattle.rules.proofs.RecordScopes.{scopeAt, levelAt}
 use Rattle.rules.proofs.Readiness.{SoundAs, Ready, sound-last}
 
 pub up-to : (high x : ℕ) → between 0 high x ≡ true → x ≤ high

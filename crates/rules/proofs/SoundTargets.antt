@@ -13,7 +13,7 @@ use Rattle.rules.proofs.Sound.{startScope, Numbered, SoundTarget}
 use Rattle.rules.proofs.Acceptance.{accepted-says}
 use Rattle.rules.proofs.KindViews.{formAt, TargetKind, literal, read, address, operation, shifted, variable, pointed, temporary, skip, assign, new, free, sequence, branch, while, letIn, takeAddress, takeValue, takeOperation, takeQuery, takeNot, branchOn, assertOn, storeBlock, deleteBlock, initialise}
 use Rattle.rules.proofs.FormLaws.{LiteralHolds, nodeAs}
-use Rattle.rules.proofs.Descent.{scopeAt, levelAt}
+use Rattle.rules.proofs.RecordScopes.{scopeAt, levelAt}
 use Rattle.rules.proofs.Readiness.{SoundAs, Ready, sound-last}
 use Rattle.rules.proofs.SoundSource.{up-to, plain-operator}
 

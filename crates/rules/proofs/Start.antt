@@ -1,4 +1,4 @@
--- The start: the memory's invariant holds, and the observation memory made by the calls mirrors it.
+-- The memory's invariant holds at the start.
 use Prim.Native.Nat.{ℕ, zero, suc, _+_, _-_, _≤_, _<_}
 use native.Mathlib.Omega.{arith}
 use mathlib.Core.Path.{_≡_, refl, ap}
