@@ -1,6 +1,10 @@
--- Tests that all pass.
-use mathlib.Core.Path.{_≡_, refl}
+-- Tests that all pass; a test of equality either way round.
+use Prim.Native.Nat.{ℕ}
+use native.Mathlib.Decide.{ℕ-discrete}
+use mathlib.Core.Path.{_≡_, refl, sym, _∙_}
 use mathlib.Core.Bool.{Bool, true, false, _&&_, false≢true}
+use borrow.Author.Tests.{eq-eqb, ne-eqb}
+use lib.Dec.{eqb}
 
 pub and-split : (a b : Bool) → (a && b) ≡ true → (a ≡ true) × (b ≡ true)
 and-split true b h = (refl, h)
@@ -21,3 +25,10 @@ five-pass p q r s u e =
     let back = three-pass (p && q && r) s u e in
     let front = three-pass p q r (back .0) in
     (front .0, front .1, front .2, back .1, back .2)
+
+pub eqb-swap : (x y : ℕ) → eqb x y ≡ eqb y x
+eqb-swap x y = go (ℕ-discrete x y)
+  where
+    go : Dec (x ≡ y) → eqb x y ≡ eqb y x
+    go (yes e) = eq-eqb x y e ∙ sym (eq-eqb y x (sym e))
+    go (no e) = ne-eqb x y e ∙ sym (ne-eqb y x (λ d. e (sym d)))

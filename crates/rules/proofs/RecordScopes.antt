@@ -1,10 +1,8 @@
 -- The scope and the level of a record of an accepted table, as trees have them.
 use Prim.Native.Nat.{ℕ}
-use native.Mathlib.Decide.{ℕ-discrete}
 use mathlib.Core.Bool.{Bool, true, false, cond, _&&_, _||_}
 use mathlib.Core.List.{List}
 use mathlib.Core.Path.{_≡_, refl, sym, _∙_, fun-ext}
-use borrow.Author.Tests.{eq-eqb, ne-eqb}
 use lib.Dec.{eqb}
 use Rattle.rules.specs.Records.{recordCount, kindOf, markOf, childB}
 use Rattle.rules.specs.Kinds.{Language, source, target}
@@ -26,20 +24,12 @@ levelAt target t n = 0
 abbrev pub scopeBelow : ℕ → ℕ → Scope → Scope
 scopeBelow k v ρ = cond (eqb k 47) (adding ρ v) ρ
 
-eqb-swap : (x y : ℕ) → eqb x y ≡ eqb y x
-eqb-swap x y = go (ℕ-discrete x y)
-  where
-    go : Dec (x ≡ y) → eqb x y ≡ eqb y x
-    go (yes e) = eq-eqb x y e ∙ sym (eq-eqb y x (sym e))
-    go (no e) = ne-eqb x y e ∙ sym (ne-eqb y x (λ d. e (sym d)))
-
 below-is : (k v x : ℕ) (ρ : Scope) → ((eqb k 47 && eqb v x) || ρ x) ≡ scopeBelow k v ρ x
-below-is k v x ρ = go (eqb k 47) (eqb v x) (eqb-swap x v)
+below-is k v x ρ = go (eqb k 47)
   where
-    go : (c d : Bool) → eqb x v ≡ d → ((c && d) || ρ x) ≡ cond {A = Scope} c (adding ρ v) ρ x
-    go true true q = rw q
-    go true false q = rw q
-    go false d q = refl
+    go : (c : Bool) → ((c && eqb v x) || ρ x) ≡ cond {A = Scope} c (adding ρ v) ρ x
+    go true = sym (scopes.adding-is ρ v x)
+    go false = refl
 
 module _ (l : Language) (t : List ℕ) (a : Accepted l t) where
   pub scope-child : (m n : ℕ) → IsParent l t m n

@@ -2,7 +2,7 @@
 use Prim.Native.Nat.{ℕ, zero, suc, _+_, _≤_}
 use native.Mathlib.Omega.{arith}
 use mathlib.Core.Path.{_≡_, refl, sym, ap, _∙_}
-use mathlib.Core.Bool.{Bool, true, false, _||_}
+use mathlib.Core.Bool.{Bool, true, false, cond, _||_}
 use mathlib.Core.List.{List}
 use lib.Dec.{eqb, eqb·suc-zero}
 use Rattle.rules.specs.Records.{recordCount, kindOf, childB}
@@ -10,7 +10,8 @@ use Rattle.rules.specs.Kinds.{Language, source}
 use Rattle.rules.specs.Checker.{parentOf, isLetOf, inScope, levelBelow, levelOf}
 use Rattle.rules.specs.declared.Search.{Search}
 use Rattle.rules.specs.declared.Search.the-variants as search
-use Rattle.rules.proofs.Sound.{startScope}
+use Rattle.rules.proofs.BooleanLaws.{eqb-swap}
+use Rattle.rules.proofs.Sound.{Scope, startScope, adding}
 use Rattle.rules.proofs.ParentLaws.{Passed, IsParent, parent-is, parent-above, parent-of-child, last-parent}
 
 -- what record n has, d records up at most: top where none is above, and up n m of what its parent m has
@@ -116,6 +117,14 @@ module _ (l : Language) (t : List ℕ) (keeps : Passed l t) where
 pub start-scope : (x : ℕ) → eqb x 0 ≡ startScope x
 start-scope zero = refl
 start-scope (suc x) = eqb·suc-zero x
+
+-- one more variable in scope
+pub adding-is : (ρ : Scope) (v x : ℕ) → adding ρ v x ≡ (eqb v x || ρ x)
+adding-is ρ v x = go (eqb x v) ∙ ap (λ b. b || ρ x) (eqb-swap x v)
+  where
+    go : (b : Bool) → cond b true (ρ x) ≡ (b || ρ x)
+    go true = refl
+    go false = refl
 
 -- ---- levels, of a source table
 abbrev levelUp : List ℕ → ℕ → ℕ → ℕ → ℕ

@@ -1,12 +1,12 @@
 -- The tree of a sound target statement keeps the rules of the target language.
 use Prim.Native.Nat.{ℕ, _^_, _≤_, _<_}
 use native.Mathlib.Omega.{arith}
-use mathlib.Core.Path.{_≡_, refl, sym, ap, _∙_, subst}
-use mathlib.Core.Bool.{Bool, true, false, cond, _||_}
+use mathlib.Core.Path.{_≡_, refl, subst}
+use mathlib.Core.Bool.{true}
 use mathlib.Core.Option.{some}
-use lib.Dec.{leb, eqb}
+use lib.Dec.{leb}
 use lib.IntN.{ℤ, pos}
-use borrow.Author.Tests.{lt-ltb, le-leb, eqb-true, eqb-false}
+use borrow.Author.Tests.{lt-ltb, le-leb}
 use Rattle.rules.specs.Kinds.{target, expression, place, statement, sortNumber, statementLiteral, Form, between, lookUp, formOf}
 use Rattle.rules.specs.Checker.{sortOf, literalFits, fieldFits}
 use Rattle.rules.specs.Numbers.{inRange}
@@ -15,6 +15,7 @@ use Rattle.rules.specs.TargetTrees.{TargetStatement, skip, assign, new, 
 use Rattle.rules.specs.Translation.{RecordTree, none, operatorNumber, queryNumber, expressionTree, placeTree, statementTree}
 use Rattle.rules.proofs.Sound.{Scope, adding, isPlainOperator, SoundExpression, SoundPlace, Named, Numbered, SoundTarget}
 use Rattle.rules.proofs.BooleanLaws.{both-true}
+use Rattle.rules.proofs.ScopeLaws.{adding-is}
 use Rattle.rules.proofs.FittingTrees.{rootKind, FieldTree, OwnScope, scopeBelow, Fits, Fitting}
 
 pub between-true : (low high x : ℕ) → low ≤ x → x ≤ high → between low high x ≡ true
@@ -84,21 +85,8 @@ statement-sort (deleteBlock s n) = refl
 statement-sort (initialise s n) = refl
 
 -- below a let its variable is in scope
-pub eqb-flip : (x y : ℕ) → eqb x y ≡ eqb y x
-eqb-flip x y = go (eqb x y) (eqb y x) refl refl
-  where
-    go : (p q : Bool) → eqb x y ≡ p → eqb y x ≡ q → p ≡ q
-    go true true e f = refl
-    go true false e f = absurd (eqb-false y x f (sym (eqb-true x y e)))
-    go false true e f = absurd (eqb-false x y e (sym (eqb-true y x f)))
-    go false false e f = refl
-
-cond-or : (p q : Bool) → cond p true q ≡ (p || q)
-cond-or true q = refl
-cond-or false q = refl
-
 pub below-let : (ρ : Scope) (m : ℕ) → adding ρ m ≡ scopeBelow 47 m ρ
-below-let ρ m = λ i x. (cond-or (eqb x m) (ρ x) ∙ ap (λ b. b || ρ x) (eqb-flip x m)) i
+below-let ρ m = λ i x. adding-is ρ m x i
 
 -- a record of the rules, its form found from its kind
 fits : {k m : ℕ} {z : ℤ} {x : ℕ} {a b c : RecordTree} {ρ : Scope} {f : Form} → formOf target k ≡ some f
