@@ -4,6 +4,7 @@ use mathlib.Core.Path.{_≡_, refl}
 use mathlib.Core.Bool.{false}
 use lib.IntN.{ℤ, pos, negsuc}
 use Rattle.rules.specs.Memory.{Memory, blockOf, locate, atCell, setCell, Change, changed, stopped, storeCell, isUnused, nextName, freeRun, Use, freeable, Made, made, unmade, makeAt, makeBlock, assigned, storeNew, newOfSize, allocated, freeOf, freed}
+use Rattle.rules.proofs.Keeping.{AnyNumber, ChangeKeeps, MadeKeeps}
 use Rattle.rules.proofs.Invariant.{Invariant, Onward, onward-itself, onward-then}
 use Rattle.rules.proofs.BlockChanges.{onward-store, HasRoom, room, onward-make, make-given, onward-free, Leads, leads}
 use Rattle.rules.specs.declared.Pointer.{Pointer}
@@ -25,6 +26,10 @@ abbrev pub changedMemory : Change → Memory
 changedMemory (changed m) = m
 changedMemory (stopped c m) = m
 
+pub change-kept : (m : Memory) (c : Change) → Onward m (changedMemory c) → ChangeKeeps (Onward m) AnyNumber c
+change-kept m (changed m₁) h = h
+change-kept m (stopped c m₁) h = (tt, h)
+
 onward-cell : (m : Memory) (p : Pointer) (v : Value) → Invariant m → Onward m (changedMemory (storeCell m p v))
 onward-cell m p v y = go (locate m p) (leads m p y)
   where
@@ -41,9 +46,11 @@ onward-assigned m (found.Place p) (evaluated.Stopped k) y = onward-itself y
 onward-assigned m (found.Place p) (evaluated.Value v) y = onward-cell m p v y
 
 -- a block that is made has a name that was unused, and is no more
+abbrev pub Given : Memory → ℕ → Memory → Type 0
+Given m k m₁ = (blockOf m k ≡ block.Unused) × Onward m m₁ × (isUnused (blockOf m₁ k) ≡ false)
+
 abbrev pub MadeFrom : Memory → Made → Type 0
-MadeFrom m (made k m₁) = (blockOf m k ≡ block.Unused) × Onward m m₁ × (isUnused (blockOf m₁ k) ≡ false)
-MadeFrom m (unmade c) = Unit {0}
+MadeFrom m r = MadeKeeps (Given m) AnyNumber r
 
 pub onward-made : (m : Memory) (u : Use) (n : ℕ) → Invariant m → MadeFrom m (makeBlock m u n)
 onward-made m u n y = go (nextName m) (freeRun m n) (room m n)

@@ -119,7 +119,8 @@ run-ends (tree.while s e b) ρ m f =
       (λ m₁ f₁ i. run-ends b ρ m₁ f₁) f m f tt
 run-ends (tree.letIn s x b) ρ m f =
     inLet-keeps AnyState (Ending 48) AnyMade s m f (makeBlock m fixed 1) _ tt
-      (ends-makeBlock 48 (omega arith) m fixed 1) (λ k m₁ i. run-ends b (extend ρ x k) m₁ f) (λ k m₂ f₂ i. tt)
+      (ends-makeBlock 48 (omega arith) m fixed 1) (λ k m₁ i. run-ends b (extend ρ x k) m₁ f)
+      (λ k m₁ x m₂ f₂ i. tt)
 run-ends (tree.assert s p) ρ m f =
     asserted-keeps AnyState (Ending 48) s m f (condition (evaluatePredicate p ρ m)) (inl (omega arith)) tt
       (ends-condition 48 (omega arith) (evaluatePredicate p ρ m)
@@ -203,7 +204,7 @@ watch-ends (while s e b) ρ m o τ f =
 watch-ends (letIn s x b) ρ m o τ f =
     watched-inLet AnyWatched (Ending 50) AnyMade s (makeBlock m fixed 1) _ m o τ f tt
       (ends-makeBlock 50 (omega arith) m fixed 1)
-      (λ k m₁ i. watch-ends b (extend ρ x k) m₁ o τ f) (λ k m₂ o₂ τ₂ f₂ i. tt)
+      (λ k m₁ i. watch-ends b (extend ρ x k) m₁ o τ f) (λ k m₁ x m₂ o₂ τ₂ f₂ i. tt)
 watch-ends (takeAddress s n p) ρ m o τ f =
     taken-ends s n (addressOf (findPlace p (temporaryOf τ) ρ m)) m o τ f
       (addressOf-late AnyValue (λ z. tt) (λ p. tt) 50 (omega arith)

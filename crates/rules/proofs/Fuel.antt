@@ -67,7 +67,7 @@ fuel-run h (tree.while s e b) ρ m f l =
       (λ m₁ f₁ i. any-test (condition (evaluateSource e ρ m₁))) (λ m₁ f₁ i. fuel-run h b ρ m₁ f₁ i) f m f l
 fuel-run h (tree.letIn s x b) ρ m f l =
     inLet-keeps (AtMost h) AnyNumber AnyMade s m f (makeBlock m fixed 1) _ l (any-made (makeBlock m fixed 1))
-      (λ k m₁ i. fuel-run h b (extend ρ x k) m₁ f l) (λ k m₂ f₂ i. i)
+      (λ k m₁ i. fuel-run h b (extend ρ x k) m₁ f l) (λ k m₁ x m₂ f₂ i. i)
 fuel-run h (tree.assert s p) ρ m f l =
     asserted-keeps (AtMost h) AnyNumber s m f (condition (evaluatePredicate p ρ m)) tt l
       (any-test (condition (evaluatePredicate p ρ m)))
@@ -116,7 +116,8 @@ fuel-watch h (while s e b) ρ m o τ f l =
       (λ m₁ o₁ τ₁ f₁ i. fuel-watch h b ρ m₁ o₁ τ₁ f₁ i) f m o τ f l
 fuel-watch h (letIn s x b) ρ m o τ f l =
     watched-inLet (WatchedAtMost h) AnyNumber AnyMade s (makeBlock m fixed 1) _ m o τ f l
-      (any-made (makeBlock m fixed 1)) (λ k m₁ i. fuel-watch h b (extend ρ x k) m₁ o τ f l) (λ k m₂ o₂ τ₂ f₂ i. i)
+      (any-made (makeBlock m fixed 1)) (λ k m₁ i. fuel-watch h b (extend ρ x k) m₁ o τ f l)
+      (λ k m₁ x m₂ o₂ τ₂ f₂ i. i)
 fuel-watch h (takeAddress s n p) ρ m o τ f l =
     watched-taken h m o τ f l s n (addressOf (findPlace p (temporaryOf τ) ρ m))
 fuel-watch h (takeValue s n e) ρ m o τ f l = watched-taken h m o τ f l s n (evaluate e (temporaryOf τ) ρ m)

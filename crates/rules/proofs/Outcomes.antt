@@ -52,10 +52,10 @@ module _ (I : Memory → ℕ → Type 0) (E : ℕ → Type 0) where
 
   pub inLet-keeps : (K : ℕ → Memory → Type 0) (s : ℕ) (m : Memory) (f : ℕ) (x : Made) (body : ℕ → Memory → ℕ → Outcome)
       → I m f → MadeKeeps K E x → ((k : ℕ) (m₁ : Memory) → K k m₁ → Outcomes I E (body k m₁ f))
-      → ((k : ℕ) (m₂ : Memory) (f₂ : ℕ) → I m₂ f₂ → I (endBlock m₂ k) f₂)
+      → ((k : ℕ) (m₁ : Memory) → K k m₁ → (m₂ : Memory) (f₂ : ℕ) → I m₂ f₂ → I (endBlock m₂ k) f₂)
       → Outcomes I E (plain.inLet s m f x body)
   inLet-keeps K s m f (unmade c) body i h b g = (h, i)
-  inLet-keeps K s m f (made k m₁) body i h b g = next-keeps (body k m₁ f) _ (b k m₁ h) (λ m₂ f₂ i₂. g k m₂ f₂ i₂)
+  inLet-keeps K s m f (made k m₁) body i h b g = next-keeps (body k m₁ f) _ (b k m₁ h) (g k m₁ h)
 
   pub asserted-keeps : (s : ℕ) (m : Memory) (f : ℕ) (t : Test) → E 33 → I m f → TestStops E t
       → Outcomes I E (plain.asserted s m f t)
@@ -110,12 +110,12 @@ module _ (I : State) (E : ℕ → Type 0) where
   pub watched-inLet : (K : ℕ → Memory → Type 0) (s : ℕ) (x : Made) (body : ℕ → Watching) (m : Memory) (o : Observation)
       (τ : Temporaries) (f : ℕ) → I m o τ f → MadeKeeps K E x
       → ((k : ℕ) (m₁ : Memory) → K k m₁ → WatchedOutcomes I E (body k m₁ o τ f))
-      → ((k : ℕ) (m₂ : Memory) (o₂ : Observation) (τ₂ : Temporaries) (f₂ : ℕ)
+      → ((k : ℕ) (m₁ : Memory) → K k m₁ → (m₂ : Memory) (o₂ : Observation) (τ₂ : Temporaries) (f₂ : ℕ)
         → I m₂ o₂ τ₂ f₂ → I (endBlock m₂ k) o₂ τ₂ f₂)
       → WatchedOutcomes I E (watched.inLet s x body m o τ f)
   watched-inLet K s (unmade c) body m o τ f i h b g = (h, i)
   watched-inLet K s (made k m₁) body m o τ f i h b g =
-      watched-next (body k m₁ o τ f) _ (b k m₁ h) (λ m₂ o₂ τ₂ f₂ i₂. g k m₂ o₂ τ₂ f₂ i₂)
+      watched-next (body k m₁ o τ f) _ (b k m₁ h) (g k m₁ h)
 
   pub taken-keeps : (G : Value → Type 0) (s n : ℕ) (e : Evaluated) (m : Memory) (o : Observation) (τ : Temporaries)
       (f : ℕ) → I m o τ f → Gives G E e → ((v : Value) → G v → I m o (set τ n (temporary.Holds v)) f)

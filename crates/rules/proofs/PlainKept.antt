@@ -1,75 +1,58 @@
 -- A plain run keeps the memory's invariant, however it comes out.
-use Prim.Native.Nat.{ℕ, zero, suc}
+use Prim.Native.Nat.{ℕ}
 use Rattle.rules.specs.Trees.{Statement, skip, assign, new, free, sequence, branch, while, letIn, assert}
-use Rattle.rules.specs.Memory.{Memory, Change, changed, stopped, fixed, Made, made, unmade, makeBlock, endBlock, assigned, allocated, freed}
+use Rattle.rules.specs.Memory.{Memory, fixed, makeBlock, assigned, allocated, freed}
 use Rattle.rules.specs.Evaluation.{Variables, evaluateSource, findSource, evaluatePredicate, condition, extend}
-use Rattle.rules.specs.Plain.{Outcome, finished, ended, next, after, decide, turns, inLet, run}
+use Rattle.rules.specs.Plain.{Outcome, finished, ended, run}
 use Rattle.rules.specs.Answers.{memoryAfter}
+use Rattle.rules.proofs.Keeping.{AnyNumber, any-test}
+use Rattle.rules.proofs.Outcomes.{Outcomes, next-keeps, after-keeps, decide-keeps, turns-keeps, inLet-keeps, asserted-keeps}
 use Rattle.rules.proofs.Invariant.{Invariant, Onward, onward-itself, onward-then}
 use Rattle.rules.proofs.BlockChanges.{onward-end}
-use Rattle.rules.proofs.Changes.{changedMemory, onward-assigned, MadeFrom, onward-made, onward-allocated, onward-freed}
-use Rattle.rules.specs.declared.Test.{Test}
-use Rattle.rules.specs.declared.Test.the-variants as test
+use Rattle.rules.proofs.Changes.{change-kept, Given, onward-assigned, onward-made, onward-allocated, onward-freed}
 
--- a step that keeps the invariant
-abbrev Keeps : (Memory → ℕ → Outcome) → Type 0
-Keeps k = (m : Memory) (f : ℕ) → Invariant m → Onward m (memoryAfter (k m f))
+abbrev Onto : Memory → Memory → ℕ → Type 0
+Onto m m₁ f = Onward m m₁
 
-keeps-after : (s f : ℕ) (m : Memory) (c : Change) → Onward m (changedMemory c) → Onward m (memoryAfter (after s f c))
-keeps-after s f m (changed m₁) h = h
-keeps-after s f m (stopped c m₁) h = h
+further : {m m₁ : Memory} → Onward m m₁ → (x : Outcome) → Outcomes (Onto m₁) AnyNumber x → Outcomes (Onto m) AnyNumber x
+further i (finished m₂ f) h = onward-then i h
+further i (ended c s m₂ f) h = (tt, onward-then i (h .1))
 
-keeps-next : (m : Memory) (o : Outcome) (k : Memory → ℕ → Outcome) → Onward m (memoryAfter o) → Keeps k
-    → Onward m (memoryAfter (next o k))
-keeps-next m (finished m₁ f) k h q = onward-then h (q m₁ f (h .invariant))
-keeps-next m (ended c s m₁ f) k h q = h
-
-keeps-decide : (s : ℕ) (t : Test) (x y : Memory → ℕ → Outcome) → Keeps x → Keeps y → Keeps (decide s t x y)
-keeps-decide s test.Yes x y p q m f v = p m f v
-keeps-decide s test.No x y p q m f v = q m f v
-keeps-decide s (test.Stopped c) x y p q m f v = onward-itself v
-
-keeps-turns : (g s : ℕ) (holds : Memory → Test) (k : Memory → ℕ → Outcome) → Keeps k → Keeps (turns g s holds k)
-unfolding turns
-keeps-turns zero s holds k h m f v = onward-itself v
-keeps-turns (suc g) s holds k h m zero v = onward-itself v
-keeps-turns (suc g) s holds k h m (suc f) v =
-    keeps-decide s (holds m) _ finished
-      (λ m₁ f₁ w. keeps-next m₁ (k m₁ f₁) _ (h m₁ f₁ w) (keeps-turns g s holds k h))
-      (λ m₁ f₁ w. onward-itself w) m f v
-
-keeps-let : (s : ℕ) (m : Memory) (f : ℕ) (r : Made) (b : ℕ → Memory → ℕ → Outcome) → MadeFrom m r
-    → ((k : ℕ) → Keeps (b k))
-    → Invariant m → Onward m (memoryAfter (inLet s m f r b))
-keeps-let s m f (unmade c) b u h v = onward-itself v
-keeps-let s m f (made k m₁) b u h v = go (b k m₁ f) (onward-then (u .1) (h k m₁ f (u .1 .invariant)))
-  where
-    go : (o : Outcome) → Onward m (memoryAfter o)
-        → Onward m (memoryAfter (next o (λ m₂ f₂. finished (endBlock m₂ k) f₂)))
-    go (finished m₂ f₂) w = onward-end k (u .0) w
-    go (ended c s₂ m₂ f₂) w = w
+kept : (a : Statement) (ρ : Variables) (m : Memory) (f : ℕ) → Invariant m → Outcomes (Onto m) AnyNumber (run a ρ m f)
+unfolding run
+kept (skip s) ρ m f v = onward-itself v
+kept (assign s p e) ρ m f v =
+    let c = assigned m (findSource p ρ m) (evaluateSource e ρ m) in
+    after-keeps (Onto m) AnyNumber (Onward m) s f c
+      (change-kept m c (onward-assigned m (findSource p ρ m) (evaluateSource e ρ m) v)) (λ m₁ j. j)
+kept (new s p e) ρ m f v =
+    let c = allocated m (findSource p ρ m) (evaluateSource e ρ m) in
+    after-keeps (Onto m) AnyNumber (Onward m) s f c
+      (change-kept m c (onward-allocated m (findSource p ρ m) (evaluateSource e ρ m) v)) (λ m₁ j. j)
+kept (free s e) ρ m f v =
+    let c = freed m (evaluateSource e ρ m) in
+    after-keeps (Onto m) AnyNumber (Onward m) s f c (change-kept m c (onward-freed m (evaluateSource e ρ m) v)) (λ m₁ j. j)
+kept (sequence s a b) ρ m f v =
+    next-keeps (Onto m) AnyNumber (run a ρ m f) _ (kept a ρ m f v)
+      (λ m₁ f₁ i. further i (run b ρ m₁ f₁) (kept b ρ m₁ f₁ (i .invariant)))
+kept (branch s e a b) ρ m f v =
+    decide-keeps (Onto m) AnyNumber s (condition (evaluateSource e ρ m)) _ _ m f
+      (any-test (condition (evaluateSource e ρ m))) (onward-itself v) (kept a ρ m f v) (kept b ρ m f v)
+kept (while s e b) ρ m f v =
+    turns-keeps (Onto m) AnyNumber s _ _ tt (λ m₁ f₁ i. i) (λ m₁ f₁ i. any-test (condition (evaluateSource e ρ m₁)))
+      (λ m₁ f₁ i. further i (run b ρ m₁ f₁) (kept b ρ m₁ f₁ (i .invariant))) f m f (onward-itself v)
+kept (letIn s x b) ρ m f v =
+    inLet-keeps (Onto m) AnyNumber (Given m) s m f (makeBlock m fixed 1) _ (onward-itself v) (onward-made m fixed 1 v)
+      (λ k m₁ u. further (u .1) (run b (extend ρ x k) m₁ f) (kept b (extend ρ x k) m₁ f (u .1 .invariant)))
+      (λ k m₁ u m₂ f₂ i. onward-end k (u .0) i)
+kept (assert s p) ρ m f v =
+    asserted-keeps (Onto m) AnyNumber s m f (condition (evaluatePredicate p ρ m)) tt (onward-itself v)
+      (any-test (condition (evaluatePredicate p ρ m)))
 
 pub plain-onward : (a : Statement) (ρ : Variables) (m : Memory) (f : ℕ) → Invariant m
     → Onward m (memoryAfter (run a ρ m f))
-unfolding run
-plain-onward (skip s) ρ m f v = onward-itself v
-plain-onward (assign s p e) ρ m f v =
-    keeps-after s f m (assigned m (findSource p ρ m) (evaluateSource e ρ m))
-      (onward-assigned m (findSource p ρ m) (evaluateSource e ρ m) v)
-plain-onward (new s p e) ρ m f v =
-    keeps-after s f m (allocated m (findSource p ρ m) (evaluateSource e ρ m))
-      (onward-allocated m (findSource p ρ m) (evaluateSource e ρ m) v)
-plain-onward (free s e) ρ m f v =
-    keeps-after s f m (freed m (evaluateSource e ρ m)) (onward-freed m (evaluateSource e ρ m) v)
-plain-onward (sequence s a b) ρ m f v =
-    keeps-next m (run a ρ m f) _ (plain-onward a ρ m f v) (λ m₁ f₁ w. plain-onward b ρ m₁ f₁ w)
-plain-onward (branch s e a b) ρ m f v =
-    keeps-decide s (condition (evaluateSource e ρ m)) _ _ (λ m₁ f₁ w. plain-onward a ρ m₁ f₁ w)
-      (λ m₁ f₁ w. plain-onward b ρ m₁ f₁ w) m f v
-plain-onward (while s e b) ρ m f v = keeps-turns f s _ _ (λ m₁ f₁ w. plain-onward b ρ m₁ f₁ w) m f v
-plain-onward (letIn s x b) ρ m f v =
-    keeps-let s m f (makeBlock m fixed 1) _ (onward-made m fixed 1 v)
-      (λ k m₁ f₁ w. plain-onward b (extend ρ x k) m₁ f₁ w) v
-plain-onward (assert s p) ρ m f v =
-    keeps-decide s (condition (evaluatePredicate p ρ m)) finished _ (λ m₁ f₁ w. onward-itself w)
-      (λ m₁ f₁ w. onward-itself w) m f v
+plain-onward a ρ m f v = of (run a ρ m f) (kept a ρ m f v)
+  where
+    of : (x : Outcome) → Outcomes (Onto m) AnyNumber x → Onward m (memoryAfter x)
+    of (finished m₁ f₁) h = h
+    of (ended c s m₁ f₁) h = h .1

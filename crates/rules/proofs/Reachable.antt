@@ -111,7 +111,7 @@ module _ (J : Memory → Type 0) (v : MemoryInvariant J) where
   run-keeps (tree.letIn s x b) σ h ρ r m f i =
       inLet-keeps (Plainly J) AnyNumber (MadeWith J) s m f (makeBlock m fixed 1) _ i (makeBlock-keeps J v m fixed 1 i)
         (λ k m₁ j. run-keeps b (adding σ x) (h .3) (extend ρ x k) (extend-fits ρ x k r (j .0)) m₁ f (j .1))
-        (λ k m₂ f₂ j. v .ending m₂ k j)
+        (λ k m₁ x m₂ f₂ j. v .ending m₂ k j)
   run-keeps (tree.assert s p) σ h ρ r m f i =
       asserted-keeps (Plainly J) AnyNumber s m f (condition (evaluatePredicate p ρ m)) tt i
         (any-test (condition (evaluatePredicate p ρ m)))
@@ -191,7 +191,7 @@ module _ (J : Memory → Type 0) (v : MemoryInvariant J) (O : Observation → Ty
         (makeBlock-keeps J v m fixed 1 (i .memory-kept))
         (λ k m₁ j. watch-keeps b (adding σ x) (h .3) (extend ρ x k) (extend-fits ρ x k r (j .0)) m₁ o τ f
           (with-memory m o τ f i m₁ (j .1)))
-        (λ k m₂ o₂ τ₂ f₂ j. with-memory m₂ o₂ τ₂ f₂ j (endBlock m₂ k) (v .ending m₂ k (j .memory-kept)))
+        (λ k m₁ x m₂ o₂ τ₂ f₂ j. with-memory m₂ o₂ τ₂ f₂ j (endBlock m₂ k) (v .ending m₂ k (j .memory-kept)))
   watch-keeps (takeAddress s n p) σ h ρ r m o τ f i =
       taken-kept m o τ f i s n (addressOf (findPlace p (temporaryOf τ) ρ m))
         (addressOf-fits (findPlace p (temporaryOf τ) ρ m)
