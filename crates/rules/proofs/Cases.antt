@@ -1,5 +1,5 @@
 -- The rules give what document 01 works out on paper, by computation.
-use Prim.Native.Nat.{ℕ, zero, suc, _-_, _^_, _≤_, _<_}
+use Prim.Native.Nat.{ℕ, zero, suc, _-_, _/_, _^_, _≤_, _<_}
 use native.Mathlib.Omega.{arith}
 use mathlib.Core.Bool.{Bool, true, false, not}
 use mathlib.Core.List.{List, [], _∷_, _++_, map}
@@ -10,8 +10,14 @@ use lib.ListN.{length, replicate, length-replicate, getD-replicate}
 use Rattle.rules.specs.Sizes.{memoryLength, observationLength}
 use Rattle.rules.specs.Kinds.{source, target}
 use Rattle.rules.specs.Translation.{translation}
-use Rattle.rules.specs.Answers.{plainOutcome, endingOf, plainRefused, plainEnded, plainBy, runPlain, watchedOutcome, watchedEndingOf, watchedRefused, watchedEnded, watchedBy, runWatched}
+use Rattle.rules.specs.Answers.{inputsOf, plainOutcome, endingOf, plainRefused, plainEnded, plainBy, runPlain, watchedOutcome, watchedEndingOf, watchedRefused, watchedEnded, watchedBy, runWatched}
 use Rattle.rules.specs.Cases as cases
+use Rattle.rules.specs.TargetTrees.{TargetStatement}
+use Rattle.rules.proofs.Sound.{startScope, SoundStatement}
+use Rattle.rules.proofs.Acceptance.{accepted-says}
+use Rattle.rules.proofs.SoundSource.{sound-source}
+use Rattle.rules.proofs.SizeBound.{size-bound}
+use Rattle.rules.proofs.TranslatedTables.{translatedSize, translation-accepted, translation-program}
 use Rattle.rules.proofs.SearchLaws.{lowest-here, lowest-next}
 use Rattle.rules.proofs.MemoryLaws.{fill-above, allFree-all, allFree-taken}
 use Rattle.rules.specs.declared.Value.the-variants as value
@@ -22,13 +28,13 @@ use Rattle.rules.specs.declared.Checked.the-variants as checked
 use Rattle.rules.specs.Words.{little, digits, wordAt, flat}
 use Rattle.rules.specs.Kinds.{lookUp, formOf}
 use Rattle.rules.specs.Checker.{lowest, recordFault, timesChildOf, timesChild, shapeFault, parentOf, inScope, scopeFault, levelOf, levelFault, check, memoryFault, observationFault}
-use Rattle.rules.specs.Nodes.{makeNode, nodes, nodeAt}
+use Rattle.rules.specs.Nodes.{sourceProgram, makeNode, nodes, nodeAt}
 use Rattle.rules.specs.Numbers.{onIntegers, onPointerAndInteger, onPointers, operate}
 use Rattle.rules.specs.Memory.{Memory, locate, cellOf, isFree, allFree, lowestRun, freeRun, fixed, freeable, withBlock, makeAt, storeNew, endBlock, startMemory}
 use Rattle.rules.specs.Evaluation.{extend, evaluate, queried, evaluateTerm, evaluatePredicate}
 use Rattle.rules.specs.Plain.{finished, next, after, inLet, turns, run, startVariables}
-use Rattle.rules.specs.Observation.{covered, markAll}
-use Rattle.rules.specs.Watched.{watch}
+use Rattle.rules.specs.Observation.{startObservation, covered, markAll}
+use Rattle.rules.specs.Watched.{WatchedOutcome, watch, startTemporaries}
 use Rattle.rules.specs.Translation.{embed, translateTerm, translatePredicate, translate, expressionTree, statementTree, emit, translatedRecords}
 use Rattle.rules.specs.Layout.{blockBytes, memoryImage}
 use Rattle.rules.specs.Listing.{decimalDigits, recordLines}
@@ -38,12 +44,17 @@ use Rattle.rules.specs.Trees.{divide, nearest, literal, variable, new}
 use Rattle.rules.specs.Listing.{listing}
 use Rattle.rules.specs.Cases.{p1, p5, p6, p7, p8, p9, p10, inputs, listingOnPaper, plain, ending, endings, by, blockAfter, worked, onPaper}
 
--- A run's number is worked out by itself: the lent memories are of the right length, and no image is asked for.
+-- A run's number is worked out by itself: the lent memories are of the right length, no image is asked for, and the
+-- translation need not be emitted.
 plainly : List ℕ → Checked × ℕ
 plainly t = (check source t, endingOf (plainOutcome t inputs 0) .number)
 
-watchedly : List ℕ → Checked × ℕ
-watchedly t = (check target t, watchedEndingOf (watchedOutcome t inputs 0) .number)
+watchedFrom : TargetStatement → WatchedOutcome
+watchedFrom a =
+    watch a startVariables (startMemory (inputsOf inputs)) (startObservation (length inputs / 8)) startTemporaries 0
+
+watchedly : List ℕ → ℕ
+watchedly t = watchedEndingOf (watchedFrom (translate (sourceProgram t))) .number
 
 right-length : (n : ℕ) → not (eqb (length (replicate {A = ℕ} n 0)) n) ≡ false
 right-length n = ap not (eq-eqb (length (replicate {A = ℕ} n 0)) n (length-replicate n 0))
@@ -74,18 +85,23 @@ ending-is rs k e =
     plain-number (tableBytes rs) (replicate memoryLength 0) (ap (λ x. x .0) e) (right-length memoryLength)
     ∙ ap (λ x. x .1) e
 
-watched-is : (rs : List Record) (k : ℕ) → watchedly (translation (tableBytes rs)) ≡ (checked.Accepted, k)
-    → cases.watched rs .answer .number ≡ k
-unfolding watchedly cases.watched
-watched-is rs k e =
-    watched-number (translation (tableBytes rs)) (replicate memoryLength 0) (replicate observationLength 0)
-      (ap (λ x. x .0) e) (right-length memoryLength) (right-length observationLength)
-    ∙ ap (λ x. x .1) e
+-- a translation is accepted, and read back
+watched-is : (rs : List Record) (k : ℕ) → check source (tableBytes rs) ≡ checked.Accepted
+    → watchedly (tableBytes rs) ≡ k → cases.watched rs .answer .number ≡ k
+unfolding watchedly watchedFrom cases.watched
+watched-is rs k c e =
+    let t : List ℕ = tableBytes rs in
+    let sound : SoundStatement (sourceProgram t) startScope = sound-source t c in
+    let small : translatedSize t ≤ 4096 = omega (arith, size-bound t c, accepted-says source t c .not-too-many) in
+    watched-number (translation t) (replicate memoryLength 0) (replicate observationLength 0)
+      (translation-accepted t sound small) (right-length memoryLength) (right-length observationLength)
+    ∙ ap (λ (a : TargetStatement). watchedEndingOf (watchedFrom a) .number) (translation-program t sound small)
+    ∙ e
 
 endings-are : (rs : List Record) (k : ℕ) → plainly (tableBytes rs) ≡ (checked.Accepted, k)
-    → watchedly (translation (tableBytes rs)) ≡ (checked.Accepted, k) → endings rs ≡ (k ∷ k ∷ [])
-unfolding endings
-endings-are rs k p w = λ i. ending-is rs k p i ∷ watched-is rs k w i ∷ []
+    → watchedly (tableBytes rs) ≡ k → endings rs ≡ (k ∷ k ∷ [])
+unfolding endings plainly
+endings-are rs k p w = λ i. ending-is rs k p i ∷ watched-is rs k (ap (λ x. x .0) p) w i ∷ []
 
 -- P8: 1,020 cells are the last run that is free inside one let
 start : Memory
@@ -169,8 +185,7 @@ runs :
 unfolding little digits wordAt flat lookUp formOf lowest recordFault timesChildOf timesChild shapeFault parentOf
     inScope scopeFault levelOf levelFault check makeNode nodes nodeAt onIntegers onPointerAndInteger onPointers
     operate locate allFree lowestRun startMemory evaluate queried evaluateTerm evaluatePredicate turns run covered
-    markAll watch embed translateTerm translatePredicate translate expressionTree statementTree emit
-    translatedRecords plainly watchedly
+    markAll watch embed translateTerm translatePredicate translate plainly watchedly watchedFrom
 runs = (
     endings-are (p5 (pos 0)) 0 refl refl, endings-are (p5 (pos 1)) 0 refl refl,
     endings-are (p5 (negsuc 0)) 33 refl refl, endings-are (p5 (pos 2)) 33 refl refl,
