@@ -1,5 +1,5 @@
 -- The rules give what document 01 works out on paper, by computation.
-use Prim.Native.Nat.{ℕ, zero, suc, _-_, _/_, _^_, _≤_, _<_}
+use Prim.Native.Nat.{ℕ, zero, suc, _-_, _*_, _/_, _^_, _≤_, _<_}
 use native.Mathlib.Omega.{arith}
 use mathlib.Core.Bool.{Bool, true, false, not}
 use mathlib.Core.List.{List, [], _∷_, _++_, map}
@@ -10,7 +10,7 @@ use lib.ListN.{length, replicate, length-replicate, getD-replicate}
 use Rattle.rules.specs.Sizes.{memoryLength, observationLength}
 use Rattle.rules.specs.Kinds.{source, target}
 use Rattle.rules.specs.Translation.{translation}
-use Rattle.rules.specs.Answers.{inputsOf, plainOutcome, endingOf, plainRefused, plainEnded, plainBy, runPlain, watchedOutcome, watchedEndingOf, watchedRefused, watchedEnded, watchedBy, runWatched}
+use Rattle.rules.specs.Answers.{PlainRun, WatchedRun, memoryAfter, inputsOf, plainOutcome, endingOf, plainRefused, plainEnded, plainBy, runPlain, watchedOutcome, watchedEndingOf, watchedRefused, watchedEnded, watchedBy, runWatched}
 use Rattle.rules.specs.Cases as cases
 use Rattle.rules.specs.TargetTrees.{TargetStatement}
 use Rattle.rules.proofs.Sound.{startScope, SoundStatement}
@@ -25,7 +25,7 @@ use Rattle.rules.specs.declared.Search.the-variants as search
 use Rattle.rules.specs.declared.Cell.the-variants as cell
 use Rattle.rules.specs.declared.Checked.{Checked}
 use Rattle.rules.specs.declared.Checked.the-variants as checked
-use Rattle.rules.specs.Words.{little, digits, wordAt, flat}
+use Rattle.rules.specs.Words.{little, digits, part, wordAt, flat}
 use Rattle.rules.specs.Kinds.{lookUp, formOf}
 use Rattle.rules.specs.Checker.{lowest, recordFault, timesChildOf, timesChild, shapeFault, parentOf, inScope, scopeFault, levelOf, levelFault, check, memoryFault, observationFault}
 use Rattle.rules.specs.Nodes.{sourceProgram, makeNode, nodes, nodeAt}
@@ -62,28 +62,35 @@ right-length n = ap not (eq-eqb (length (replicate {A = ℕ} n 0)) n (length-rep
 pick : {A : Type 0} → Bool → A → A → A
 pick b x y = elim b [ true ↦ x | false ↦ y ]
 
-plain-number : (t memory : List ℕ) → check source t ≡ checked.Accepted → memoryFault memory ≡ false
-    → runPlain t inputs 0 memory .answer .number ≡ endingOf (plainOutcome t inputs 0) .number
+plain-run : (t memory : List ℕ) → check source t ≡ checked.Accepted → memoryFault memory ≡ false
+    → runPlain t inputs 0 memory ≡ plainEnded (plainOutcome t inputs 0)
 unfolding digits pick
-plain-number t memory c e =
-    ap (λ (c : Checked). plainBy c t inputs 0 memory .answer .number) c
-    ∙ (λ i. pick (e i) (plainRefused 21 0 memory) (plainEnded (plainOutcome t inputs 0)) .answer .number)
+plain-run t memory c e =
+    ap (λ (c : Checked). plainBy c t inputs 0 memory) c
+    ∙ (λ i. pick (e i) (plainRefused 21 0 memory) (plainEnded (plainOutcome t inputs 0)))
 
-watched-number : (t memory observation : List ℕ) → check target t ≡ checked.Accepted → memoryFault memory ≡ false
+watched-run : (t memory observation : List ℕ) → check target t ≡ checked.Accepted → memoryFault memory ≡ false
     → observationFault observation ≡ false
-    → runWatched t inputs 0 memory observation .answer .number ≡ watchedEndingOf (watchedOutcome t inputs 0) .number
+    → runWatched t inputs 0 memory observation ≡ watchedEnded (watchedOutcome t inputs 0)
 unfolding digits pick
-watched-number t memory observation c e o =
-    ap (λ (c : Checked). watchedBy c t inputs 0 memory observation .answer .number) c
+watched-run t memory observation c e o =
+    ap (λ (c : Checked). watchedBy c t inputs 0 memory observation) c
     ∙ (λ i. pick (e i) (watchedRefused 21 0 memory observation)
-        (pick (o i) (watchedRefused 22 0 memory observation) (watchedEnded (watchedOutcome t inputs 0)))
-        .answer .number)
+        (pick (o i) (watchedRefused 22 0 memory observation) (watchedEnded (watchedOutcome t inputs 0))))
+
+plain-is : (rs : List Record) → check source (tableBytes rs) ≡ checked.Accepted
+    → plain rs ≡ plainEnded (plainOutcome (tableBytes rs) inputs 0)
+unfolding plain
+plain-is rs c = plain-run (tableBytes rs) (replicate memoryLength 0) c (right-length memoryLength)
 
 ending-is : (rs : List Record) (k : ℕ) → plainly (tableBytes rs) ≡ (checked.Accepted, k) → ending rs ≡ k
-unfolding plainly plain ending
-ending-is rs k e =
-    plain-number (tableBytes rs) (replicate memoryLength 0) (ap (λ x. x .0) e) (right-length memoryLength)
-    ∙ ap (λ x. x .1) e
+unfolding plainly ending
+ending-is rs k e = ap (λ (r : PlainRun). r .answer .number) (plain-is rs (ap (λ x. x .0) e)) ∙ ap (λ x. x .1) e
+
+block-is : (rs : List Record) (k : ℕ) → check source (tableBytes rs) ≡ checked.Accepted
+    → blockAfter rs k ≡ part 8 (memoryImage (memoryAfter (plainOutcome (tableBytes rs) inputs 0))) ((k - 1) * 8)
+unfolding blockAfter
+block-is rs k c = ap (λ (r : PlainRun). part 8 (r .memory) ((k - 1) * 8)) (plain-is rs c)
 
 -- a translation is accepted, and read back
 watched-is : (rs : List Record) (k : ℕ) → check source (tableBytes rs) ≡ checked.Accepted
@@ -93,8 +100,9 @@ watched-is rs k c e =
     let t : List ℕ = tableBytes rs in
     let sound : SoundStatement (sourceProgram t) startScope = sound-source t c in
     let small : translatedSize t ≤ 4096 = omega (arith, size-bound t c, accepted-says source t c .not-too-many) in
-    watched-number (translation t) (replicate memoryLength 0) (replicate observationLength 0)
-      (translation-accepted t sound small) (right-length memoryLength) (right-length observationLength)
+    ap (λ (r : WatchedRun). r .answer .number)
+      (watched-run (translation t) (replicate memoryLength 0) (replicate observationLength 0)
+        (translation-accepted t sound small) (right-length memoryLength) (right-length observationLength))
     ∙ ap (λ (a : TargetStatement). watchedEndingOf (watchedFrom a) .number) (translation-program t sound small)
     ∙ e
 
@@ -200,8 +208,8 @@ blocks :
     × (blockAfter p9 5 ≡ (2 ∷ 0 ∷ 4 ∷ 0 ∷ 6 ∷ 0 ∷ 0 ∷ 0 ∷ []))
 unfolding little digits wordAt flat lookUp formOf lowest recordFault timesChildOf timesChild shapeFault parentOf
     inScope scopeFault levelOf levelFault check makeNode nodes nodeAt locate allFree lowestRun startMemory evaluate
-    turns run plain blockAfter blockBytes memoryImage
-blocks = (refl, refl, refl)
+    turns run blockBytes memoryImage
+blocks = (block-is (p8 6) 4 refl, block-is p9 4 refl, block-is p9 5 refl)
 
 pub as-on-paper : worked ≡ onPaper
 unfolding worked onPaper
