@@ -152,7 +152,8 @@ target-late e τ ρ m =
 target-found : (p : Place ℕ) (τ : Temporaries) (ρ : Variables) (m : Memory)
     → FoundLate 50 (findPlace p (temporaryOf τ) ρ m)
 target-found p τ ρ m =
-    findPlace-late AnyValue (λ z. tt) (λ p. tt) 50 (omega arith) p (temporaryOf τ) (λ t. held-late (temporaryOf τ t)) ρ m
+    findPlace-late AnyValue (λ z. tt) (λ p. tt) 50 (omega arith) p (temporaryOf τ)
+      (λ t. held-late (temporaryOf τ t)) ρ m
 
 taken-ends : (s n : ℕ) (e : Evaluated) (m : Memory) (o : Observation) (τ : Temporaries) (f : ℕ)
     → EvaluatedLate AnyValue 50 e → WatchEnds (watched.taken s n e m o τ f)

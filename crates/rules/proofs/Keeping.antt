@@ -99,6 +99,7 @@ module _ {A : Type 0} (P : A → Type 0) (C : ℕ → Type 0) (stop : ℕ → A)
   at-cell (located.At i) at c g = g i
   at-cell located.Dead at c g = stops 42 c
   at-cell located.Outside at c g = stops 42 c
+
 -- "30, 31, 32, 33" of a statement, and 40 up to a limit, which evaluating has too
 abbrev pub Late : ℕ → ℕ → Type 0
 Late limit c = (40 ≤ c) × (c < limit)

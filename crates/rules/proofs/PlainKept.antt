@@ -31,7 +31,8 @@ kept (new s p e) ρ m f v =
       (change-kept m c (onward-allocated m (findSource p ρ m) (evaluateSource e ρ m) v)) (λ m₁ j. j)
 kept (free s e) ρ m f v =
     let c = freed m (evaluateSource e ρ m) in
-    after-keeps (Onto m) AnyNumber (Onward m) s f c (change-kept m c (onward-freed m (evaluateSource e ρ m) v)) (λ m₁ j. j)
+    after-keeps (Onto m) AnyNumber (Onward m) s f c
+      (change-kept m c (onward-freed m (evaluateSource e ρ m) v)) (λ m₁ j. j)
 kept (sequence s a b) ρ m f v =
     next-keeps (Onto m) AnyNumber (run a ρ m f) _ (kept a ρ m f v)
       (λ m₁ f₁ i. further i (run b ρ m₁ f₁) (kept b ρ m₁ f₁ (i .invariant)))
