@@ -69,3 +69,5 @@ pub mod Simulation
 pub mod Start
 pub mod StartObservation
 pub mod WholeRun
+pub mod Inputs
+pub mod Claim
