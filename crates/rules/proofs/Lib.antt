@@ -1,5 +1,6 @@
 -- Facts about the definitions.
 pub mod Cases
+pub mod CommonErrors
 pub mod Sound
 pub mod Acceptance
 pub mod KindViews
