@@ -79,8 +79,11 @@ pub mod StatementSteps
 pub mod BlockSteps
 pub mod Simulation
 
--- The claim, from the start on, and what is worked out on paper.
+-- The claim, from the start on; what is worked out on paper, and where people err.
 pub mod Start
 pub mod StartObservation
 pub mod WholeRun
+pub mod Inputs
+pub mod Claim
 pub mod Cases
+pub mod CommonErrors

@@ -1,10 +1,10 @@
 -- "Demand 3 in full", as one statement over every accepted source table, inputs, fuel and old memories.
-use Prim.Native.Nat.{ℕ, _*_, _≤_, _<_}
+use Prim.Native.Nat.{ℕ, _*_, _≤_}
 use mathlib.Core.Bool.{Bool, true, false}
 use mathlib.Core.List.{List}
 use mathlib.Core.Logic.{_⊎_, _≢_}
 use mathlib.Core.Path.{_≡_}
-use lib.ListN.{length, getD}
+use lib.ListN.{length}
 use Rattle.rules.specs.Sizes.{memoryLength, observationLength}
 use Rattle.rules.specs.Records.{recordCount}
 use Rattle.rules.specs.Kinds.{source, target}
@@ -18,10 +18,6 @@ use Rattle.rules.specs.Translation.{translation}
 use Rattle.rules.specs.Layout.{memoryOf, observationImage}
 use Rattle.rules.specs.Answers.{PlainRun, WatchedRun, inputsOf, plainEnded, runPlain, runWatched}
 use Rattle.rules.specs.declared.Checked.the-variants.{Accepted}
-
--- what the host hands over: bytes
-abbrev pub Bytes : List ℕ → Type 0
-Bytes l = (k : ℕ) → getD l k 0 < 256
 
 -- "Take the source table run by these rules with one change": the run that goes on past false assertions
 abbrev pub pastOutcome : List ℕ → List ℕ → ℕ → PastOutcome
@@ -49,6 +45,6 @@ pub record Agreement (t i : List ℕ) (f : ℕ) (p : PlainRun) (w : WatchedRun) 
 abbrev pub Demand3 : Type 0
 Demand3 =
     (t i : List ℕ) (f : ℕ) (memory memory₁ observation : List ℕ)
-    → Bytes t → Bytes i → check source t ≡ Accepted → inputsFault i ≡ false
+    → check source t ≡ Accepted → inputsFault i ≡ false
     → length memory ≡ memoryLength → length memory₁ ≡ memoryLength → length observation ≡ observationLength
     → Agreement t i f (runPlain t i f memory) (runWatched (translation t) i f memory₁ observation)

@@ -19,4 +19,5 @@ pub mod Layout
 pub mod Answers
 pub mod Listing
 pub mod Cases
+pub mod CommonErrors
 pub mod Demand3
