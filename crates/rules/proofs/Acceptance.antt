@@ -1,7 +1,7 @@
 -- What acceptance by the checker says: every rule holds of every record, and only then.
 use Prim.Native.Nat.{ℕ, _+_, _/_, _%_, _≤_}
 use native.Mathlib.Omega.{arith}
-use mathlib.Core.Bool.{Bool, true, false, not, _||_, true≢false}
+use mathlib.Core.Bool.{Bool, false, not, _||_}
 use mathlib.Core.List.{List}
 use mathlib.Core.Logic.{_↔_}
 use mathlib.Core.Path.{_≡_, refl, _∙_, subst}
@@ -11,6 +11,7 @@ use lib.ListN.{length}
 use Rattle.rules.specs.Records.{recordCount}
 use Rattle.rules.specs.Kinds.{Language, source, target, recordLimit}
 use Rattle.rules.specs.Checker.{lowest, lowestRecord, recordFault, shapeFault, scopeFault, levelFault, refuseAt, lastRule, check}
+use Rattle.rules.proofs.BooleanLaws.{neither}
 use Rattle.rules.proofs.SearchLaws.{lowest-found}
 use Rattle.rules.proofs.SearchLaws as search-laws
 use Rattle.rules.proofs.ParentLaws.{Passed}
@@ -65,14 +66,11 @@ holds-last source t h = rw (none-fails t (levelFault t) h)
 holds-last target t h = refl
 
 not-empty-of : (n : ℕ) → (eqb n 0 || not (eqb (n % 16) 0)) ≡ false → (n % 16 ≡ 0) × (1 ≤ n / 16)
-not-empty-of n h = go (eqb n 0) refl h
-  where
-    go : (b : Bool) → eqb n 0 ≡ b → (b || not (eqb (n % 16) 0)) ≡ false → (n % 16 ≡ 0) × (1 ≤ n / 16)
-    go true e q = absurd (true≢false q)
-    go false e q =
-        let m : n % 16 ≡ 0 = eqb-true (n % 16) 0 (not-false (eqb (n % 16) 0) q) in
-        let p : ¬ (n ≡ 0) = eqb-false n 0 e in
-        (m, omega arith)
+not-empty-of n h =
+    let r = neither (eqb n 0) (not (eqb (n % 16) 0)) h in
+    let m : n % 16 ≡ 0 = eqb-true (n % 16) 0 (not-false (eqb (n % 16) 0) (r .1)) in
+    let p : ¬ (n ≡ 0) = eqb-false n 0 (r .0) in
+    (m, omega arith)
 
 length-passes : (n : ℕ) → n % 16 ≡ 0 → 1 ≤ n / 16 → (eqb n 0 || not (eqb (n % 16) 0)) ≡ false
 length-passes n m p = rw (ne-eqb n 0 (λ e. omega arith), eq-eqb (n % 16) 0 m)

@@ -1,8 +1,8 @@
--- Tests that all pass; a test of equality either way round.
+-- Tests that all pass, or none of which does; a test of equality either way round.
 use Prim.Native.Nat.{ℕ}
 use native.Mathlib.Decide.{ℕ-discrete}
 use mathlib.Core.Path.{_≡_, refl, sym, _∙_}
-use mathlib.Core.Bool.{Bool, true, false, _&&_, false≢true}
+use mathlib.Core.Bool.{Bool, true, false, _&&_, _||_, true≢false, false≢true}
 use borrow.Author.Tests.{eq-eqb, ne-eqb}
 use lib.Dec.{eqb}
 
@@ -25,6 +25,11 @@ five-pass p q r s u e =
     let back = three-pass (p && q && r) s u e in
     let front = three-pass p q r (back .0) in
     (front .0, front .1, front .2, back .1, back .2)
+
+-- what is false of either is false of both
+pub neither : (a b : Bool) → (a || b) ≡ false → (a ≡ false) × (b ≡ false)
+neither true b h = absurd (true≢false h)
+neither false b h = (refl, h)
 
 pub eqb-swap : (x y : ℕ) → eqb x y ≡ eqb y x
 eqb-swap x y = go (ℕ-discrete x y)

@@ -1,16 +1,14 @@
 -- The rules give what document 01 works out on paper, by computation.
 use Prim.Native.Nat.{ℕ, zero, suc, _-_, _*_, _/_, _^_, _≤_, _<_}
 use native.Mathlib.Omega.{arith}
-use mathlib.Core.Bool.{Bool, true, false, not}
+use mathlib.Core.Bool.{Bool, true, false}
 use mathlib.Core.List.{List, [], _∷_, _++_, map}
 use mathlib.Core.Path.{_≡_, refl, ap, _∙_}
-use borrow.Author.Tests.{eq-eqb}
-use lib.Dec.{eqb}
 use lib.ListN.{length, replicate, length-replicate, getD-replicate}
 use Rattle.rules.specs.Sizes.{memoryLength, observationLength}
-use Rattle.rules.specs.Kinds.{source, target}
+use Rattle.rules.specs.Kinds.{source}
 use Rattle.rules.specs.Translation.{translation}
-use Rattle.rules.specs.Answers.{PlainRun, WatchedRun, memoryAfter, inputsOf, plainOutcome, endingOf, plainRefused, plainEnded, plainBy, runPlain, watchedOutcome, watchedEndingOf, watchedRefused, watchedEnded, watchedBy, runWatched}
+use Rattle.rules.specs.Answers.{PlainRun, WatchedRun, memoryAfter, inputsOf, plainOutcome, endingOf, plainEnded, watchedEndingOf}
 use Rattle.rules.specs.Cases as cases
 use Rattle.rules.specs.TargetTrees.{TargetStatement}
 use Rattle.rules.proofs.Sound.{startScope, SoundStatement}
@@ -18,6 +16,7 @@ use Rattle.rules.proofs.Acceptance.{accepted-says}
 use Rattle.rules.proofs.SoundSource.{sound-source}
 use Rattle.rules.proofs.SizeBound.{size-bound}
 use Rattle.rules.proofs.TranslatedTables.{translatedSize, translation-accepted, translation-program}
+use Rattle.rules.proofs.UnrefusedRuns.{plain-runs, watched-runs}
 use Rattle.rules.proofs.SearchLaws.{lowest-here, lowest-next}
 use Rattle.rules.proofs.MemoryLaws.{fill-above, allFree-all, allFree-taken}
 use Rattle.rules.specs.declared.Value.the-variants as value
@@ -27,7 +26,7 @@ use Rattle.rules.specs.declared.Checked.{Checked}
 use Rattle.rules.specs.declared.Checked.the-variants as checked
 use Rattle.rules.specs.Words.{little, digits, part, wordAt, flat}
 use Rattle.rules.specs.Kinds.{lookUp, formOf}
-use Rattle.rules.specs.Checker.{lowest, recordFault, timesChildOf, timesChild, shapeFault, parentOf, inScope, scopeFault, levelOf, levelFault, check, memoryFault, observationFault}
+use Rattle.rules.specs.Checker.{lowest, recordFault, timesChildOf, timesChild, shapeFault, parentOf, inScope, scopeFault, levelOf, levelFault, check}
 use Rattle.rules.specs.Nodes.{sourceProgram, makeNode, nodes, nodeAt}
 use Rattle.rules.specs.Numbers.{onIntegers, onPointerAndInteger, onPointers, operate}
 use Rattle.rules.specs.Memory.{Memory, locate, cellOf, isFree, allFree, lowestRun, freeRun, fixed, freeable, withBlock, makeAt, storeNew, endBlock, startMemory}
@@ -56,32 +55,12 @@ watchedFrom a =
 watchedly : List ℕ → ℕ
 watchedly t = watchedEndingOf (watchedFrom (translate (sourceProgram t))) .number
 
-right-length : (n : ℕ) → not (eqb (length (replicate {A = ℕ} n 0)) n) ≡ false
-right-length n = ap not (eq-eqb (length (replicate {A = ℕ} n 0)) n (length-replicate n 0))
-
-pick : {A : Type 0} → Bool → A → A → A
-pick b x y = elim b [ true ↦ x | false ↦ y ]
-
-plain-run : (t memory : List ℕ) → check source t ≡ checked.Accepted → memoryFault memory ≡ false
-    → runPlain t inputs 0 memory ≡ plainEnded (plainOutcome t inputs 0)
-unfolding digits pick
-plain-run t memory c e =
-    ap (λ (c : Checked). plainBy c t inputs 0 memory) c
-    ∙ (λ i. pick (e i) (plainRefused 21 0 memory) (plainEnded (plainOutcome t inputs 0)))
-
-watched-run : (t memory observation : List ℕ) → check target t ≡ checked.Accepted → memoryFault memory ≡ false
-    → observationFault observation ≡ false
-    → runWatched t inputs 0 memory observation ≡ watchedEnded (watchedOutcome t inputs 0)
-unfolding digits pick
-watched-run t memory observation c e o =
-    ap (λ (c : Checked). watchedBy c t inputs 0 memory observation) c
-    ∙ (λ i. pick (e i) (watchedRefused 21 0 memory observation)
-        (pick (o i) (watchedRefused 22 0 memory observation) (watchedEnded (watchedOutcome t inputs 0))))
-
 plain-is : (rs : List Record) → check source (tableBytes rs) ≡ checked.Accepted
     → plain rs ≡ plainEnded (plainOutcome (tableBytes rs) inputs 0)
-unfolding plain
-plain-is rs c = plain-run (tableBytes rs) (replicate memoryLength 0) c (right-length memoryLength)
+unfolding plain digits
+plain-is rs c =
+    plain-runs (tableBytes rs) inputs 0 (replicate memoryLength 0) c refl
+      (length-replicate {A = ℕ} memoryLength 0)
 
 ending-is : (rs : List Record) (k : ℕ) → plainly (tableBytes rs) ≡ (checked.Accepted, k) → ending rs ≡ k
 unfolding plainly ending
@@ -95,14 +74,15 @@ block-is rs k c = ap (λ (r : PlainRun). part 8 (r .memory) ((k - 1) * 8)) (plai
 -- a translation is accepted, and read back
 watched-is : (rs : List Record) (k : ℕ) → check source (tableBytes rs) ≡ checked.Accepted
     → watchedly (tableBytes rs) ≡ k → cases.watched rs .answer .number ≡ k
-unfolding watchedly watchedFrom cases.watched
+unfolding watchedly watchedFrom cases.watched digits
 watched-is rs k c e =
     let t : List ℕ = tableBytes rs in
     let sound : SoundStatement (sourceProgram t) startScope = sound-source t c in
     let small : translatedSize t ≤ 4096 = omega (arith, size-bound t c, accepted-says source t c .not-too-many) in
     ap (λ (r : WatchedRun). r .answer .number)
-      (watched-run (translation t) (replicate memoryLength 0) (replicate observationLength 0)
-        (translation-accepted t sound small) (right-length memoryLength) (right-length observationLength))
+      (watched-runs (translation t) inputs 0 (replicate memoryLength 0) (replicate observationLength 0)
+        (translation-accepted t sound small) refl (length-replicate {A = ℕ} memoryLength 0)
+        (length-replicate {A = ℕ} observationLength 0))
     ∙ ap (λ (a : TargetStatement). watchedEndingOf (watchedFrom a) .number) (translation-program t sound small)
     ∙ e
 

@@ -1,62 +1,32 @@
 -- Demand 3, undivided: over every accepted source table, inputs, fuel and old memories, down to bytes.
-use Prim.Native.Nat.{ℕ, _/_, _≤_}
+use Prim.Native.Nat.{ℕ, _≤_}
 use native.Mathlib.Omega.{arith}
-use mathlib.Core.Bool.{Bool, true, false, not}
+use mathlib.Core.Bool.{false}
 use mathlib.Core.List.{List}
-use mathlib.Core.Logic.{_⊎_, _≢_}
-use mathlib.Core.Path.{_≡_, refl, sym, ap, _∙_, subst}
-use borrow.Author.Tests.{eq-eqb}
-use lib.Dec.{eqb}
-use lib.ListN.{length}
-use Rattle.rules.specs.Sizes.{inputLimit, sourceLimit, memoryLength, observationLength}
+use mathlib.Core.Path.{_≡_, sym, ap, _∙_}
+use Rattle.rules.specs.Sizes.{sourceLimit}
 use Rattle.rules.specs.Records.{recordCount}
-use Rattle.rules.specs.Kinds.{source, target}
-use Rattle.rules.specs.Checker.{check, inputsFault, memoryFault, observationFault}
+use Rattle.rules.specs.Kinds.{source}
+use Rattle.rules.specs.Checker.{check, inputsFault}
 use Rattle.rules.specs.Nodes.{sourceProgram, targetProgram}
 use Rattle.rules.specs.Memory.{startMemory}
 use Rattle.rules.specs.Observation.{mirror, startObservation}
-use Rattle.rules.specs.Plain.{Outcome, startVariables}
-use Rattle.rules.specs.Past.{atFirstFalse}
-use Rattle.rules.specs.Watched.{WatchedOutcome, watch, startTemporaries}
+use Rattle.rules.specs.Plain.{startVariables}
+use Rattle.rules.specs.Watched.{watch, startTemporaries}
 use Rattle.rules.specs.Translation.{translate, translation}
-use Rattle.rules.specs.Layout.{memoryImage, memoryOf, observationImage}
-use Rattle.rules.specs.Answers.{PlainRun, WatchedRun, inputsOf, plainOutcome, plainRefused, plainEnded, plainBy, runPlain, watchedOutcome, watchedRefused, watchedEnded, watchedBy, runWatched, endingOf, memoryAfter, observationAfter}
-use Rattle.rules.specs.Demand3.{Agreement, Demand3, pastOutcome}
+use Rattle.rules.specs.Layout.{memoryImage, observationImage}
+use Rattle.rules.specs.Answers.{PlainRun, WatchedRun, inputsOf, plainOutcome, plainEnded, watchedOutcome, watchedEnded}
+use Rattle.rules.specs.Demand3.{Agreement, Demand3}
 use Rattle.rules.specs.declared.Checked.the-variants as checked
+use Rattle.rules.proofs.UnrefusedRuns.{plain-runs, watched-runs}
 use Rattle.rules.proofs.Sound.{startScope, SoundStatement}
 use Rattle.rules.proofs.Acceptance.{accepted-says}
 use Rattle.rules.proofs.SoundSource.{sound-source}
 use Rattle.rules.proofs.SizeBound.{size-bound}
 use Rattle.rules.proofs.TranslatedTables.{translatedSize, translation-count, translation-accepted, translation-program}
-use Rattle.rules.proofs.ReachableRoundTrip.{Shown, plain-round-trip}
+use Rattle.rules.proofs.ReachableRoundTrip.{plain-round-trip}
 use Rattle.rules.proofs.Inputs.{inputs-length, inputs-few, inputs-some}
-use Rattle.rules.proofs.WholeRun.{Same, plainFrom, watchedFrom, runs-same, up-to-first-false}
-
--- a buffer of the right length is not refused
-right-length : (l : List ℕ) (n : ℕ) → length l ≡ n → not (eqb (length l) n) ≡ false
-right-length l n e = ap not (eq-eqb (length l) n e)
-
--- a run that is not refused
-plain-runs : (t i : List ℕ) (f : ℕ) (memory : List ℕ) → check source t ≡ checked.Accepted → inputsFault i ≡ false
-    → length memory ≡ memoryLength → runPlain t i f memory ≡ plainEnded (plainOutcome t i f)
-plain-runs t i f memory c e h =
-    ap (λ x. plainBy x t i f memory) c
-    ∙ (λ k.
-      elim (e k) as (λ q. PlainRun) [ true ↦ plainRefused 9 0 memory | false ↦
-      elim (right-length memory memoryLength h k) as (λ q. PlainRun) [
-        true ↦ plainRefused 21 0 memory | false ↦ plainEnded (plainOutcome t i f) ] ])
-
-watched-runs : (t i : List ℕ) (f : ℕ) (memory observation : List ℕ) → check target t ≡ checked.Accepted
-    → inputsFault i ≡ false → length memory ≡ memoryLength → length observation ≡ observationLength
-    → runWatched t i f memory observation ≡ watchedEnded (watchedOutcome t i f)
-watched-runs t i f memory observation c e h k =
-    ap (λ x. watchedBy x t i f memory observation) c
-    ∙ (λ j.
-      elim (e j) as (λ q. WatchedRun) [ true ↦ watchedRefused 9 0 memory observation | false ↦
-      elim (right-length memory memoryLength h j) as (λ q. WatchedRun) [
-        true ↦ watchedRefused 21 0 memory observation | false ↦
-      elim (right-length observation observationLength k j) as (λ q. WatchedRun) [
-        true ↦ watchedRefused 22 0 memory observation | false ↦ watchedEnded (watchedOutcome t i f) ] ] ])
+use Rattle.rules.proofs.WholeRun.{Same, watchedFrom, runs-same, up-to-first-false}
 
 -- the translation's run is that of the translated tree
 watched-from : (t i : List ℕ) (f : ℕ) → targetProgram (translation t) ≡ translate (sourceProgram t)

@@ -1,7 +1,7 @@
 -- Inputs that are not refused as 9: 1 to 256 numbers.
 use Prim.Native.Nat.{ℕ, zero, suc, _/_, _%_, _≤_}
 use native.Mathlib.Omega.{arith}
-use mathlib.Core.Bool.{Bool, true, false, not, _||_, true≢false}
+use mathlib.Core.Bool.{false, not, _||_}
 use mathlib.Core.List.{List}
 use mathlib.Core.Path.{_≡_, refl, ap}
 use borrow.Author.Tests.{eqb-true, eqb-false, ltb-false, not-false}
@@ -10,6 +10,7 @@ use lib.ListN.{length, drop}
 use Rattle.rules.specs.Sizes.{inputLimit}
 use Rattle.rules.specs.Checker.{inputsFault}
 use Rattle.rules.specs.Answers.{numbersIn, inputsOf}
+use Rattle.rules.proofs.BooleanLaws.{neither}
 
 length-numbers : (n : ℕ) (i : List ℕ) → length (numbersIn n i) ≡ n
 length-numbers zero i = refl
@@ -17,11 +18,6 @@ length-numbers (suc n) i = ap suc (length-numbers n (drop 8 i))
 
 pub inputs-length : (i : List ℕ) → length (inputsOf i) ≡ length i / 8
 inputs-length i = length-numbers (length i / 8) i
-
--- what is false of either is false of both
-neither : (a b : Bool) → (a || b) ≡ false → (a ≡ false) × (b ≡ false)
-neither true b h = absurd (true≢false h)
-neither false b h = (refl, h)
 
 module _ (i : List ℕ) (e : inputsFault i ≡ false) where
   tests : ((not (eqb (length i % 8) 0) || eqb (length i) 0) ≡ false) × (ltb inputLimit (length i / 8) ≡ false)

@@ -84,6 +84,7 @@ pub mod Start
 pub mod StartObservation
 pub mod WholeRun
 pub mod Inputs
+pub mod UnrefusedRuns
 pub mod Claim
 pub mod Cases
 pub mod CommonErrors

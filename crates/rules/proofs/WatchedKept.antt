@@ -57,9 +57,9 @@ kept (sequence s a b) ρ m o τ f v =
     watched-next (Onto m) AnyNumber (watch a ρ m o τ f) _ (kept a ρ m o τ f v)
       (λ m₁ o₁ τ₁ f₁ i. further i (watch b ρ m₁ o₁ τ₁ f₁) (kept b ρ m₁ o₁ τ₁ f₁ (i .invariant)))
 kept (branch s e a b) ρ m o τ f v =
-    let t = condition (evaluate e (temporaryOf τ) ρ m) in
-    watched-decide (Onto m) AnyNumber s t _ _ m o τ f (any-test t) (onward-itself v) (kept a ρ m o τ f v)
-      (kept b ρ m o τ f v)
+    watched-decide (Onto m) AnyNumber s (condition (evaluate e (temporaryOf τ) ρ m)) _ _ m o τ f
+      (any-test (condition (evaluate e (temporaryOf τ) ρ m))) (onward-itself v)
+      (kept a ρ m o τ f v) (kept b ρ m o τ f v)
 kept (while s e b) ρ m o τ f v =
     watched-turns (Onto m) AnyNumber s _ _ tt (λ m₁ o₁ τ₁ f₁ i. i)
       (λ m₁ o₁ τ₁ f₁ i. any-test (condition (evaluate e (temporaryOf τ₁) ρ m₁)))
