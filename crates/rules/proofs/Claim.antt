@@ -32,7 +32,8 @@ use Rattle.rules.proofs.WholeRun.{Same, watchedFrom, runs-same, up-to-f
 watched-from : (t i : List ℕ) (f : ℕ) → targetProgram (translation t) ≡ translate (sourceProgram t)
     → watchedOutcome (translation t) i f ≡ watchedFrom (translate (sourceProgram t)) (inputsOf i) f
 watched-from t i f e = λ k.
-    watch (e k) startVariables (startMemory (inputsOf i)) (startObservation (sym (inputs-length i) k)) startTemporaries f
+    watch (e k) startVariables (startMemory (inputsOf i)) (startObservation (sym (inputs-length i) k))
+      startTemporaries f
 
 module _ (t i : List ℕ) (f : ℕ) (c : check source t ≡ checked.Accepted) (e : inputsFault i ≡ false) where
   few : recordCount t ≤ sourceLimit
