@@ -72,6 +72,15 @@ pub mod KeptPredicates
 pub mod Reachable
 pub mod ReachableRoundTrip
 
+-- What the code's proofs use: changes of one record, runs of free places, tables with bytes behind them, expressions
+-- of both languages, statements kind by kind.
+pub mod FillLaws
+pub mod RecordLaws
+pub mod RunLaws
+pub mod Padding
+pub mod SharedExpressions
+pub mod PlainArms
+
 -- Simulation: the translation runs as its source does.
 pub mod Mirror
 pub mod PredicateSimulation

@@ -1,0 +1,109 @@
+// Cases of document 01 through the compiled leaves: what it prints is held to the file `stdout`.
+use rules::Block;
+use rules::Number;
+use rules::Pointer;
+use memory::Making;
+
+fn print_integer(z: i64) {
+    io::write_all(1, b" ");
+    if z < 0 {
+        io::write_all(1, b"-");
+    }
+    io::print_decimal(1, magnitude(z));
+}
+
+fn magnitude(z: i64) -> u64 {
+    if z < 0 {
+        ((-1 - z) as u64) + 1
+    } else {
+        z as u64
+    }
+}
+
+// The number, or the ending of an overflow or a zero divisor.
+fn print_number(n: Number) {
+    match n {
+        Number::Is(z) => print_integer(z),
+        Number::Overflow => print_integer(43),
+        Number::ZeroDivisor => print_integer(44),
+    }
+}
+
+fn end_line() {
+    io::write_all(1, b"\n");
+}
+
+fn print_p2() {
+    io::write_all(1, b"P2");
+    print_number(numbers::divide_nearest(7, 2));
+    print_number(numbers::divide_nearest(-7, 2));
+    print_number(numbers::divide_nearest(5, 2));
+    print_number(numbers::divide_nearest(1, 3));
+    end_line();
+}
+
+fn print_p3_p4() {
+    io::write_all(1, b"P3");
+    print_number(numbers::divide(-7, 2));
+    end_line();
+    io::write_all(1, b"P4");
+    print_number(numbers::divide(-9223372036854775808, -1));
+    print_number(numbers::divide(-9223372036854775808, 0));
+    end_line();
+}
+
+// The memory with inputs 7 and 9 and one let's block.
+fn begin(mem: &mut [u8; 18424]) {
+    let inputs = [7u8, 0, 0, 0, 0, 0, 0, 0, 9, 0, 0, 0, 0, 0, 0, 0];
+    memory::start(mem, &inputs);
+    memory::make(mem, false, 1);
+}
+
+// Name, first cell and length of a new block, or its ending.
+fn print_new(mem: &mut [u8; 18424], n: usize) {
+    match memory::make(mem, true, n) {
+        Making::Name(k) => print_block(&*mem, k),
+        Making::Stopped(k) => print_integer(k as i64),
+    }
+}
+
+fn print_block(mem: &[u8; 18424], name: u16) {
+    print_integer(name as i64);
+    match memory::block(mem, name) {
+        Block::Unused => print_integer(0),
+        Block::Fixed(_, _) => print_integer(1),
+        Block::Freeable(first, n) => {
+            print_integer(first as i64);
+            print_integer(n as i64);
+        }
+        Block::Dead => print_integer(3),
+    }
+}
+
+fn print_p8() {
+    let mut mem = [0u8; 18424];
+    io::write_all(1, b"P8");
+    begin(&mut mem);
+    print_new(&mut mem, 1020);
+    begin(&mut mem);
+    print_new(&mut mem, 1021);
+    end_line();
+}
+
+fn print_p9() {
+    let mut mem = [0u8; 18424];
+    io::write_all(1, b"P9");
+    begin(&mut mem);
+    print_new(&mut mem, 6);
+    print_integer(memory::free(&mut mem, Pointer { name: 4, offset: 0 }) as i64);
+    print_new(&mut mem, 6);
+    print_block(&mem, 4);
+    end_line();
+}
+
+fn main() {
+    print_p2();
+    print_p3_p4();
+    print_p8();
+    print_p9();
+}

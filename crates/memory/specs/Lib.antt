@@ -1,0 +1,2 @@
+-- What the code of the execution memory is held to.
+pub mod Changes

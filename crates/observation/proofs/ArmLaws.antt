@@ -1,0 +1,158 @@
+-- One law for each arm of a call: what it answers, from what its parts answered.
+use Prim.Native.Nat.{ℕ, zero, suc, _+_, _-_, _<_, _≤_}
+use native.Mathlib.Omega.{arith}
+use mathlib.Core.Path.{_≡_, refl, sym, ap, ap₂, _∙_, subst}
+use mathlib.Core.Bool.{Bool, true, false}
+use mathlib.Core.List.{List}
+use lib.Dec.{T}
+use lib.ListN.{length, getD}
+use lib.Seq.{set-out}
+use lib.IntN.{ℤ, pos, negsuc, natAbs}
+use lib.Signed.{ltZ}
+use borrow.Author.Tests.{lt-ltb, le-ltb}
+use Rattle.numbers.proofs.Integers.{ltZ-true}
+use Rattle.rules.specs.Sizes.{cellCount}
+use Rattle.rules.specs.Words.{wordAt}
+use Rattle.rules.specs.Trees.{valid, initialised, base, offset, blockLength}
+use Rattle.rules.specs.Numbers.{truthValue}
+use Rattle.rules.specs.Memory.{locatedIn}
+use Rattle.rules.specs.Evaluation.{isValid, initialisedAt, ofLive, queried}
+use Rattle.rules.specs.Observation.{Observation, Noted, noted, refused, recordOf, markOf, withMarks, locateMark, queryObservation}
+use Rattle.rules.specs.Layout.{blockPlace, recordedFrom, recordedAt, observationOf}
+use Rattle.rules.specs.declared.Pointer.{Pointer}
+use Rattle.rules.specs.declared.Value.{Value}
+use Rattle.rules.specs.declared.Value.the-variants as value
+use Rattle.rules.specs.declared.Evaluated.{Evaluated}
+use Rattle.rules.specs.declared.Located.{Located}
+use Rattle.rules.specs.declared.Located.the-variants as located
+use Rattle.rules.specs.declared.Recorded.{Recorded}
+use Rattle.rules.specs.declared.Recorded.the-variants as recorded
+use Rattle.observation.specs.Calls.{ObservationBecomes, Answers, withRecord, withMark, markRange, spanOf}
+use Rattle.observation.proofs.ObservationLaws.{mark-count}
+use Rattle.observation.proofs.BecomesLaws.{becomes-same, becomes-then}
+
+-- ---- a record by its state
+module _ (l : List ℕ) (k : ℕ) where
+  pub recorded-unused : getD l (blockPlace k) 0 ≡ 0 → recorded.Unused ≡ recordedAt l k
+  unfolding recordedAt
+  recorded-unused e =
+      sym (ap (λ (s : ℕ). recordedFrom s (wordAt 2 l (blockPlace k + 2)) (wordAt 2 l (blockPlace k + 4))) e)
+
+  pub recorded-live : (first n : ℕ) → getD l (blockPlace k) 0 ≡ 1 → first ≡ wordAt 2 l (blockPlace k + 2)
+      → n ≡ wordAt 2 l (blockPlace k + 4) → recorded.Live first n ≡ recordedAt l k
+  unfolding recordedAt
+  recorded-live first n e f g =
+      ap₂ recorded.Live f g
+      ∙ sym (ap (λ (s : ℕ). recordedFrom s (wordAt 2 l (blockPlace k + 2)) (wordAt 2 l (blockPlace k + 4))) e)
+
+  pub recorded-dead : (getD l (blockPlace k) 0 ≡ 0 → ⊥) → (getD l (blockPlace k) 0 ≡ 1 → ⊥)
+      → recorded.Dead ≡ recordedAt l k
+  unfolding recordedAt
+  recorded-dead a b = go (getD l (blockPlace k) 0) a b
+    where
+      go : (s : ℕ) → (s ≡ 0 → ⊥) → (s ≡ 1 → ⊥)
+          → recorded.Dead ≡ recordedFrom s (wordAt 2 l (blockPlace k + 2)) (wordAt 2 l (blockPlace k + 4))
+      go zero a b = absurd (a refl)
+      go (suc zero) a b = absurd (b refl)
+      go (suc (suc s)) a b = refl
+
+-- ---- where an offset leads in a live block
+module _ (first n : ℕ) where
+  pub inside-below : (z : ℤ) → ltZ z (pos 0) ≡ true → located.Outside ≡ locatedIn (recorded.Live first n) z
+  inside-below (pos o) t = absurd (omega (arith, ltZ-true (pos o) (pos 0) t))
+  inside-below (negsuc o) t = refl
+
+  pub inside-here : (z : ℤ) → ltZ z (pos 0) ≡ false → natAbs z < n
+      → located.At (first + natAbs z) ≡ locatedIn (recorded.Live first n) z
+  inside-here (pos o) t h = rw (lt-ltb o n h) refl
+  inside-here (negsuc o) t h = absurd (subst T t tt)
+
+  pub inside-past : (z : ℤ) → ltZ z (pos 0) ≡ false → n ≤ natAbs z
+      → located.Outside ≡ locatedIn (recorded.Live first n) z
+  inside-past (pos o) t h = rw (le-ltb o n h) refl
+  inside-past (negsuc o) t h = absurd (subst T t tt)
+
+-- ---- queries of a pointer
+module _ (o : Observation) (v : Value) (p : Pointer) (e : v ≡ value.Pointer p) where
+  pub query-valid : {at : Located} {b : Bool} {r : Evaluated} → at ≡ locateMark o p → b ≡ isValid at → r ≡ truthValue
+      b
+      → r ≡ queryObservation valid o v
+  unfolding queried
+  query-valid f g h = h ∙ ap truthValue (g ∙ ap isValid f) ∙ ap (queryObservation valid o) (sym e)
+
+  pub query-initialised : {at : Located} {b : Bool} {r : Evaluated} → at ≡ locateMark o p → b ≡ initialisedAt
+      (markOf o) at
+      → r ≡ truthValue b → r ≡ queryObservation initialised o v
+  unfolding queried
+  query-initialised f g h =
+      h ∙ ap truthValue (g ∙ ap (initialisedAt (markOf o)) f) ∙ ap (queryObservation initialised o) (sym e)
+
+  pub query-base : {b : Recorded} {r : Evaluated} → b ≡ recordOf o (p .name)
+      → r ≡ ofLive b (λ n. value.Pointer (record { name = p .name; offset = pos 0 })) → r ≡ queryObservation base o v
+  unfolding queried
+  query-base f g =
+      g ∙ ap (λ (b : Recorded). ofLive b (λ n. value.Pointer (record { name = p .name; offset = pos 0 }))) f
+      ∙ ap (queryObservation base o) (sym e)
+
+  pub query-offset : {b : Recorded} {s : ℤ} {r : Evaluated} → b ≡ recordOf o (p .name) → s ≡ p .offset
+      → r ≡ ofLive b (λ n. value.Integer s) → r ≡ queryObservation offset o v
+  unfolding queried
+  query-offset {b} f s g =
+      g ∙ ap (λ (z : ℤ). ofLive b (λ n. value.Integer z)) s
+      ∙ ap (λ (b : Recorded). ofLive b (λ n. value.Integer (p .offset))) f ∙ ap (queryObservation offset o) (sym e)
+
+  pub query-length : {b : Recorded} {s : ℤ} {r : Evaluated} → b ≡ recordOf o (p .name) → s ≡ pos (spanOf b)
+      → r ≡ ofLive b (λ n. value.Integer s) → r ≡ queryObservation blockLength o v
+  unfolding queried
+  query-length {b} f s g =
+      g ∙ ap (λ (z : ℤ). ofLive b (λ n. value.Integer z)) s ∙ span b
+      ∙ ap (λ (b : Recorded). ofLive b (λ n. value.Integer (pos n))) f ∙ ap (queryObservation blockLength o) (sym e)
+    where
+      span : (b : Recorded) → ofLive b (λ n. value.Integer (pos (spanOf b))) ≡ ofLive b (λ n. value.Integer (pos n))
+      span recorded.Unused = refl
+      span (recorded.Live first n) = refl
+      span recorded.Dead = refl
+
+-- ---- what a call answers and leaves
+pub answers-refused : (l : List ℕ) (k : ℕ) {n : Noted} → n ≡ refused k → Answers l l k n
+answers-refused l k e = subst (Answers l l k) (sym e) (record { number = refl; memory = becomes-same l })
+
+pub answers-noted : (l l′ : List ℕ) {n : Noted} {o : Observation} → n ≡ noted o → ObservationBecomes l l′ o
+    → Answers l l′ 0 n
+answers-noted l l′ e b = subst (Answers l l′ 0) (sym e) (record { number = refl; memory = b })
+
+pub answers-same : (l l′ : List ℕ) (r : ℕ) {m n : Noted} → m ≡ n → Answers l l′ r n → Answers l l′ r m
+answers-same l l′ r e a = subst (Answers l l′ r) (sym e) a
+
+pub becomes-as : {l l′ l″ : List ℕ} {o : Observation} → l′ ≡ l″ → ObservationBecomes l l″ o → ObservationBecomes l l′
+    o
+becomes-as {l} {l′} {l″} {o} e b = subst (λ (t : List ℕ). ObservationBecomes l t o) (sym e) b
+
+-- a mark past the end is none
+pub becomes-out : (l : List ℕ) (i : ℕ) → cellCount ≤ i → ObservationBecomes l l (withMark (observationOf l) i)
+becomes-out l i h =
+    let past : length (observationOf l .marks) ≤ i = omega (arith, mark-count l) in
+    record {
+      view = λ t. record {
+        blocks = observationOf l .blocks;
+        marks = sym
+            (set-out (observationOf l .marks) i true past) t;
+      };
+      exact = λ x. x;
+    }
+
+-- marks cleared, then the record of a name
+pub becomes-replaced : (l : List ℕ) {l′ l″ : List ℕ} (k : ℕ) (b : Recorded) (first n : ℕ) → 0 < k
+    → ObservationBecomes l l′ (markRange (observationOf l) first n false)
+    → ObservationBecomes l′ l″ (withRecord (observationOf l′) (k - 1) b)
+    → ObservationBecomes l l″ (withMarks (observationOf l) k b first n)
+becomes-replaced l zero b first n h x y = absurd (omega arith)
+becomes-replaced l (suc k) b first n h x y =
+    becomes-then (λ (o : Observation). withRecord o k b) x (place y)
+  where
+    before : (k : ℕ) → suc k - 1 ≡ k
+    before k = omega arith
+
+    place : {l′ l″ : List ℕ} → ObservationBecomes l′ l″ (withRecord (observationOf l′) (suc k - 1) b)
+        → ObservationBecomes l′ l″ (withRecord (observationOf l′) k b)
+    place {l′} {l″} y = subst (λ (j : ℕ). ObservationBecomes l′ l″ (withRecord (observationOf l′) j b)) (before k) y

@@ -1,0 +1,188 @@
+-- What each statement of a source table does in the plain run, by its kind, and what its children are.
+use Prim.Native.Nat.{ℕ, zero, suc, _≤_, _<_}
+use native.Mathlib.Omega.{arith}
+use mathlib.Core.List.{List}
+use mathlib.Core.Logic.{_≢_}
+use mathlib.Core.Path.{_≡_, refl, sym, ap, _∙_, subst}
+use Rattle.rules.specs.Records.{recordCount, kindOf, markOf, childA, childB, childC}
+use Rattle.rules.specs.Kinds.{source, sortNumber, Sort, expression, place, predicate, statement}
+use Rattle.rules.specs.Trees.{Expression, Place, Predicate, Statement}
+use Rattle.rules.specs.Nodes.{SourceNode, asExpression, asPlace, asPredicate, sourceStatement, sortOfNode, nodeAt}
+use Rattle.rules.specs.Memory.{Memory, fixed, makeBlock, assigned, allocated, freed}
+use Rattle.rules.specs.Evaluation.{Variables, evaluateSource, findSource, evaluatePredicate, condition, extend}
+use Rattle.rules.specs.Plain.{Outcome, finished, ended, next, after, decide, inLet, asserted, run}
+use Rattle.rules.proofs.KindViews.{formAt, SourceKind, skip, assign, new, free, sequence, branch, while, letIn, assert}
+use Rattle.rules.proofs.FormLaws.{FormHolds, nodeAs}
+use Rattle.rules.proofs.Standing.{stands, stands-at}
+use Rattle.rules.proofs.Turns.{while-zero, while-suc}
+use Rattle.rules.proofs.Sound.{Scope, adding, NoName, SoundExpression, SoundPlace, SoundStatement}
+
+-- the trees of record n
+abbrev pub expressionAt : List ℕ → ℕ → Expression ⊥
+expressionAt t n = asExpression (nodeAt source t n)
+
+abbrev pub placeAt : List ℕ → ℕ → Place ⊥
+placeAt t n = asPlace (nodeAt source t n)
+
+abbrev pub predicateAt : List ℕ → ℕ → Predicate
+predicateAt t n = asPredicate (nodeAt source t n)
+
+abbrev pub statementAt : List ℕ → ℕ → Statement
+statementAt t n = sourceStatement (nodeAt source t n)
+
+abbrev pub HasSort : Sort → List ℕ → ℕ → Type 0
+HasSort s t n = sortOfNode source (nodeAt source t n) ≡ sortNumber s
+
+-- a child of record n
+abbrev pub Under : Sort → List ℕ → ℕ → ℕ → Type 0
+Under s t n x = (1 ≤ x) × (x < n) × HasSort s t x
+
+module _ (t : List ℕ) (n : ℕ) (h : HasSort statement t n) where
+  form : (k : ℕ) → kindOf t n ≡ k → FormHolds source t n (formAt source k)
+  form k e = stands-at source t n k statement h e
+
+  pub statement-within : (1 ≤ n) × (n ≤ recordCount t)
+  statement-within = let s = stands source t n statement h in (s .from-one, s .within)
+
+  -- the last kind is what is left
+  pub statement-kinds : kindOf t n ≢ 40 → kindOf t n ≢ 41 → kindOf t n ≢ 42 → kindOf t n ≢ 43 → kindOf t n ≢ 44
+      → kindOf t n ≢ 45 → kindOf t n ≢ 46 → kindOf t n ≢ 47 → kindOf t n ≡ 48
+  statement-kinds = go (stands source t n statement h .kind)
+    where
+      go : {k : ℕ} → SourceKind statement k → k ≢ 40 → k ≢ 41 → k ≢ 42 → k ≢ 43 → k ≢ 44 → k ≢ 45 → k ≢ 46 → k ≢ 47
+          → k ≡ 48
+      go skip a b c d e f g i = absurd (a refl)
+      go assign a b c d e f g i = absurd (b refl)
+      go new a b c d e f g i = absurd (c refl)
+      go free a b c d e f g i = absurd (d refl)
+      go sequence a b c d e f g i = absurd (e refl)
+      go branch a b c d e f g i = absurd (f refl)
+      go while a b c d e f g i = absurd (g refl)
+      go letIn a b c d e f g i = absurd (i refl)
+      go assert a b c d e f g i = refl
+
+  -- the children
+  pub assign-children : kindOf t n ≡ 41 → Under place t n (childA t n) × Under expression t n (childB t n)
+  assign-children e = (form 41 e .a, form 41 e .b)
+
+  pub new-children : kindOf t n ≡ 42 → Under place t n (childA t n) × Under expression t n (childB t n)
+  new-children e = (form 42 e .a, form 42 e .b)
+
+  pub free-child : kindOf t n ≡ 43 → Under expression t n (childA t n)
+  free-child e = form 43 e .a
+
+  pub sequence-children : kindOf t n ≡ 44 → Under statement t n (childA t n) × Under statement t n (childB t n)
+  sequence-children e = (form 44 e .a, form 44 e .b)
+
+  pub branch-children : kindOf t n ≡ 45
+      → Under expression t n (childA t n) × Under statement t n (childB t n) × Under statement t n (childC t n)
+  branch-children e = (form 45 e .a, form 45 e .b, form 45 e .c)
+
+  pub while-children : kindOf t n ≡ 46 → Under expression t n (childA t n) × Under statement t n (childB t n)
+  while-children e = (form 46 e .a, form 46 e .b)
+
+  pub let-child : kindOf t n ≡ 47 → Under statement t n (childA t n)
+  let-child e = form 47 e .a
+
+  pub assert-child : kindOf t n ≡ 48 → Under predicate t n (childA t n)
+  assert-child e = form 48 e .a
+
+  -- what the statement does
+  module _ (ρ : Variables) (m : Memory) (f : ℕ) where
+    run-kind : (k : ℕ) → kindOf t n ≡ k
+        → run (statementAt t n) ρ m f ≡ run (sourceStatement (nodeAs source (formAt source k .kind) t n)) ρ m f
+    run-kind k e = ap (λ (x : SourceNode). run (sourceStatement x) ρ m f) (form k e .node)
+
+    pub run-skip : kindOf t n ≡ 40 → run (statementAt t n) ρ m f ≡ finished m f
+    unfolding run
+    run-skip e = run-kind 40 e
+
+    pub run-assign : kindOf t n ≡ 41
+        → run (statementAt t n) ρ m f
+          ≡ after n f (assigned m (findSource (placeAt t (childA t n)) ρ m)
+            (evaluateSource (expressionAt t (childB t n)) ρ m))
+    unfolding run
+    run-assign e = run-kind 41 e
+
+    pub run-new : kindOf t n ≡ 42
+        → run (statementAt t n) ρ m f
+          ≡ after n f (allocated m (findSource (placeAt t (childA t n)) ρ m)
+            (evaluateSource (expressionAt t (childB t n)) ρ m))
+    unfolding run
+    run-new e = run-kind 42 e
+
+    pub run-free : kindOf t n ≡ 43
+        → run (statementAt t n) ρ m f ≡ after n f (freed m (evaluateSource (expressionAt t (childA t n)) ρ m))
+    unfolding run
+    run-free e = run-kind 43 e
+
+    pub run-sequence : kindOf t n ≡ 44
+        → run (statementAt t n) ρ m f
+          ≡ next (run (statementAt t (childA t n)) ρ m f) (λ m₁ f₁. run (statementAt t (childB t n)) ρ m₁ f₁)
+    unfolding run
+    run-sequence e = run-kind 44 e
+
+    pub run-branch : kindOf t n ≡ 45
+        → run (statementAt t n) ρ m f
+          ≡ decide n (condition (evaluateSource (expressionAt t (childA t n)) ρ m))
+            (λ m₁ f₁. run (statementAt t (childB t n)) ρ m₁ f₁) (λ m₁ f₁. run (statementAt t (childC t n)) ρ m₁ f₁) m f
+    unfolding run
+    run-branch e = run-kind 45 e
+
+    pub run-let : kindOf t n ≡ 47
+        → run (statementAt t n) ρ m f
+          ≡ inLet n m f (makeBlock m fixed 1)
+            (λ k m₁ f₁. run (statementAt t (childA t n)) (extend ρ (markOf t n) k) m₁ f₁)
+    unfolding run
+    run-let e = run-kind 47 e
+
+    pub run-assert : kindOf t n ≡ 48
+        → run (statementAt t n) ρ m f ≡ asserted n m f (condition (evaluatePredicate (predicateAt t (childA t n)) ρ m))
+    unfolding run
+    run-assert e = run-kind 48 e
+
+  -- a while, with fuel and without
+  pub run-while-zero : kindOf t n ≡ 46 → (ρ : Variables) (m : Memory) → run (statementAt t n) ρ m 0 ≡ ended 32 n m 0
+  run-while-zero e ρ m =
+      run-kind ρ m 0 46 e ∙ while-zero n (expressionAt t (childA t n)) (statementAt t (childB t n)) ρ m
+
+  pub run-while-suc : kindOf t n ≡ 46 → (ρ : Variables) (m : Memory) (f : ℕ)
+      → run (statementAt t n) ρ m (suc f)
+        ≡ decide n (condition (evaluateSource (expressionAt t (childA t n)) ρ m))
+          (λ m₁ f₁. next (run (statementAt t (childB t n)) ρ m₁ f₁) (λ m₂ f₂. run (statementAt t n) ρ m₂ f₂))
+          finished m f
+  run-while-suc e ρ m f =
+      run-kind ρ m (suc f) 46 e
+      ∙ while-suc n (expressionAt t (childA t n)) (statementAt t (childB t n)) ρ m f
+      ∙ sym (ap (λ (w : Statement).
+        decide n (condition (evaluateSource (expressionAt t (childA t n)) ρ m))
+          (λ m₁ f₁. next (run (statementAt t (childB t n)) ρ m₁ f₁) (λ m₂ f₂. run w ρ m₂ f₂)) finished m f)
+        (ap sourceStatement (form 46 e .node)))
+
+  -- what the children keep
+  module _ (σ : Scope) (s : SoundStatement (statementAt t n) σ) where
+    sound-as : (k : ℕ) → kindOf t n ≡ k → SoundStatement (sourceStatement (nodeAs source (formAt source k .kind) t n)) σ
+    sound-as k e = subst (λ (x : SourceNode). SoundStatement (sourceStatement x) σ) (form k e .node) s
+
+    pub sound-assign : kindOf t n ≡ 41
+        → SoundPlace (placeAt t (childA t n)) NoName σ × SoundExpression (expressionAt t (childB t n)) NoName σ
+    sound-assign e = let w = sound-as 41 e in (w .1, w .2)
+
+    pub sound-new : kindOf t n ≡ 42
+        → SoundPlace (placeAt t (childA t n)) NoName σ × SoundExpression (expressionAt t (childB t n)) NoName σ
+    sound-new e = let w = sound-as 42 e in (w .1, w .2)
+
+    pub sound-sequence : kindOf t n ≡ 44
+        → SoundStatement (statementAt t (childA t n)) σ × SoundStatement (statementAt t (childB t n)) σ
+    sound-sequence e = let w = sound-as 44 e in (w .1, w .2)
+
+    pub sound-branch : kindOf t n ≡ 45
+        → SoundStatement (statementAt t (childB t n)) σ × SoundStatement (statementAt t (childC t n)) σ
+    sound-branch e = let w = sound-as 45 e in (w .2, w .3)
+
+    pub sound-while : kindOf t n ≡ 46 → SoundStatement (statementAt t (childB t n)) σ
+    sound-while e = sound-as 46 e .2
+
+    pub sound-let : kindOf t n ≡ 47
+        → (markOf t n < 64) × SoundStatement (statementAt t (childA t n)) (adding σ (markOf t n))
+    sound-let e = let w = sound-as 47 e in (w .1, w .3)

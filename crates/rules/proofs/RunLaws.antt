@@ -1,0 +1,219 @@
+-- Laws of `allFree`, `lowest` and `lowestRun`, and of the loop that looks for the lowest run.
+use Prim.Native.Nat.{ℕ, zero, suc, _+_, _-_, _<_, _≤_}
+use native.Mathlib.Omega.{arith}
+use native.Mathlib.Nat.{eq-or-lt-of-le}
+use native.Mathlib.Decide.{decLt}
+use mathlib.Core.Path.{_≡_, refl, sym, ap, ap₂, _∙_}
+use mathlib.Core.Logic.{⊎-elim, _⊎_, inl, inr}
+use mathlib.Core.Bool.{Bool, true, false}
+use Rattle.rules.specs.Sizes.{cellCount}
+use Rattle.rules.specs.Checker.{lowest}
+use Rattle.rules.specs.Memory.{allFree, lowestRun}
+use Rattle.rules.specs.declared.Search.{Search}
+use Rattle.rules.specs.declared.Search.the-variants as search
+
+lt-or-le : (a b : ℕ) → (a < b) ⊎ (b ≤ a)
+lt-or-le a b = pick (decLt a b)
+  where
+    pick : Dec (a < b) → (a < b) ⊎ (b ≤ a)
+    pick (yes h) = inl h
+    pick (no f) = inr (omega arith)
+
+-- ---- runs
+step-free : (b : Bool) (r : Bool) → b ≡ true → elim b [ true ↦ r | false ↦ false ] ≡ r
+step-free true r e = refl
+step-free false r e = let z : _≡_ {A = ℕ} 0 1 = cc in absurd (omega arith)
+
+step-held : (b : Bool) (r : Bool) → b ≡ false → elim b [ true ↦ r | false ↦ false ] ≡ false
+step-held true r e = let z : _≡_ {A = ℕ} 0 1 = cc in absurd (omega arith)
+step-held false r e = refl
+
+step-later : (b : Bool) (r : Bool) → r ≡ false → elim b [ true ↦ r | false ↦ false ] ≡ false
+step-later true r e = e
+step-later false r e = refl
+
+module _ (p : ℕ → Bool) where
+  pub all-free : (n s : ℕ) → ((j : ℕ) → s ≤ j → j < s + n → p j ≡ true) → allFree p s n ≡ true
+  unfolding allFree
+  all-free zero s f = refl
+  all-free (suc n) s f =
+      step-free (p s) (allFree p (suc s) n) (f s (omega arith) (omega arith))
+      ∙ all-free n (suc s) (λ j a b. f j (omega arith) (omega arith))
+
+  pub blocked : (n s j : ℕ) → s ≤ j → j < s + n → p j ≡ false → allFree p s n ≡ false
+  unfolding allFree
+  blocked zero s j a b e = absurd (omega arith)
+  blocked (suc n) s j a b e =
+      ⊎-elim (λ q. step-held (p s) (allFree p (suc s) n) (ap p q ∙ e))
+      (λ l. step-later (p s) (allFree p (suc s) n) (blocked n (suc s) j l (reach n s j b) e)) (eq-or-lt-of-le a)
+    where
+      reach : (n s j : ℕ) → j < s + suc n → j < suc s + n
+      reach n s j b = omega arith
+
+-- ---- the lowest
+step-found : (b : Bool) (s r : Search) → b ≡ true → elim b [ true ↦ s | false ↦ r ] ≡ s
+step-found true s r e = refl
+step-found false s r e = let z : _≡_ {A = ℕ} 0 1 = cc in absurd (omega arith)
+
+step-on : (b : Bool) (s r : Search) → b ≡ false → elim b [ true ↦ s | false ↦ r ] ≡ r
+step-on true s r e = let z : _≡_ {A = ℕ} 0 1 = cc in absurd (omega arith)
+step-on false s r e = refl
+
+module _ (q : ℕ → Bool) where
+  pub lowest-at : (k j m : ℕ) → ((i : ℕ) → j ≤ i → i < m → q i ≡ false) → q m ≡ true → j ≤ m → m < j + k
+      → lowest q j k ≡ search.At m
+  unfolding lowest
+  lowest-at zero j m f t a b = absurd (omega arith)
+  lowest-at (suc k) j m f t a b =
+      ⊎-elim (λ e. step-found (q j) (search.At j) (lowest q (suc j) k) (ap q e ∙ t) ∙ ap search.At e)
+      (λ l. step-on (q j) (search.At j) (lowest q (suc j) k) (f j (same j) l)
+      ∙ lowest-at k (suc j) m (λ i x y. f i (less j i x) y) t l (reach k j m b)) (eq-or-lt-of-le a)
+    where
+      same : (j : ℕ) → j ≤ j
+      same j = omega arith
+
+      less : (j i : ℕ) → suc j ≤ i → j ≤ i
+      less j i x = omega arith
+
+      reach : (k j m : ℕ) → m < j + suc k → m < suc j + k
+      reach k j m b = omega arith
+
+  pub lowest-none : (k j : ℕ) → ((i : ℕ) → j ≤ i → i < j + k → q i ≡ false) → lowest q j k ≡ search.Nothing
+  unfolding lowest
+  lowest-none zero j f = refl
+  lowest-none (suc k) j f =
+      step-on (q j) (search.At j) (lowest q (suc j) k) (f j (omega arith) (omega arith))
+      ∙ lowest-none k (suc j) (λ i x y. f i (omega arith) (omega arith))
+
+-- two tests that agree on the cells find the same run
+module _ (p q : ℕ → Bool) where
+  all-free-same : (n s : ℕ) → ((j : ℕ) → j < s + n → p j ≡ q j) → allFree p s n ≡ allFree q s n
+  unfolding allFree
+  all-free-same zero s f = refl
+  all-free-same (suc n) s f =
+      let here : p s ≡ q s = f s (omega arith) in
+      let rest : allFree p (suc s) n ≡ allFree q (suc s) n = all-free-same n (suc s) (λ j b. f j (omega arith)) in
+      ap₂ (λ (b r : Bool). elim b [ true ↦ r | false ↦ false ]) here rest
+
+  lowest-same : (k j : ℕ) → ((i : ℕ) → i < j + k → p i ≡ q i) → lowest p j k ≡ lowest q j k
+  unfolding lowest
+  lowest-same zero j f = refl
+  lowest-same (suc k) j f =
+      let here : p j ≡ q j = f j (omega arith) in
+      let rest : lowest p (suc j) k ≡ lowest q (suc j) k = lowest-same k (suc j) (λ i b. f i (omega arith)) in
+      ap₂ (λ (b : Bool) (r : Search). elim b [ true ↦ search.At j | false ↦ r ]) here rest
+
+pub run-same : (p q : ℕ → Bool) (n : ℕ) → ((j : ℕ) → j < cellCount → p j ≡ q j) → lowestRun p n ≡ lowestRun q n
+unfolding lowestRun
+run-same p q n f =
+    lowest-same (λ s. allFree p s n) (λ s. allFree q s n) (suc cellCount - n) 0
+    (λ s b. all-free-same p q n s (λ j c. f j (low s j b c)))
+  where
+    low : (s j : ℕ) → s < 0 + (suc cellCount - n) → j < s + n → j < cellCount
+    low s j b c = omega arith
+
+-- the bound of what is found
+step-bound : (b : Bool) (j m : ℕ) (r : Search) → elim b [ true ↦ search.At j | false ↦ r ] ≡ search.At m
+    → (j ≡ m) ⊎ (r ≡ search.At m)
+step-bound true j m r e = inl (cc)
+step-bound false j m r e = inr e
+
+lowest-bound : (q : ℕ → Bool) (k j m : ℕ) → lowest q j k ≡ search.At m → m < j + k
+unfolding lowest
+lowest-bound q zero j m e = let z : _≡_ {A = ℕ} 0 1 = cc in absurd (omega arith)
+lowest-bound q (suc k) j m e =
+    ⊎-elim (λ s. here k j m s) (λ r. there k j m (lowest-bound q k (suc j) m r))
+    (step-bound (q j) j m (lowest q (suc j) k) e)
+  where
+    here : (k j m : ℕ) → j ≡ m → m < j + suc k
+    here k j m s = omega arith
+
+    there : (k j m : ℕ) → m < suc j + k → m < j + suc k
+    there k j m h = omega arith
+
+pub run-bound : (p : ℕ → Bool) (n first : ℕ) → lowestRun p n ≡ search.At first → first + n ≤ cellCount
+unfolding lowestRun
+run-bound p n first e = omega (arith, lowest-bound (λ s. allFree p s n) (suc cellCount - n) 0 first e)
+
+-- ---- the loop that looks for a run: of the places below i the last `run` pass, and no run of n starts before those
+pub record Scanned (p : ℕ → Bool) (n i run : ℕ) : Type 0 where
+  pub within : i ≤ cellCount
+  pub some : run ≤ i
+  pub short : run < n
+  pub passed : (j : ℕ) → i - run ≤ j → j < i → p j ≡ true
+  pub nowhere : (j : ℕ) → j < i - run → allFree p j n ≡ false
+
+module _ (p : ℕ → Bool) (n : ℕ) where
+  pub scan-start : 0 < n → Scanned p n 0 0
+  scan-start h = record {
+    within = omega arith;
+    some = omega arith;
+    short = h;
+    passed = λ j a b. absurd (no j b);
+    nowhere = λ j b. absurd (no′ j b);
+  }
+    where
+      no : (j : ℕ) → j < 0 → ⊥
+      no j b = omega arith
+
+      no′ : (j : ℕ) → j < 0 - 0 → ⊥
+      no′ j b = omega arith
+
+  module _ (i run : ℕ) (s : Scanned p n i run) (h : i < cellCount) where
+    pub scan-free : p i ≡ true → (run + 1 ≡ n → ⊥) → Scanned p n (i + 1) (run + 1)
+    scan-free t d = record {
+      within = omega arith;
+      some = omega (arith, s .some);
+      short = omega (arith, s .short, d);
+      passed = λ j a b. ⊎-elim (λ e. ap p e ∙ t) (λ l. s .passed j (start j a) l) (last-of j b);
+      nowhere = λ j b. s .nowhere j (before j b);
+    }
+      where
+        last-of : (j : ℕ) → j < i + 1 → (j ≡ i) ⊎ (j < i)
+        last-of j b = let k : j ≤ i = omega arith in eq-or-lt-of-le k
+
+        start : (j : ℕ) → i + 1 - (run + 1) ≤ j → i - run ≤ j
+        start j a = omega arith
+
+        before : (j : ℕ) → j < i + 1 - (run + 1) → j < i - run
+        before j b = omega arith
+
+    pub scan-held : p i ≡ false → Scanned p n (i + 1) 0
+    scan-held t = record {
+      within = omega arith;
+      some = omega arith;
+      short = omega (arith, s .short);
+      passed = λ j a b. absurd (empty j a b);
+      nowhere = λ j b. ⊎-elim (λ l. s .nowhere j l) (λ l. blocked p n j i (le j b) (reach j l) t)
+          (lt-or-le j (i - run));
+    }
+      where
+        empty : (j : ℕ) → i + 1 - 0 ≤ j → j < i + 1 → ⊥
+        empty j a b = omega arith
+
+        le : (j : ℕ) → j < i + 1 - 0 → j ≤ i
+        le j b = omega arith
+
+        reach : (j : ℕ) → i - run ≤ j → i < j + n
+        reach j l = omega (arith, s .short, s .some)
+
+    pub scan-found : p i ≡ true → run + 1 ≡ n → search.At (i + 1 - n) ≡ lowestRun p n
+    unfolding lowestRun
+    scan-found t e =
+        let m : i + 1 - n ≡ i - run = omega (arith, s .some) in
+        rw m (sym (lowest-at (λ (j : ℕ). allFree p j n) (suc cellCount - n) 0 (i - run) (λ j a b. s .nowhere j b)
+        (all-free p n (i - run) (λ j a b. full j a b)) (omega arith) (omega (arith, s .some))))
+      where
+        last-of : (j : ℕ) → i - run ≤ j → j < i - run + n → (j ≡ i) ⊎ (j < i)
+        last-of j a b = let k : j ≤ i = omega (arith, s .some) in eq-or-lt-of-le k
+
+        full : (j : ℕ) → i - run ≤ j → j < i - run + n → p j ≡ true
+        full j a b = ⊎-elim (λ q. ap p q ∙ t) (λ l. s .passed j a l) (last-of j a b)
+
+  pub scan-none : (run : ℕ) → Scanned p n cellCount run → search.Nothing ≡ lowestRun p n
+  unfolding lowestRun
+  scan-none run s =
+      sym (lowest-none (λ (j : ℕ). allFree p j n) (suc cellCount - n) 0 (λ j a b. s .nowhere j (under j b)))
+    where
+      under : (j : ℕ) → j < 0 + (suc cellCount - n) → j < cellCount - run
+      under j b = omega (arith, s .some, s .short)
