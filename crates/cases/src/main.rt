@@ -1,8 +1,8 @@
 // Cases of document 01 through the compiled leaves: what it prints is held to the file `stdout`.
+use memory::Making;
 use rules::Block;
 use rules::Number;
 use rules::Pointer;
-use memory::Making;
 
 fn print_integer(z: i64) {
     io::write_all(1, b" ");

@@ -19,7 +19,6 @@ use Rattle.rules.proofs.CheckLaws.{none-fails, each-passes, check-kept,
 use Rattle.rules.specs.declared.Search.{Search}
 use Rattle.rules.specs.declared.Search.the-variants as search
 use Rattle.rules.specs.declared.Checked.the-variants as checked
-
 -- the lowest that passes is found, and only it; the same of none
 pub use Rattle.rules.proofs.SearchLaws.{NonePass, Lowest}
 
@@ -86,7 +85,8 @@ accepted-says l t h =
       record-rules = k .passed .records;
       shape = k .passed .shape;
       scopes = k .scope-kept;
-      levels = last-holds l t (accepted-last l t h) }
+      levels = last-holds l t (accepted-last l t h);
+    }
 
 -- rules 3 to 6
 pub passed-of : (l : Language) (t : List ℕ) → Accepted l t → Passed l t
@@ -98,7 +98,8 @@ says-accepted l t a =
       length-kept = length-passes (length t) (a .whole) (a .not-empty);
       count-kept = le-ltb (recordLimit l) (recordCount t) (a .not-too-many);
       passed = passed-of l t a;
-      scope-kept = a .scopes })
+      scope-kept = a .scopes;
+    })
     ∙ holds-last l t (a .levels)
 
 pub accepted-exactly : (l : Language) (t : List ℕ) → (check l t ≡ checked.Accepted) ↔ Accepted l t

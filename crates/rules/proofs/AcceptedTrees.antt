@@ -41,7 +41,7 @@ module _ (l : Language) (t : List ℕ) (rules : (n : ℕ) → 1 ≤ n → n ≤ 
       let f = w .form in
       let v = fields-split f (recordAt t n) (w .fields) in
       let k = three-pass (childFits l t n (f .a) (childA t n)) (childFits l t n (f .b) (childB t n))
-        (childFits l t n (f .c) (childC t n)) (w .children) in
+      (childFits l t n (f .c) (childC t n)) (w .children) in
       let x = child-fits n q ih (f .a) (childA t n) (v .1) (k .0) in
       let y = child-fits n q ih (f .b) (childB t n) (v .2) (k .1) in
       let z = child-fits n q ih (f .c) (childC t n) (v .3) (k .2) in
@@ -72,7 +72,7 @@ unfolding shapeFault
 accepted-last l t a =
     let N = recordCount t in
     let h : not (eqb (sortOf l (kindOf t N)) (sortNumber statement)) ≡ false =
-      rw (eq-eqb N N refl, shapeFault) at (a .shape N (a .not-empty) (omega arith)) in
+    rw (eq-eqb N N refl, shapeFault) at (a .shape N (a .not-empty) (omega arith)) in
     accepted-sorted l t a N (a .not-empty) (omega arith) ∙ eqb-true _ _ (not-false _ h)
 
 -- each record stands, with some sort

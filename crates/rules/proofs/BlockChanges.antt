@@ -47,8 +47,10 @@ onward-store m i o v h y = record {
     names = y .names;
     size = length-set (m .cells) i (cell.Holds o v) ∙ y .size;
     within = y .within;
-    cover = λ j. go j (ℕ-discrete j i) };
-  becomes = λ k. becomes-itself (blockOf m k) }
+    cover = λ j. go j (ℕ-discrete j i);
+  };
+  becomes = λ k. becomes-itself (blockOf m k);
+}
   where
     full : (i < length (m .cells)) × (occupied (cellOf m i) ≡ 1)
     full = occupied-in (m .cells) i (omega (arith, y .cover i))
@@ -61,7 +63,7 @@ onward-store m i o v h y = record {
 -- the number of blocks that cover a cell, after the block of one name was set
 coverage-block : (l : List Block) (k : ℕ) (x : Block) (i : ℕ) → 1 ≤ k → k ≤ length l
     → coverage (map recordedOf (rename l k x)) i + one (covers (recordedOf (named l k block.Dead)) i)
-      ≡ coverage (map recordedOf l) i + one (covers (recordedOf x) i)
+    ≡ coverage (map recordedOf l) i + one (covers (recordedOf x) i)
 coverage-block l k x i h le =
     let r = coverage-rename (map recordedOf l) k (recordedOf x) i h (omega (arith, length-map l recordedOf)) in
     rw (map-rename recordedOf l k x, ← (named-map recordedOf l k block.Dead)) r
@@ -98,7 +100,8 @@ room m n = go (nextName m) (freeRun m n) (lowest-outcome _ _ _) (lowest-outcome 
       from = p .0;
       to = omega arith;
       fits = omega arith;
-      clear = λ i a b. allFree-at _ first n i (q .2) a b }
+      clear = λ i a b. allFree-at _ first n i (q .2) a b;
+    }
 
 pub recorded-for : (u : Use) (first n : ℕ) → recordedOf (blockFor u first n) ≡ recorded.Live first n
 recorded-for fixed first n = refl
@@ -119,12 +122,14 @@ onward-make m u n k first r y = record {
     names = length-rename (m .blocks) k (blockFor u first n) ∙ y .names;
     size = length-fill (m .cells) first n (cell.Holds k value.Undefined) ∙ y .size;
     within = λ j a l e. inside-cells j a l (named-rename (m .blocks) k j (blockFor u first n) block.Dead) e;
-    cover = λ i. go i (covers (recorded.Live first n) i) refl (covering first n i) };
-  becomes = λ j. later j (ℕ-discrete j k) }
+    cover = λ i. go i (covers (recorded.Live first n) i) refl (covering first n i);
+  };
+  becomes = λ j. later j (ℕ-discrete j k);
+}
   where
     inside-cells : (j a l : ℕ)
         → (blockOf (withBlock m u k first n) j ≡ blockFor u first n)
-          ⊎ (blockOf (withBlock m u k first n) j ≡ blockOf m j)
+        ⊎ (blockOf (withBlock m u k first n) j ≡ blockOf m j)
         → recordedOf (blockOf (withBlock m u k first n) j) ≡ recorded.Live a l → a + l ≤ cellCount
     inside-cells j a l (inl e) h =
         omega (arith, r .fits, live-parts first n a l (sym (ap recordedOf e ∙ recorded-for u first n) ∙ h))
@@ -140,14 +145,14 @@ onward-make m u n k first r y = record {
         → coverage (recordsOf (withBlock m u k first n)) i ≡ occupied (cellOf (withBlock m u k first n) i)
     go i true e (inside p q) =
         rw (fill-inside (m .cells) first n (cell.Holds k value.Undefined) i cell.Free
-          (omega (arith, y .size, r .fits)) p q)
-          (omega (arith, sum i, ap one e, y .cover i, free-is (cellOf m i) (r .clear i p q)))
+        (omega (arith, y .size, r .fits)) p q)
+        (omega (arith, sum i, ap one e, y .cover i, free-is (cellOf m i) (r .clear i p q)))
     go i false e (below p) =
         rw (fill-below (m .cells) first n (cell.Holds k value.Undefined) i cell.Free p)
-          (omega (arith, sum i, ap one e, y .cover i))
+        (omega (arith, sum i, ap one e, y .cover i))
     go i false e (above p) =
         rw (fill-above (m .cells) first n (cell.Holds k value.Undefined) i cell.Free p)
-          (omega (arith, sum i, ap one e, y .cover i))
+        (omega (arith, sum i, ap one e, y .cover i))
 
     later : (j : ℕ) → Dec (j ≡ k) → Becomes (blockOf m j) (blockOf (withBlock m u k first n) j)
     later j (yes e) = rw (e, r .unused) tt
@@ -158,7 +163,7 @@ pub make-given : (m : Memory) (u : Use) (n k first : ℕ) → Room m n k first �
     → isUnused (blockOf (withBlock m u k first n) k) ≡ false
 make-given m u n k first r y =
     ap isUnused (named-rename-same (m .blocks) k (blockFor u first n) block.Dead (r .from)
-      (omega (arith, r .to, y .names)))
+    (omega (arith, r .to, y .names)))
     ∙ go u
   where
     go : (u : Use) → isUnused (blockFor u first n) ≡ false
@@ -182,18 +187,19 @@ without-invariant m k first n e y = record {
   names = length-rename (m .blocks) k block.Dead ∙ y .names;
   size = length-fill (m .cells) first n cell.Free ∙ y .size;
   within = λ j a l h. inside-cells j a l (named-rename (m .blocks) k j block.Dead block.Dead) h;
-  cover = λ i. go i (covers (recorded.Live first n) i) refl (covering first n i) }
+  cover = λ i. go i (covers (recorded.Live first n) i) refl (covering first n i);
+}
   where
     inside-cells : (j a l : ℕ)
         → (blockOf (withoutCells m k (recorded.Live first n)) j ≡ block.Dead)
-          ⊎ (blockOf (withoutCells m k (recorded.Live first n)) j ≡ blockOf m j)
+        ⊎ (blockOf (withoutCells m k (recorded.Live first n)) j ≡ blockOf m j)
         → recordedOf (blockOf (withoutCells m k (recorded.Live first n)) j) ≡ recorded.Live a l → a + l ≤ cellCount
     inside-cells j a l (inl d) h = absurd (dead-is-not-live a l (sym (ap recordedOf d) ∙ h))
     inside-cells j a l (inr d) h = y .within j a l (sym (ap recordedOf d) ∙ h)
 
     sum : (i : ℕ)
         → coverage (recordsOf (withoutCells m k (recorded.Live first n))) i + one (covers (recorded.Live first n) i)
-          ≡ coverage (recordsOf m) i
+        ≡ coverage (recordsOf m) i
     sum i =
         let r = live-named (m .blocks) k first n e in
         let z = coverage-block (m .blocks) k block.Dead i (r .0) (r .1) in
@@ -201,10 +207,10 @@ without-invariant m k first n e y = record {
 
     go : (i : ℕ) (b : Bool) → covers (recorded.Live first n) i ≡ b → Covering first n i b
         → coverage (recordsOf (withoutCells m k (recorded.Live first n))) i
-          ≡ occupied (cellOf (withoutCells m k (recorded.Live first n)) i)
+        ≡ occupied (cellOf (withoutCells m k (recorded.Live first n)) i)
     go i true g (inside p q) =
         rw (fill-inside (m .cells) first n cell.Free i cell.Free (omega (arith, y .size, y .within k first n e)) p q)
-          (omega (arith, sum i, ap one g, y .cover i, at-most-one (cellOf m i)))
+        (omega (arith, sum i, ap one g, y .cover i, at-most-one (cellOf m i)))
     go i false g (below p) =
         rw (fill-below (m .cells) first n cell.Free i cell.Free p) (omega (arith, sum i, ap one g, y .cover i))
     go i false g (above p) =
@@ -232,7 +238,7 @@ end-given m k j h = go (recordedOf (blockOf m k)) (named-rename (m .blocks) k j 
   where
     go : (x : Recorded)
         → (named (rename (m .blocks) k block.Dead) j block.Dead ≡ block.Dead)
-          ⊎ (named (rename (m .blocks) k block.Dead) j block.Dead ≡ blockOf m j)
+        ⊎ (named (rename (m .blocks) k block.Dead) j block.Dead ≡ blockOf m j)
         → isUnused (blockOf (withoutCells m k x) j) ≡ false
     go recorded.Unused e = h
     go (recorded.Live first n) (inl e) = ap isUnused e

@@ -37,8 +37,8 @@ use Rattle.rules.specs.declared.Temporary.the-variants as temporary
 abbrev recordAfter : ℕ → Watching
 recordAfter s m o τ f =
     next (taken s 1 (onPlace (pointedBy (heldIn τ 0)) evaluated.Stopped (readCell m)) m o τ f) (λ m₁ o₁ τ₁ f₁.
-      next (observed s (calledOnTwo (heldIn τ₁ 1) (heldIn τ₁ 2) (storeBlock o₁)) m₁ o₁ τ₁ f₁) (λ m₂ o₂ τ₂ f₂.
-        observed s (calledOn (heldIn τ₂ 0) (initialise o₂)) m₂ o₂ τ₂ f₂))
+    next (observed s (calledOnTwo (heldIn τ₁ 1) (heldIn τ₁ 2) (storeBlock o₁)) m₁ o₁ τ₁ f₁) (λ m₂ o₂ τ₂ f₂.
+    observed s (calledOn (heldIn τ₂ 0) (initialise o₂)) m₂ o₂ τ₂ f₂))
 
 recordAfter-is : (s : ℕ) (m : Memory) (o o₁ o₂ : Observation) (τ : Temporaries) (f : ℕ) (v : Value)
     → onPlace (pointedBy (heldIn τ 0)) evaluated.Stopped (readCell m) ≡ evaluated.Value v
@@ -66,14 +66,14 @@ agree-stored : (s : ℕ) (m : Memory) (τ : Temporaries) (f : ℕ) (p : Pointer)
     → temporaryOf τ 2 ≡ temporary.Holds (value.Integer (pos (suc n)))
     → Full τ
     → let c = stored (withBlock m freeable k first (suc n)) p (pointerTo k 0) r in
-      Agree (plain.after s f c) (next (after s (mirror m) τ f c) (recordAfter s))
+    Agree (plain.after s f c) (next (after s (mirror m) τ f c) (recordAfter s))
 agree-stored s m τ f p n k first located.Dead h g y e t₀ t₂ l =
     both-end (λ (z : _≡_ {A = ℕ} 42 33). absurd (omega arith))
 agree-stored s m τ f p n k first located.Outside h g y e t₀ t₂ l =
     both-end (λ (z : _≡_ {A = ℕ} 42 33). absurd (omega arith))
 agree-stored s m τ f p n k first (located.At i) h g y e t₀ t₂ l =
     rw (recordAfter-is s (setCell m₁ i (cell.Holds (p .name) (pointerTo k 0))) (mirror m) (mirror m₁) o₂ τ f
-        (pointerTo k 0) back record-block mark) (both-finish refl (full-put τ 1 (pointerTo k 0) l))
+    (pointerTo k 0) back record-block mark) (both-finish refl (full-put τ 1 (pointerTo k 0) l))
   where
     m₁ : Memory
     m₁ = withBlock m freeable k first (suc n)
@@ -86,14 +86,14 @@ agree-stored s m τ f p n k first (located.At i) h g y e t₀ t₂ l =
         ≡ evaluated.Value (pointerTo k 0)
     back =
         rw t₀ (read-back m₁ p (record { name = k; offset = pos 0 }) i e
-          (onward-make m freeable (suc n) k first h y .invariant))
+        (onward-make m freeable (suc n) k first h y .invariant))
 
     record-block : calledOnTwo (heldIn (put τ 1 (pointerTo k 0)) 1) (heldIn (put τ 1 (pointerTo k 0)) 2)
         (storeBlock (mirror m))
         ≡ noted (mirror m₁)
     record-block =
         rw (put-same τ 1 (pointerTo k 0) l (omega arith), put-other τ 1 2 (pointerTo k 0) (omega arith) ∙ t₂)
-          (mirror-store m freeable n k first y (h .unused) g)
+        (mirror-store m freeable n k first y (h .unused) g)
 
     mark : calledOn (heldIn (put τ 1 (pointerTo k 0)) 0) (initialise (mirror m₁)) ≡ noted o₂
     mark =
@@ -106,7 +106,7 @@ agree-new : (s : ℕ) (m : Memory) (τ : Temporaries) (f : ℕ) (p : Pointer) (n
     → temporaryOf τ 2 ≡ temporary.Holds (value.Integer (pos (suc n)))
     → Full τ
     → let c = storeNew m p (makeAt m freeable (suc n) r₁ r₂) in
-      Agree (plain.after s f c) (next (after s (mirror m) τ f c) (recordAfter s))
+    Agree (plain.after s f c) (next (after s (mirror m) τ f c) (recordAfter s))
 agree-new s m τ f p n search.Nothing r₂ h g y t₀ t₂ l = both-end (λ z. refl)
 agree-new s m τ f p n (search.At k) search.Nothing h g y t₀ t₂ l = both-end (λ z. refl)
 agree-new s m τ f p n (search.At k) (search.At first) h g y t₀ t₂ l =
@@ -116,30 +116,34 @@ pub agree-allocated : (s : ℕ) (m : Memory) (τ : Temporaries) (f : ℕ) (x : F
     (x₁ : Temporaries → Memory → Found) (r₁ : Temporaries → Memory → Evaluated) → Invariant m → Full τ
     → ((t : Temporaries) → x₁ t m ≡ x) → ((t : Temporaries) → r₁ t m ≡ r)
     → Agree (plain.after s f (allocated m x r))
-        (next (taken s 0 (addressOf (x₁ τ m)) m (mirror m) τ f) (λ m₁ o₁ τ₁ f₁.
-          next (taken s 2 (r₁ τ₁ m₁) m₁ o₁ τ₁ f₁) (λ m₂ o₂ τ₂ f₂.
-            next (after s o₂ τ₂ f₂ (allocated m₂ (x₁ τ₂ m₂) (r₁ τ₂ m₂))) (recordAfter s))))
+    (next (taken s 0 (addressOf (x₁ τ m)) m (mirror m) τ f) (λ m₁ o₁ τ₁ f₁.
+    next (taken s 2 (r₁ τ₁ m₁) m₁ o₁ τ₁ f₁) (λ m₂ o₂ τ₂ f₂.
+    next (after s o₂ τ₂ f₂ (allocated m₂ (x₁ τ₂ m₂) (r₁ τ₂ m₂))) (recordAfter s))))
 agree-allocated s m τ f (found.Stopped c) r x₁ r₁ y l h g = rw (h τ) (both-end (λ z. refl))
 agree-allocated s m τ f (found.Place p) (evaluated.Stopped c) x₁ r₁ y l h g =
     rw (h τ, g (put τ 0 (value.Pointer p))) (both-end (λ z. refl))
 agree-allocated s m τ f (found.Place p) (evaluated.Value v) x₁ r₁ y l h g =
-    rw (h τ, g (put τ 0 (value.Pointer p)), h (put (put τ 0 (value.Pointer p)) 2 v),
-        g (put (put τ 0 (value.Pointer p)) 2 v)) (go v)
+    rw (
+      h τ,
+      g (put τ 0 (value.Pointer p)),
+      h (put (put τ 0 (value.Pointer p)) 2 v),
+      g (put (put τ 0 (value.Pointer p)) 2 v),
+    ) (go v)
   where
     go : (v : Value)
         → let c = allocated m (found.Place p) (evaluated.Value v) in
-          Agree (plain.after s f c)
-            (next (after s (mirror m) (put (put τ 0 (value.Pointer p)) 2 v) f c) (recordAfter s))
+        Agree (plain.after s f c)
+        (next (after s (mirror m) (put (put τ 0 (value.Pointer p)) 2 v) f c) (recordAfter s))
     go value.Undefined = both-end (λ z. refl)
     go (value.Integer (pos zero)) = both-end (λ z. refl)
     go (value.Integer (pos (suc n))) =
         agree-new s m (put (put τ 0 (value.Pointer p)) 2 (value.Integer (pos (suc n)))) f p n (nextName m)
-          (freeRun m (suc n)) (room m (suc n)) refl y
-          (put-other (put τ 0 (value.Pointer p)) 2 0 (value.Integer (pos (suc n))) (omega arith)
-            ∙ put-same τ 0 (value.Pointer p) l (omega arith))
-          (put-same (put τ 0 (value.Pointer p)) 2 (value.Integer (pos (suc n))) (full-put τ 0 (value.Pointer p) l)
-            (omega arith))
-          (full-put (put τ 0 (value.Pointer p)) 2 (value.Integer (pos (suc n))) (full-put τ 0 (value.Pointer p) l))
+        (freeRun m (suc n)) (room m (suc n)) refl y
+        (put-other (put τ 0 (value.Pointer p)) 2 0 (value.Integer (pos (suc n))) (omega arith)
+        ∙ put-same τ 0 (value.Pointer p) l (omega arith))
+        (put-same (put τ 0 (value.Pointer p)) 2 (value.Integer (pos (suc n))) (full-put τ 0 (value.Pointer p) l)
+        (omega arith))
+        (full-put (put τ 0 (value.Pointer p)) 2 (value.Integer (pos (suc n))) (full-put τ 0 (value.Pointer p) l))
     go (value.Integer (negsuc n)) = both-end (λ z. refl)
     go (value.Pointer q) = both-end (λ z. refl)
 
@@ -147,7 +151,7 @@ agree-allocated s m τ f (found.Place p) (evaluated.Value v) x₁ r₁ y l h g =
 abbrev removeAfter : ℕ → ℕ → Watching
 removeAfter s j m o τ f =
     next (taken s 0 (evaluated.Value (pointerTo j 0)) m o τ f) (λ m₁ o₁ τ₁ f₁.
-      observed s (calledOn (heldIn τ₁ 0) (deleteBlock o₁)) m₁ o₁ τ₁ f₁)
+    observed s (calledOn (heldIn τ₁ 0) (deleteBlock o₁)) m₁ o₁ τ₁ f₁)
 
 removeAfter-is : (s k first n : ℕ) (m : Memory) (τ : Temporaries) (f : ℕ) → blockOf m k ≡ block.Fixed first n → Full τ
     → removeAfter s k m (mirror m) τ f ≡ finished m (mirror (endBlock m k)) (put τ 0 (pointerTo k 0)) f
@@ -157,7 +161,7 @@ removeAfter-is s k first n m τ f e l =
 let-end : (s : ℕ) (m : Memory) (k first : ℕ) {p : Outcome} {w : WatchedOutcome} → Agree p w → Onward m (memoryAfter p)
     → blockOf m k ≡ block.Fixed first 1
     → Agree (plain.next p (λ m₂ f₂. plain.finished (endBlock m₂ k) f₂))
-        (next (next w (removeAfter s k)) (λ m₂ o₂ τ₂ f₂. finished (endBlock m₂ k) o₂ τ₂ f₂))
+    (next (next w (removeAfter s k)) (λ m₂ o₂ τ₂ f₂. finished (endBlock m₂ k) o₂ τ₂ f₂))
 let-end s m k first (both-finish {m = m₂} {o} {τ} {f} e l) h g =
     let there : blockOf m₂ k ≡ block.Fixed first 1 = rw g at (h .becomes k) in
     rw (e, removeAfter-is s k first 1 m₂ τ f there l) (both-finish refl (full-put τ 0 (pointerTo k 0) l))
@@ -169,25 +173,27 @@ pub agree-let : (s : ℕ) (m : Memory) (τ : Temporaries) (f : ℕ) (at : ℕ �
     → ((k : ℕ) → Agreeing (b k) (bw k))
     → ((k : ℕ) (m₁ : Memory) (f₁ : ℕ) → Invariant m₁ → Onward m₁ (memoryAfter (b k m₁ f₁)))
     → Agree (plain.inLet s m f (makeAt m fixed 1 r₁ r₂) b)
-        (inLet s (makeAt m fixed 1 r₁ r₂) (λ k m₁ o₁ τ₁ f₁.
-          next (taken s 0 (evaluated.Value (pointerTo (at k) 0)) m₁ o₁ τ₁ f₁) (λ m₂ o₂ τ₂ f₂.
-            next (taken s 1 (evaluated.Value (value.Integer (pos 1))) m₂ o₂ τ₂ f₂) (λ m₃ o₃ τ₃ f₃.
-              next (observed s (calledOnTwo (heldIn τ₃ 0) (heldIn τ₃ 1) (storeBlock o₃)) m₃ o₃ τ₃ f₃) (λ m₄ o₄ τ₄ f₄.
-                next (bw k m₄ o₄ τ₄ f₄) (removeAfter s (at k)))))) m (mirror m) τ f)
+    (inLet s (makeAt m fixed 1 r₁ r₂) (λ k m₁ o₁ τ₁ f₁.
+    next (taken s 0 (evaluated.Value (pointerTo (at k) 0)) m₁ o₁ τ₁ f₁) (λ m₂ o₂ τ₂ f₂.
+    next (taken s 1 (evaluated.Value (value.Integer (pos 1))) m₂ o₂ τ₂ f₂) (λ m₃ o₃ τ₃ f₃.
+    next (observed s (calledOnTwo (heldIn τ₃ 0) (heldIn τ₃ 1) (storeBlock o₃)) m₃ o₃ τ₃ f₃) (λ m₄ o₄ τ₄ f₄.
+    next (bw k m₄ o₄ τ₄ f₄) (removeAfter s (at k)))))) m (mirror m) τ f)
 agree-let s m τ f at b bw search.Nothing r₂ h g y l e i v = both-end (λ z. refl)
 agree-let s m τ f at b bw (search.At k) search.Nothing h g y l e i v = both-end (λ z. refl)
 agree-let s m τ f at b bw (search.At k) (search.At first) h g y l e i v =
-    rw (e k,
-        put-other (put τ 0 (pointerTo k 0)) 1 0 (value.Integer (pos 1)) (omega arith)
+    rw (
+      e k,
+      put-other (put τ 0 (pointerTo k 0)) 1 0 (value.Integer (pos 1)) (omega arith)
           ∙ put-same τ 0 (pointerTo k 0) l (omega arith),
-        put-same (put τ 0 (pointerTo k 0)) 1 (value.Integer (pos 1)) (full-put τ 0 (pointerTo k 0) l) (omega arith),
-        mirror-store m fixed 0 k first y (h .unused) g)
-      (let-end s m₁ k first
-        (i k m₁ (put (put τ 0 (pointerTo k 0)) 1 (value.Integer (pos 1))) f
-          (onward-make m fixed 1 k first h y .invariant)
-          (full-put (put τ 0 (pointerTo k 0)) 1 (value.Integer (pos 1)) (full-put τ 0 (pointerTo k 0) l)))
-        (v k m₁ f (onward-make m fixed 1 k first h y .invariant))
-        (named-rename-same (m .blocks) k (block.Fixed first 1) block.Dead (h .from) (omega (arith, h .to, y .names))))
+      put-same (put τ 0 (pointerTo k 0)) 1 (value.Integer (pos 1)) (full-put τ 0 (pointerTo k 0) l) (omega arith),
+      mirror-store m fixed 0 k first y (h .unused) g,
+    )
+    (let-end s m₁ k first
+    (i k m₁ (put (put τ 0 (pointerTo k 0)) 1 (value.Integer (pos 1))) f
+    (onward-make m fixed 1 k first h y .invariant)
+    (full-put (put τ 0 (pointerTo k 0)) 1 (value.Integer (pos 1)) (full-put τ 0 (pointerTo k 0) l)))
+    (v k m₁ f (onward-make m fixed 1 k first h y .invariant))
+    (named-rename-same (m .blocks) k (block.Fixed first 1) block.Dead (h .from) (omega (arith, h .to, y .names))))
   where
     m₁ : Memory
     m₁ = withBlock m fixed k first 1

@@ -25,12 +25,12 @@ unfolding nodeAt makeNode
 own-node l t n p q z a b c (ea, eb, ec, f) =
     (λ i. nodeFrom l t n (ea i) (eb i) (ec i))
     ∙ guard-passed l _ (buildNode l n (recordAt t n) a b c)
-        (both-true _ _ (both-true _ _ (both-true _ _ (lt-ltb 0 n p) (le-leb n (recordCount t) q))
-          (eq-eqb (recordFault l t n) 0 z)) f)
+    (both-true _ _ (both-true _ _ (both-true _ _ (lt-ltb 0 n p) (le-leb n (recordCount t) q))
+    (eq-eqb (recordFault l t n) 0 z)) f)
 
 -- the node of a record without fault, of its children's nodes
 pub built : (l : Language) (t : List ℕ) (n : ℕ) (r : Record) → recordAt t n ≡ r → 0 < n → n ≤ recordCount t
     → recordFault l t n ≡ 0 → (a b c : NodeOf l) → ChildNodes l t n r a b c → nodeAt l t n ≡ buildNode l n r a b c
 built l t n r e p q z a b c =
     subst (λ (r : Record). ChildNodes l t n r a b c → nodeAt l t n ≡ buildNode l n r a b c) e
-      (own-node l t n p q z a b c)
+    (own-node l t n p q z a b c)

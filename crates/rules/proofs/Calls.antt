@@ -22,7 +22,7 @@ use Rattle.rules.specs.declared.Recorded.the-variants as recorded
 module _ (O : Observation → Type 0) (E : ℕ → Type 0) (wrong : E 40) (misused : E 48) where
   pub storeBlock-keeps : (o : Observation) (v w : Value)
       → ((k n first : ℕ) → markRun o (suc n) ≡ search.At first
-        → O (withMarks o k (recorded.Live first (suc n)) first (suc n)))
+      → O (withMarks o k (recorded.Live first (suc n)) first (suc n)))
       → NotedKeeps O E (storeBlock o v w)
   storeBlock-keeps o v w g =
       on-pointer (NotedKeeps O E) E refused (λ c x. x) AnyValue v _ wrong tt (λ p u.
@@ -73,7 +73,7 @@ module _ (O : Observation → Type 0) (E : ℕ → Type 0) (wrong : E 40) (misus
   -- with what temporaries hold
   pub store-called : (o : Observation) (a b : Evaluated) → Gives AnyValue E a → Gives AnyValue E b
       → ((k n first : ℕ) → markRun o (suc n) ≡ search.At first
-        → O (withMarks o k (recorded.Live first (suc n)) first (suc n)))
+      → O (withMarks o k (recorded.Live first (suc n)) first (suc n)))
       → NotedKeeps O E (calledOnTwo a b (storeBlock o))
   store-called o a b h k g =
       called a (λ v. onValue b refused (λ w. storeBlock o v w)) h (λ v.

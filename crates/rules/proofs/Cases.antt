@@ -60,7 +60,7 @@ plain-is : (rs : List Record) → check source (tableBytes rs) ≡ checked.Accep
 unfolding plain digits
 plain-is rs c =
     plain-runs (tableBytes rs) inputs 0 (replicate memoryLength 0) c refl
-      (length-replicate {A = ℕ} memoryLength 0)
+    (length-replicate {A = ℕ} memoryLength 0)
 
 ending-is : (rs : List Record) (k : ℕ) → plainly (tableBytes rs) ≡ (checked.Accepted, k) → ending rs ≡ k
 unfolding plainly ending
@@ -80,9 +80,9 @@ watched-is rs k c e =
     let sound : SoundStatement (sourceProgram t) startScope = sound-source t c in
     let small : translatedSize t ≤ 4096 = omega (arith, size-bound t c, accepted-says source t c .not-too-many) in
     ap (λ (r : WatchedRun). r .answer .number)
-      (watched-runs (translation t) inputs 0 (replicate memoryLength 0) (replicate observationLength 0)
-        (translation-accepted t sound small) refl (length-replicate {A = ℕ} memoryLength 0)
-        (length-replicate {A = ℕ} observationLength 0))
+    (watched-runs (translation t) inputs 0 (replicate memoryLength 0) (replicate observationLength 0)
+    (translation-accepted t sound small) refl (length-replicate {A = ℕ} memoryLength 0)
+    (length-replicate {A = ℕ} observationLength 0))
     ∙ ap (λ (a : TargetStatement). watchedEndingOf (watchedFrom a) .number) (translation-program t sound small)
     ∙ e
 
@@ -109,7 +109,7 @@ free-from-four : (i : ℕ) → 4 ≤ i → i < 1024 → isFree (cellOf inLetFive
 unfolding inLetFive
 free-from-four i h b =
     ap isFree (fill-above (start .cells) 3 1 (cell.Holds 3 value.Undefined) i cell.Free h
-      ∙ free-at-start i (omega arith) b)
+    ∙ free-at-start i (omega arith) b)
 
 first-room : freeRun start 1 ≡ search.At 3
 unfolding start startMemory lowestRun allFree lowest
@@ -136,21 +136,27 @@ unfolding little digits wordAt flat lookUp formOf lowest recordFault timesChildO
     inScope scopeFault levelOf levelFault check makeNode nodes nodeAt locate startMemory evaluate run plainly start
     inLetFive
 last-fits =
-    (λ i. (checked.Accepted, endingOf (inLet 4 start 0 (makeAt start fixed 1 (search.At 3) (first-room i))
-      (λ k m f. run (new 3 (variable 5) (literal (pos 1020))) (extend startVariables 5 k) m f)) .number))
-    ∙ (λ i. (checked.Accepted, endingOf (next (after 3 0
-      (storeNew inLetFive (record { name = 3; offset = pos 0 })
-        (makeAt inLetFive freeable 1020 (search.At 4) (last-room i))))
-      (λ m f. finished (endBlock m 3) f)) .number))
+    (λ i. (
+      checked.Accepted,
+      endingOf (inLet 4 start 0 (makeAt start fixed 1 (search.At 3) (first-room i))
+          (λ k m f. run (new 3 (variable 5) (literal (pos 1020))) (extend startVariables 5 k) m f)) .number,
+    ))
+    ∙ (λ i. (
+      checked.Accepted,
+      endingOf (next (after 3 0
+          (storeNew inLetFive (record { name = 3; offset = pos 0 })
+          (makeAt inLetFive freeable 1020 (search.At 4) (last-room i))))
+          (λ m f. finished (endBlock m 3) f)) .number,
+    ))
 
 -- P1 to P4
 numbers :
     (listing (tableBytes p1) ≡ listingOnPaper)
     × ((by nearest (pos 7) (pos 2) ∷ by nearest (negsuc 6) (pos 2) ∷ by nearest (pos 5) (pos 2)
-      ∷ by nearest (pos 1) (pos 3) ∷ []) ≡ (pos 4 ∷ negsuc 3 ∷ pos 3 ∷ pos 0 ∷ []))
+    ∷ by nearest (pos 1) (pos 3) ∷ []) ≡ (pos 4 ∷ negsuc 3 ∷ pos 3 ∷ pos 0 ∷ []))
     × (by divide (negsuc 6) (pos 2) ≡ negsuc 2)
     × ((by divide (negsuc (2 ^ 63 - 1)) (negsuc 0) ∷ by divide (negsuc (2 ^ 63 - 1)) (pos 0) ∷ [])
-      ≡ (pos 43 ∷ pos 44 ∷ []))
+    ≡ (pos 43 ∷ pos 44 ∷ []))
 unfolding little digits wordAt flat lookUp formOf lowest recordFault timesChildOf timesChild shapeFault parentOf
     inScope scopeFault levelOf levelFault check makeNode nodes nodeAt onIntegers onPointerAndInteger onPointers
     operate evaluate queried evaluateTerm evaluatePredicate embed translateTerm translatePredicate translate
@@ -175,11 +181,18 @@ unfolding little digits wordAt flat lookUp formOf lowest recordFault timesChildO
     operate locate allFree lowestRun startMemory evaluate queried evaluateTerm evaluatePredicate turns run covered
     markAll watch embed translateTerm translatePredicate translate plainly watchedly watchedFrom
 runs = (
-    endings-are (p5 (pos 0)) 0 refl refl, endings-are (p5 (pos 1)) 0 refl refl,
-    endings-are (p5 (negsuc 0)) 33 refl refl, endings-are (p5 (pos 2)) 33 refl refl,
-    endings-are p6 0 refl refl, endings-are p7 0 refl refl,
-    ending-is (p8 1020) 0 last-fits, ending-is (p8 1021) 30 refl, ending-is (p8 0) 45 refl,
-    endings-are p9 0 refl refl, endings-are p10 33 refl refl)
+  endings-are (p5 (pos 0)) 0 refl refl,
+  endings-are (p5 (pos 1)) 0 refl refl,
+  endings-are (p5 (negsuc 0)) 33 refl refl,
+  endings-are (p5 (pos 2)) 33 refl refl,
+  endings-are p6 0 refl refl,
+  endings-are p7 0 refl refl,
+  ending-is (p8 1020) 0 last-fits,
+  ending-is (p8 1021) 30 refl,
+  ending-is (p8 0) 45 refl,
+  endings-are p9 0 refl refl,
+  endings-are p10 33 refl refl,
+)
 
 -- the blocks of P9: no bytes of a cell are worked out for them
 blocks :

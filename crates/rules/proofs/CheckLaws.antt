@@ -36,31 +36,43 @@ pub record Keeps (l : Language) (t : List ℕ) : Type 0 where
 -- the rules in their order
 abbrev inOrder : Bool → Bool → Search → (ℕ → ℕ) → Search → Search → Checked → Checked
 inOrder p q s f u v r =
-    elim p [ true ↦ checked.Refused 1 0 | false ↦
-    elim q [ true ↦ checked.Refused 2 0 | false ↦
-    elim s [ search.At n ↦ checked.Refused (f n) n | search.Nothing ↦
-    elim u [ search.At n ↦ checked.Refused 6 n | search.Nothing ↦
-    elim v [ search.At n ↦ checked.Refused 7 n | search.Nothing ↦ r ] ] ] ] ]
+    elim p [
+      | true ↦ checked.Refused 1 0
+      | false ↦
+          elim q [
+            | true ↦ checked.Refused 2 0
+            | false ↦
+                elim s [
+                  | search.At n ↦ checked.Refused (f n) n
+                  | search.Nothing ↦
+                      elim u [
+                        | search.At n ↦ checked.Refused 6 n
+                        | search.Nothing ↦
+                            elim v [ search.At n ↦ checked.Refused 7 n | search.Nothing ↦ r ]
+                      ]
+                ]
+          ]
+    ]
 
 abbrev recordSearch : Language → List ℕ → Search
 recordSearch l t = lowestRecord t (λ n. ltb 0 (recordFault l t n))
 
 check-in-order : (l : Language) (t : List ℕ)
     → check l t ≡ inOrder (lengthFault t) (countFault l t) (recordSearch l t) (recordFault l t)
-      (lowestRecord t (shapeFault l t)) (lowestRecord t (scopeFault l t)) (lastRule l t)
+    (lowestRecord t (shapeFault l t)) (lowestRecord t (scopeFault l t)) (lastRule l t)
 unfolding check
 check-in-order l t = refl
 
 pub check-kept : (l : Language) (t : List ℕ) → Keeps l t → check l t ≡ lastRule l t
 check-kept l t h =
     let records : recordSearch l t ≡ search.Nothing =
-        none-fails t (λ n. ltb 0 (recordFault l t n))
-          (λ n a b. le-ltb 0 (recordFault l t n) (omega (arith, h .passed .records n a b))) in
+    none-fails t (λ n. ltb 0 (recordFault l t n))
+    (λ n a b. le-ltb 0 (recordFault l t n) (omega (arith, h .passed .records n a b))) in
     let shapes : lowestRecord t (shapeFault l t) ≡ search.Nothing = none-fails t (shapeFault l t) (h .passed .shape) in
     let scopes : lowestRecord t (scopeFault l t) ≡ search.Nothing = none-fails t (scopeFault l t) (h .scope-kept) in
     check-in-order l t
     ∙ (λ i. inOrder (h .length-kept i) (h .count-kept i) (records i) (recordFault l t) (shapes i) (scopes i)
-      (lastRule l t))
+    (lastRule l t))
 
 -- and back
 record Found (p q : Bool) (s u v : Search) (r : Checked) : Type 0 where
@@ -87,11 +99,12 @@ found false false search.Nothing f search.Nothing search.Nothing r e = record {
   records-are = refl;
   shapes-are = refl;
   scopes-are = refl;
-  last-is = e }
+  last-is = e;
+}
 
 accepted-found : (l : Language) (t : List ℕ) → check l t ≡ checked.Accepted
     → Found (lengthFault t) (countFault l t) (recordSearch l t) (lowestRecord t (shapeFault l t))
-      (lowestRecord t (scopeFault l t)) (lastRule l t)
+    (lowestRecord t (scopeFault l t)) (lastRule l t)
 accepted-found l t e = found _ _ _ (recordFault l t) _ _ _ (sym (check-in-order l t) ∙ e)
 
 pub accepted-keeps : (l : Language) (t : List ℕ) → check l t ≡ checked.Accepted → Keeps l t
@@ -101,10 +114,15 @@ accepted-keeps l t e =
       length-kept = h .length-is;
       count-kept = h .count-is;
       passed = record {
-        records = λ n a b. omega (arith, ltb-false 0 (recordFault l t n)
-          (each-passes t (λ n. ltb 0 (recordFault l t n)) (h .records-are) n a b));
-        shape = each-passes t (shapeFault l t) (h .shapes-are) };
-      scope-kept = each-passes t (scopeFault l t) (h .scopes-are) }
+        records = λ n a b. omega (
+          arith,
+          ltb-false 0 (recordFault l t n)
+              (each-passes t (λ n. ltb 0 (recordFault l t n)) (h .records-are) n a b),
+        );
+        shape = each-passes t (shapeFault l t) (h .shapes-are);
+      };
+      scope-kept = each-passes t (scopeFault l t) (h .scopes-are);
+    }
 
 pub accepted-last : (l : Language) (t : List ℕ) → check l t ≡ checked.Accepted → lastRule l t ≡ checked.Accepted
 accepted-last l t e = accepted-found l t e .last-is

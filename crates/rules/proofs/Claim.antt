@@ -33,7 +33,7 @@ watched-from : (t i : List ℕ) (f : ℕ) → targetProgram (translation t) ≡ 
     → watchedOutcome (translation t) i f ≡ watchedFrom (translate (sourceProgram t)) (inputsOf i) f
 watched-from t i f e = λ k.
     watch (e k) startVariables (startMemory (inputsOf i)) (startObservation (sym (inputs-length i) k))
-      startTemporaries f
+    startTemporaries f
 
 module _ (t i : List ℕ) (f : ℕ) (c : check source t ≡ checked.Accepted) (e : inputsFault i ≡ false) where
   few : recordCount t ≤ sourceLimit
@@ -58,15 +58,16 @@ module _ (t i : List ℕ) (f : ℕ) (c : check source t ≡ checked.Accepted) (e
     same-memory = ap memoryImage (sym (same .same-memory));
     first-false = ap plainEnded (up-to-first-false (sourceProgram t) (inputsOf i) f);
     exact = λ h.
-      ap observationImage
-      (same .mirrors h ∙ ap mirror (sym (plain-round-trip t i f sound e .image-back)));
+        ap observationImage
+        (same .mirrors h ∙ ap mirror (sym (plain-round-trip t i f sound e .image-back)));
     never-48 = same .no-contradiction .0;
-    never-49 = same .no-contradiction .1 }
+    never-49 = same .no-contradiction .1;
+  }
 
 pub demand-3 : Demand3
 demand-3 t i f memory memory₁ observation c e h h₁ k =
     let s = sound t i f c e in
     let d = small t i f c e in
     agreement t i f c e _ _ (plain-runs t i f memory c e h)
-      (watched-runs (translation t) i f memory₁ observation (translation-accepted t s d) e h₁ k
-      ∙ ap watchedEnded (watched-from t i f (translation-program t s d)))
+    (watched-runs (translation t) i f memory₁ observation (translation-accepted t s d) e h₁ k
+    ∙ ap watchedEnded (watched-from t i f (translation-program t s d)))

@@ -37,6 +37,7 @@ sum-pick (suc k) x f p q = go (ℕ-discrete x (suc k)) (λ r. sum-pick k x f p r
   where
     other : (j : ℕ) → (x ≡ j → ⊥) → cond (eqb x j) 1 0 * f j ≡ 0
     other j e = rw (ne-eqb x j e) (omega arith)
+
     go : Dec (x ≡ suc k) → (x ≤ k → sum k (λ j. cond (eqb x j) 1 0 * f j) ≡ f x)
         → sum k (λ j. cond (eqb x j) 1 0 * f j) + cond (eqb x (suc k)) 1 0 * f (suc k) ≡ f x
     go (yes e) ih =
@@ -53,14 +54,21 @@ module _ (d : ℕ) (f : ℕ → ℕ) (times all : ℕ → ℕ → ℕ) (none : (
   unfolding sum
   sums zero q = omega (arith, sum-none (suc d) (λ j. all zero j * f j) (λ j u v. rw (none j) (omega arith)))
   sums (suc k) q =
-      omega (arith, sums k (omega arith), own (suc k) (omega arith) q,
+      omega (
+        arith,
+        sums k (omega arith),
+        own (suc k) (omega arith) q,
         sum-equal (suc d) (λ j. all (suc k) j * f j) (λ j. all k j * f j + times (suc k) j * f j)
-          (λ j u v. rw (next k j) (omega arith)),
-        sum-plus (suc d) (λ j. all k j * f j) (λ j. times (suc k) j * f j))
+            (λ j u v. rw (next k j) (omega arith)),
+        sum-plus (suc d) (λ j. all k j * f j) (λ j. times (suc k) j * f j),
+      )
 
   pub count-all : f (suc d) ≡ suc d
   unfolding sum
   count-all =
-      omega (arith, sums (suc d) (omega arith),
+      omega (
+        arith,
+        sums (suc d) (omega arith),
         sum-equal d (λ j. all (suc d) j * f j) f (λ j u v. rw (once j u v) (omega arith)),
-        ap (λ (z : ℕ). z * f (suc d)) last)
+        ap (λ (z : ℕ). z * f (suc d)) last,
+      )

@@ -16,7 +16,7 @@ unfolding emit
 length-emit none n = refl
 length-emit (node k m z x a b c) n =
     simp (length-append, length-emit a n, length-emit b (n + treeSize a), length-emit c (n + treeSize a + treeSize b))
-      (omega arith)
+    (omega arith)
 
 -- the number of a tree's last record is that of its root
 pub root-size : (w : RecordTree) → rootNumber w 0 ≡ treeSize w
@@ -51,7 +51,8 @@ ownRecord k m z x a b c n = record {
   a = rootNumber a n;
   b = rootNumber b (n + treeSize a);
   c = fieldC c x (n + treeSize a + treeSize b);
-  literal = z }
+  literal = z;
+}
 
 -- the records after the n-th are those of a tree
 abbrev pub Holds : (ℕ → Record) → RecordTree → ℕ → Type 0
@@ -71,15 +72,16 @@ emit-holds f (node k m z x a b c) n h =
     let la : length ea ≡ treeSize a = length-emit a n in
     let lb : length eb ≡ treeSize b = length-emit b (n + treeSize a) in
     let lc : length ec ≡ treeSize c = length-emit c (n + treeSize a + treeSize b) in
-    let ab : Segment f n (ea ++ eb) = segment-left f n (ea ++ eb) ec (segment-left f n (ea ++ eb ++ ec) (r ∷ []) h) in
-    (emit-holds f a n (segment-left f n ea eb ab),
-     emit-holds f b (n + treeSize a) (segment-right f n ea eb (n + treeSize a) (omega arith) ab),
-     emit-holds f c (n + treeSize a + treeSize b)
-       (segment-right f n (ea ++ eb) ec (n + treeSize a + treeSize b) (omega (arith, length-append ea eb))
-         (segment-left f n (ea ++ eb ++ ec) (r ∷ []) h)),
-     ap f (omega arith)
-       ∙ segment-right f n (ea ++ eb ++ ec) (r ∷ []) (n + (treeSize a + treeSize b + treeSize c))
-           (omega (arith, length-append (ea ++ eb) ec, length-append ea eb)) h 0 (omega arith))
+    let ab : Segment f n (ea ++ eb) = segment-left f n (ea ++ eb) ec (segment-left f n (ea ++ eb ++ ec) (r ∷ []) h) in (
+      emit-holds f a n (segment-left f n ea eb ab),
+      emit-holds f b (n + treeSize a) (segment-right f n ea eb (n + treeSize a) (omega arith) ab),
+      emit-holds f c (n + treeSize a + treeSize b)
+          (segment-right f n (ea ++ eb) ec (n + treeSize a + treeSize b) (omega (arith, length-append ea eb))
+          (segment-left f n (ea ++ eb ++ ec) (r ∷ []) h)),
+      ap f (omega arith)
+          ∙ segment-right f n (ea ++ eb ++ ec) (r ∷ []) (n + (treeSize a + treeSize b + treeSize c))
+          (omega (arith, length-append (ea ++ eb) ec, length-append ea eb)) h 0 (omega arith),
+    )
 
 -- what holds at each record of a tree: Q goes down the tree and gives P at its own record
 pub record Step (P : ℕ → Type 0) (Q : RecordTree → ℕ → Type 0) (a b c : RecordTree) (n : ℕ) : Type 0 where
@@ -107,7 +109,7 @@ everywhere P Q step none n q = λ j low high. absurd (omega arith)
 everywhere P Q step (node k m z x a b c) n q =
     let here : Step P Q a b c n = step k m z x a b c n q in
     in-which P n (treeSize a) (treeSize b) (treeSize c)
-      (everywhere P Q step a n (here .below-a))
-      (everywhere P Q step b (n + treeSize a) (here .below-b))
-      (everywhere P Q step c (n + treeSize a + treeSize b) (here .below-c))
-      (here .own)
+    (everywhere P Q step a n (here .below-a))
+    (everywhere P Q step b (n + treeSize a) (here .below-b))
+    (everywhere P Q step c (n + treeSize a + treeSize b) (here .below-c))
+    (here .own)

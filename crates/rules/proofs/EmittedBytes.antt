@@ -26,17 +26,20 @@ emit-fits l (node k m z x a b c) n ρ h s =
     let ec : List Record = emit c (n + treeSize a + treeSize b) in
     let σ : Scope = scopeBelow k m ρ in
     all-append (ea ++ eb ++ ec) _
-      (all-append (ea ++ eb) ec
-        (all-append ea eb (emit-fits l a n σ (h .1) (omega arith))
-          (emit-fits l b (n + treeSize a) σ (h .2) (omega arith)))
-        (emit-fits l c (n + treeSize a + treeSize b) σ (h .3) (omega arith)))
-      (record {
+    (all-append (ea ++ eb) ec
+    (all-append ea eb (emit-fits l a n σ (h .1) (omega arith))
+    (emit-fits l b (n + treeSize a) σ (h .2) (omega arith)))
+    (emit-fits l c (n + treeSize a + treeSize b) σ (h .3) (omega arith))) (
+      record {
         kind-fits = h .0 .small .0;
         mark-fits = h .0 .small .1;
         a-fits = omega (arith, root-most a n);
         b-fits = omega (arith, root-most b (n + treeSize a));
         c-fits = field-small c x (n + treeSize a + treeSize b) (h .0 .small .2) (omega arith);
-        literal-fits = h .0 .in-range }, tt)
+        literal-fits = h .0 .in-range;
+      },
+      tt,
+    )
 
 pub emitted-count : (w : RecordTree) → recordCount (tableBytes (emit w 0)) ≡ treeSize w
 emitted-count w = table-count (emit w 0) ∙ length-emit w 0
@@ -45,10 +48,11 @@ pub emitted : (l : Language) (w : RecordTree) (ρ : Scope) → Fitting l w ρ �
     → Held l (tableBytes (emit w 0)) w 0
 emitted l w ρ h s = record {
   records = emit-holds (recordAt (tableBytes (emit w 0))) w 0
-    (λ i p. ap (λ (j : ℕ). recordAt (tableBytes (emit w 0)) (suc j)) (zero-add i)
+      (λ i p. ap (λ (j : ℕ). recordAt (tableBytes (emit w 0)) (suc j)) (zero-add i)
       ∙ table-record (emit w 0) i (emit-fits l w 0 ρ h (omega arith)) p);
   in-scope = ρ;
-  fitting = h }
+  fitting = h;
+}
 
 pub emitted-bytes : (l : Language) (w : RecordTree) (ρ : Scope) → Fitting l w ρ → treeSize w ≤ 4096
     → AllBytes (tableBytes (emit w 0))

@@ -59,24 +59,24 @@ module _ (limit : ℕ) (enough : 48 ≤ limit) where
       → ChangeKeeps AnyMemory (Ending limit) (assigned m f e)
   ends-assigned m f e h k =
       assigned-keeps AnyMemory (Late limit) (Ending limit) known (λ c x. inr x) AnyValue AnyPlace m f e tt h k
-        (λ p v x y i. tt)
+      (λ p v x y i. tt)
 
   ends-makeBlock : (m : Memory) (u : Use) (n : ℕ) → MadeKeeps AnyMade (Ending limit) (makeBlock m u n)
   ends-makeBlock m u n =
       makeAt-keeps AnyMemory (Late limit) (Ending limit) known (λ c x. inr x) AnyValue AnyPlace AnyMade m u n
-        (nextName m) (freeRun m n) (λ k first x y. tt)
+      (nextName m) (freeRun m n) (λ k first x y. tt)
 
   ends-allocated : (m : Memory) (f : Found) (e : Evaluated) → FoundLate limit f → EvaluatedLate AnyValue limit e
       → ChangeKeeps AnyMemory (Ending limit) (allocated m f e)
   ends-allocated m f e h k =
       allocated-keeps AnyMemory (Late limit) (Ending limit) known (λ c x. inr x) AnyValue AnyPlace {K = AnyMade} m f e
-        tt h k (omega arith) (λ n. ends-makeBlock m freeable (suc n)) (λ j m₁ x. tt) (λ p x j m₁ y i. tt)
+      tt h k (omega arith) (λ n. ends-makeBlock m freeable (suc n)) (λ j m₁ x. tt) (λ p x j m₁ y i. tt)
 
   ends-freed : (m : Memory) (e : Evaluated) → EvaluatedLate AnyValue limit e
       → ChangeKeeps AnyMemory (Ending limit) (freed m e)
   ends-freed m e k =
       freed-keeps AnyMemory (Late limit) (Ending limit) known (λ c x. inr x) AnyValue AnyPlace m e tt k (omega arith)
-        (λ j. tt)
+      (λ j. tt)
 
 -- the plain run
 abbrev AnyState : Memory → ℕ → Type 0
@@ -96,35 +96,35 @@ unfolding run
 run-ends (tree.skip s) ρ m f = tt
 run-ends (tree.assign s p e) ρ m f =
     after-keeps AnyState (Ending 48) AnyMemory s f (assigned m (findSource p ρ m) (evaluateSource e ρ m))
-      (ends-assigned 48 (omega arith) m (findSource p ρ m) (evaluateSource e ρ m)
-        (source-found p ρ m) (source-late e ρ m))
-      (λ m₁ j. tt)
+    (ends-assigned 48 (omega arith) m (findSource p ρ m) (evaluateSource e ρ m)
+    (source-found p ρ m) (source-late e ρ m))
+    (λ m₁ j. tt)
 run-ends (tree.new s p e) ρ m f =
     after-keeps AnyState (Ending 48) AnyMemory s f (allocated m (findSource p ρ m) (evaluateSource e ρ m))
-      (ends-allocated 48 (omega arith) m (findSource p ρ m) (evaluateSource e ρ m)
-        (source-found p ρ m) (source-late e ρ m))
-      (λ m₁ j. tt)
+    (ends-allocated 48 (omega arith) m (findSource p ρ m) (evaluateSource e ρ m)
+    (source-found p ρ m) (source-late e ρ m))
+    (λ m₁ j. tt)
 run-ends (tree.free s e) ρ m f =
     after-keeps AnyState (Ending 48) AnyMemory s f (freed m (evaluateSource e ρ m))
-      (ends-freed 48 (omega arith) m (evaluateSource e ρ m) (source-late e ρ m)) (λ m₁ j. tt)
+    (ends-freed 48 (omega arith) m (evaluateSource e ρ m) (source-late e ρ m)) (λ m₁ j. tt)
 run-ends (tree.sequence s a b) ρ m f =
     next-keeps AnyState (Ending 48) (run a ρ m f) _ (run-ends a ρ m f) (λ m₁ f₁ i. run-ends b ρ m₁ f₁)
 run-ends (tree.branch s e a b) ρ m f =
     decide-keeps AnyState (Ending 48) s (condition (evaluateSource e ρ m)) _ _ m f
-      (ends-condition 48 (omega arith) (evaluateSource e ρ m) (source-late e ρ m)) tt
-      (run-ends a ρ m f) (run-ends b ρ m f)
+    (ends-condition 48 (omega arith) (evaluateSource e ρ m) (source-late e ρ m)) tt
+    (run-ends a ρ m f) (run-ends b ρ m f)
 run-ends (tree.while s e b) ρ m f =
     turns-keeps AnyState (Ending 48) s _ _ (inl (omega arith)) (λ m₁ f₁ i. tt)
-      (λ m₁ f₁ i. ends-condition 48 (omega arith) (evaluateSource e ρ m₁) (source-late e ρ m₁))
-      (λ m₁ f₁ i. run-ends b ρ m₁ f₁) f m f tt
+    (λ m₁ f₁ i. ends-condition 48 (omega arith) (evaluateSource e ρ m₁) (source-late e ρ m₁))
+    (λ m₁ f₁ i. run-ends b ρ m₁ f₁) f m f tt
 run-ends (tree.letIn s x b) ρ m f =
     inLet-keeps AnyState (Ending 48) AnyMade s m f (makeBlock m fixed 1) _ tt
-      (ends-makeBlock 48 (omega arith) m fixed 1) (λ k m₁ i. run-ends b (extend ρ x k) m₁ f)
-      (λ k m₁ x m₂ f₂ i. tt)
+    (ends-makeBlock 48 (omega arith) m fixed 1) (λ k m₁ i. run-ends b (extend ρ x k) m₁ f)
+    (λ k m₁ x m₂ f₂ i. tt)
 run-ends (tree.assert s p) ρ m f =
     asserted-keeps AnyState (Ending 48) s m f (condition (evaluatePredicate p ρ m)) (inl (omega arith)) tt
-      (ends-condition 48 (omega arith) (evaluatePredicate p ρ m)
-        (evaluatePredicate-late AnyValue (λ z. tt) (λ p. tt) 48 (omega arith) p ρ m))
+    (ends-condition 48 (omega arith) (evaluatePredicate p ρ m)
+    (evaluatePredicate-late AnyValue (λ z. tt) (λ p. tt) 48 (omega arith) p ρ m))
 
 pub run-endings : (a : Statement) (ρ : Variables) (m : Memory) (f : ℕ) → PlainEnds (run a ρ m f)
 run-endings a ρ m f = of (run a ρ m f) (run-ends a ρ m f)
@@ -153,7 +153,7 @@ target-found : (p : Place ℕ) (τ : Temporaries) (ρ : Variables) (m : Memory)
     → FoundLate 50 (findPlace p (temporaryOf τ) ρ m)
 target-found p τ ρ m =
     findPlace-late AnyValue (λ z. tt) (λ p. tt) 50 (omega arith) p (temporaryOf τ)
-      (λ t. held-late (temporaryOf τ t)) ρ m
+    (λ t. held-late (temporaryOf τ t)) ρ m
 
 taken-ends : (s n : ℕ) (e : Evaluated) (m : Memory) (o : Observation) (τ : Temporaries) (f : ℕ)
     → EvaluatedLate AnyValue 50 e → WatchEnds (watched.taken s n e m o τ f)
@@ -170,7 +170,7 @@ held-ends τ n = ends-evaluated 50 (omega arith) (heldIn τ n) (held-late (tempo
 query-late : (q : tree.Query) (o : Observation) (v : Value) → EvaluatedLate AnyValue 50 (queryObservation q o v)
 query-late q o v =
     on-pointer (EvaluatedLate AnyValue 50) (Late 50) evaluated.Stopped (λ c x. x) AnyValue v _ (omega arith) tt
-      (λ p u. queried-late AnyValue (λ z. tt) (λ p. tt) 50 (omega arith) q (recordOf o (p .name)) (λ i. markOf o i) p)
+    (λ p u. queried-late AnyValue (λ z. tt) (λ p. tt) 50 (omega arith) q (recordOf o (p .name)) (λ i. markOf o i) p)
 
 watch-ends : (a : TargetStatement) (ρ : Variables) (m : Memory) (o : Observation) (τ : Temporaries) (f : ℕ)
     → WatchEnds (watch a ρ m o τ f)
@@ -178,70 +178,70 @@ unfolding watch
 watch-ends (skip s) ρ m o τ f = tt
 watch-ends (assign s p e) ρ m o τ f =
     watched-after AnyWatched (Ending 50) AnyMemory s o τ f
-      (assigned m (findPlace p (temporaryOf τ) ρ m) (evaluate e (temporaryOf τ) ρ m))
-      (ends-assigned 50 (omega arith) m (findPlace p (temporaryOf τ) ρ m) (evaluate e (temporaryOf τ) ρ m)
-        (target-found p τ ρ m) (target-late e τ ρ m))
-      (λ m₁ j. tt)
+    (assigned m (findPlace p (temporaryOf τ) ρ m) (evaluate e (temporaryOf τ) ρ m))
+    (ends-assigned 50 (omega arith) m (findPlace p (temporaryOf τ) ρ m) (evaluate e (temporaryOf τ) ρ m)
+    (target-found p τ ρ m) (target-late e τ ρ m))
+    (λ m₁ j. tt)
 watch-ends (new s p e) ρ m o τ f =
     watched-after AnyWatched (Ending 50) AnyMemory s o τ f
-      (allocated m (findPlace p (temporaryOf τ) ρ m) (evaluate e (temporaryOf τ) ρ m))
-      (ends-allocated 50 (omega arith) m (findPlace p (temporaryOf τ) ρ m) (evaluate e (temporaryOf τ) ρ m)
-        (target-found p τ ρ m) (target-late e τ ρ m))
-      (λ m₁ j. tt)
+    (allocated m (findPlace p (temporaryOf τ) ρ m) (evaluate e (temporaryOf τ) ρ m))
+    (ends-allocated 50 (omega arith) m (findPlace p (temporaryOf τ) ρ m) (evaluate e (temporaryOf τ) ρ m)
+    (target-found p τ ρ m) (target-late e τ ρ m))
+    (λ m₁ j. tt)
 watch-ends (free s e) ρ m o τ f =
     watched-after AnyWatched (Ending 50) AnyMemory s o τ f (freed m (evaluate e (temporaryOf τ) ρ m))
-      (ends-freed 50 (omega arith) m (evaluate e (temporaryOf τ) ρ m) (target-late e τ ρ m)) (λ m₁ j. tt)
+    (ends-freed 50 (omega arith) m (evaluate e (temporaryOf τ) ρ m) (target-late e τ ρ m)) (λ m₁ j. tt)
 watch-ends (sequence s a b) ρ m o τ f =
     watched-next AnyWatched (Ending 50) (watch a ρ m o τ f) _ (watch-ends a ρ m o τ f)
-      (λ m₁ o₁ τ₁ f₁ i. watch-ends b ρ m₁ o₁ τ₁ f₁)
+    (λ m₁ o₁ τ₁ f₁ i. watch-ends b ρ m₁ o₁ τ₁ f₁)
 watch-ends (branch s e a b) ρ m o τ f =
     watched-decide AnyWatched (Ending 50) s (condition (evaluate e (temporaryOf τ) ρ m)) _ _ m o τ f
-      (ends-condition 50 (omega arith) (evaluate e (temporaryOf τ) ρ m) (target-late e τ ρ m)) tt
-      (watch-ends a ρ m o τ f) (watch-ends b ρ m o τ f)
+    (ends-condition 50 (omega arith) (evaluate e (temporaryOf τ) ρ m) (target-late e τ ρ m)) tt
+    (watch-ends a ρ m o τ f) (watch-ends b ρ m o τ f)
 watch-ends (while s e b) ρ m o τ f =
     watched-turns AnyWatched (Ending 50) s _ _ (inl (omega arith)) (λ m₁ o₁ τ₁ f₁ i. tt)
-      (λ m₁ o₁ τ₁ f₁ i. ends-condition 50 (omega arith) (evaluate e (temporaryOf τ₁) ρ m₁) (target-late e τ₁ ρ m₁))
-      (λ m₁ o₁ τ₁ f₁ i. watch-ends b ρ m₁ o₁ τ₁ f₁) f m o τ f tt
+    (λ m₁ o₁ τ₁ f₁ i. ends-condition 50 (omega arith) (evaluate e (temporaryOf τ₁) ρ m₁) (target-late e τ₁ ρ m₁))
+    (λ m₁ o₁ τ₁ f₁ i. watch-ends b ρ m₁ o₁ τ₁ f₁) f m o τ f tt
 watch-ends (letIn s x b) ρ m o τ f =
     watched-inLet AnyWatched (Ending 50) AnyMade s (makeBlock m fixed 1) _ m o τ f tt
-      (ends-makeBlock 50 (omega arith) m fixed 1)
-      (λ k m₁ i. watch-ends b (extend ρ x k) m₁ o τ f) (λ k m₁ x m₂ o₂ τ₂ f₂ i. tt)
+    (ends-makeBlock 50 (omega arith) m fixed 1)
+    (λ k m₁ i. watch-ends b (extend ρ x k) m₁ o τ f) (λ k m₁ x m₂ o₂ τ₂ f₂ i. tt)
 watch-ends (takeAddress s n p) ρ m o τ f =
     taken-ends s n (addressOf (findPlace p (temporaryOf τ) ρ m)) m o τ f
-      (addressOf-late AnyValue (λ z. tt) (λ p. tt) 50 (omega arith)
-        (findPlace p (temporaryOf τ) ρ m) (target-found p τ ρ m))
+    (addressOf-late AnyValue (λ z. tt) (λ p. tt) 50 (omega arith)
+    (findPlace p (temporaryOf τ) ρ m) (target-found p τ ρ m))
 watch-ends (takeValue s n e) ρ m o τ f = taken-ends s n (evaluate e (temporaryOf τ) ρ m) m o τ f (target-late e τ ρ m)
 watch-ends (takeOperation s n q) ρ m o τ f =
     taken-ends s n (operated q (heldIn τ (suc n)) (heldIn τ (suc (suc n)))) m o τ f
-      (operated-late AnyValue (λ z. tt) (λ p. tt) 50 (omega arith) q (heldIn τ (suc n)) (heldIn τ (suc (suc n)))
-        (held-late (temporaryOf τ (suc n))) (held-late (temporaryOf τ (suc (suc n)))))
+    (operated-late AnyValue (λ z. tt) (λ p. tt) 50 (omega arith) q (heldIn τ (suc n)) (heldIn τ (suc (suc n)))
+    (held-late (temporaryOf τ (suc n))) (held-late (temporaryOf τ (suc (suc n)))))
 watch-ends (takeQuery s n q) ρ m o τ f =
     taken-ends s n (onValue (heldIn τ (suc n)) evaluated.Stopped (queryObservation q o)) m o τ f
-      (on-value (EvaluatedLate AnyValue 50) (Late 50) evaluated.Stopped (λ c x. x) (heldIn τ (suc n)) _
-        (held-late (temporaryOf τ (suc n))) (λ v u. query-late q o v))
+    (on-value (EvaluatedLate AnyValue 50) (Late 50) evaluated.Stopped (λ c x. x) (heldIn τ (suc n)) _
+    (held-late (temporaryOf τ (suc n))) (λ v u. query-late q o v))
 watch-ends (takeNot s n) ρ m o τ f =
     taken-ends s n (onValue (heldIn τ (suc n)) evaluated.Stopped opposite) m o τ f
-      (on-value (EvaluatedLate AnyValue 50) (Late 50) evaluated.Stopped (λ c x. x) (heldIn τ (suc n)) _
-        (held-late (temporaryOf τ (suc n))) (λ v u. opposite-late AnyValue (λ z. tt) (λ p. tt) 50 (omega arith) v))
+    (on-value (EvaluatedLate AnyValue 50) (Late 50) evaluated.Stopped (λ c x. x) (heldIn τ (suc n)) _
+    (held-late (temporaryOf τ (suc n))) (λ v u. opposite-late AnyValue (λ z. tt) (λ p. tt) 50 (omega arith) v))
 watch-ends (branchOn s n a b) ρ m o τ f =
     watched-decide AnyWatched (Ending 50) s (condition (heldIn τ n)) _ _ m o τ f
-      (ends-condition 50 (omega arith) (heldIn τ n) (held-late (temporaryOf τ n))) tt
-      (watch-ends a ρ m o τ f) (watch-ends b ρ m o τ f)
+    (ends-condition 50 (omega arith) (heldIn τ n) (held-late (temporaryOf τ n))) tt
+    (watch-ends a ρ m o τ f) (watch-ends b ρ m o τ f)
 watch-ends (assertOn s n) ρ m o τ f =
     watched-decide AnyWatched (Ending 50) s (condition (heldIn τ n)) _ _ m o τ f
-      (ends-condition 50 (omega arith) (heldIn τ n) (held-late (temporaryOf τ n))) tt tt (inl (omega arith), tt)
+    (ends-condition 50 (omega arith) (heldIn τ n) (held-late (temporaryOf τ n))) tt tt (inl (omega arith), tt)
 watch-ends (storeBlock s n) ρ m o τ f =
     observed-ends s (calledOnTwo (heldIn τ n) (heldIn τ (suc n)) (observation.storeBlock o)) m o τ f
-      (store-called AnyObservation (Ending 50) (inr (omega arith)) (inr (omega arith)) o
-        (heldIn τ n) (heldIn τ (suc n)) (held-ends τ n) (held-ends τ (suc n)) (λ k l first x. tt))
+    (store-called AnyObservation (Ending 50) (inr (omega arith)) (inr (omega arith)) o
+    (heldIn τ n) (heldIn τ (suc n)) (held-ends τ n) (held-ends τ (suc n)) (λ k l first x. tt))
 watch-ends (deleteBlock s n) ρ m o τ f =
     observed-ends s (calledOn (heldIn τ n) (observation.deleteBlock o)) m o τ f
-      (delete-called AnyObservation (Ending 50) (inr (omega arith)) (inr (omega arith)) o (heldIn τ n) (held-ends τ n)
-        (λ k first l. tt))
+    (delete-called AnyObservation (Ending 50) (inr (omega arith)) (inr (omega arith)) o (heldIn τ n) (held-ends τ n)
+    (λ k first l. tt))
 watch-ends (initialise s n) ρ m o τ f =
     observed-ends s (calledOn (heldIn τ n) (observation.initialise o)) m o τ f
-      (initialise-called AnyObservation (Ending 50) (inr (omega arith)) (inr (omega arith)) o (heldIn τ n)
-        (held-ends τ n) (λ i. tt))
+    (initialise-called AnyObservation (Ending 50) (inr (omega arith)) (inr (omega arith)) o (heldIn τ n)
+    (held-ends τ n) (λ i. tt))
 
 pub watch-endings : (a : TargetStatement) (ρ : Variables) (m : Memory) (o : Observation) (τ : Temporaries) (f : ℕ)
     → WatchedEnds (watch a ρ m o τ f)

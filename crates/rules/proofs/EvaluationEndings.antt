@@ -84,19 +84,20 @@ module _ (G : Value → Type 0) (integers : (z : ℤ) → G (values.Integer z))
   pointedBy-late e h =
       on-value (FoundLate limit) (Late limit) found.Stopped (λ c x. x) e _ h (λ v u.
       on-pointer (FoundLate limit) (Late limit) found.Stopped (λ c x. x) G v found.Place (omega arith) u
-        (λ p w. tt))
+      (λ p w. tt))
 
   pub opposite-late : (v : Value) → EvaluatedLate G limit (opposite v)
   opposite-late v = opposite-gives G (Late limit) (λ z e. integers z) (λ p z g e. pointers _) late v
 
   mutual
     unfolding evaluate
+
     pub evaluate-late : {T : Type 0} (e : Expression T) (τ : Holding T) → ((t : T) → EvaluatedLate G limit (held (τ t)))
         → (ρ : Variables) (m : Memory) → EvaluatedLate G limit (evaluate e τ ρ m)
     evaluate-late (literal z) τ h ρ m = integers z
     evaluate-late (read p) τ h ρ m =
         on-place (EvaluatedLate G limit) (Late limit) evaluated.Stopped (λ c x. x) (findPlace p τ ρ m) (readCell m)
-          (findPlace-late p τ h ρ m) (λ l u. readCell-late m l)
+        (findPlace-late p τ h ρ m) (λ l u. readCell-late m l)
     evaluate-late (address p) τ h ρ m = addressOf-late (findPlace p τ ρ m) (findPlace-late p τ h ρ m)
     evaluate-late (operation o a b) τ h ρ m =
         operated-late o (evaluate a τ ρ m) (evaluate b τ ρ m) (evaluate-late a τ h ρ m) (evaluate-late b τ h ρ m)
@@ -112,7 +113,7 @@ module _ (G : Value → Type 0) (integers : (z : ℤ) → G (values.Integer z))
   queryMemory-late : (q : Query) (m : Memory) (v : Value) → EvaluatedLate G limit (queryMemory q m v)
   queryMemory-late q m v =
       on-pointer (EvaluatedLate G limit) (Late limit) evaluated.Stopped (λ c x. x) AnyValue v _ (omega arith) tt
-        (λ p u. queried-late q (recordedOf (blockOf m (p .name))) (λ i. isInitialised (cellOf m i)) p)
+      (λ p u. queried-late q (recordedOf (blockOf m (p .name))) (λ i. isInitialised (cellOf m i)) p)
 
   pub evaluateTerm-late : (t : Term) (ρ : Variables) (m : Memory) → EvaluatedLate G limit (evaluateTerm t ρ m)
   unfolding evaluateTerm

@@ -44,7 +44,8 @@ setCell-fits m i c h k = record {
   block-count = h .block-count;
   cell-count = length-set (m .cells) i c ∙ h .cell-count;
   blocks-fit = h .blocks-fit;
-  cells-fit = all-set (h .cells-fit) i k }
+  cells-fit = all-set (h .cells-fit) i k;
+}
 
 pub setCell-inside : (m : Memory) (i : ℕ) (c : Cell) → InsideMemory m → FitsCell c → InsideMemory (setCell m i c)
 setCell-inside m i c h k =
@@ -56,7 +57,8 @@ withBlock-fits m u k first n h l r = record {
   block-count = length-rename (m .blocks) k (blockFor u first n) ∙ h .block-count;
   cell-count = length-fill (m .cells) first n (cell.Holds k value.Undefined) ∙ h .cell-count;
   blocks-fit = all-rename (h .blocks-fit) k (made-fits u);
-  cells-fit = all-fill (h .cells-fit) first n (l, tt) }
+  cells-fit = all-fill (h .cells-fit) first n (l, tt);
+}
   where
     made-fits : (u : Use) → FitsBlock (blockFor u first n)
     made-fits fixed = r
@@ -66,7 +68,8 @@ pub withBlock-inside : (m : Memory) (u : Use) (k first n : ℕ) → InsideMemory
     → InsideMemory (withBlock m u k first n)
 withBlock-inside m u k first n h l r = record {
   memory-fits = withBlock-fits m u k first n (h .memory-fits) l (omega arith, omega arith);
-  blocks-inside = all-rename (h .blocks-inside) k (made-inside u) }
+  blocks-inside = all-rename (h .blocks-inside) k (made-inside u);
+}
   where
     made-inside : (u : Use) → InsideBlock (blockFor u first n)
     made-inside fixed = r
@@ -81,7 +84,8 @@ endBlock-fits m k h = of (recordedOf (blockOf m k))
       block-count = length-rename (m .blocks) k block.Dead ∙ h .block-count;
       cell-count = length-fill (m .cells) first n cell.Free ∙ h .cell-count;
       blocks-fit = all-rename (h .blocks-fit) k tt;
-      cells-fit = all-fill (h .cells-fit) first n tt }
+      cells-fit = all-fill (h .cells-fit) first n tt;
+    }
     of recorded.Dead = h
 
 pub endBlock-inside : (m : Memory) (k : ℕ) → InsideMemory m → InsideMemory (endBlock m k)
@@ -102,21 +106,25 @@ startMemory-fits inputs h l = record {
   block-count = ap (λ (n : ℕ). suc (suc n)) (length-replicate (nameCount - 2) block.Unused);
   cell-count = counted;
   blocks-fit =
-    also {x = block.Fixed 0 1} (omega arith, omega arith) (also {x = block.Fixed 1 (length inputs)}
-    (omega arith, omega arith) (all-replicate (nameCount - 2) block.Unused tt));
+      also {x = block.Fixed 0 1} (omega arith, omega arith) (also {x = block.Fixed 1 (length inputs)}
+      (omega arith, omega arith) (all-replicate (nameCount - 2) block.Unused tt));
   cells-fit = also {x = cell.Holds 1 (value.Pointer (record { name = 2; offset = pos 0 }))}
-    (omega arith, (omega arith, refl)) (all-append
-    (all-map (λ z. cell.Holds 2 (value.Integer z)) (λ z e. (omega arith, e)) h)
-    (all-replicate (cellCount - 1 - length inputs) cell.Free tt)) }
+      (omega arith, (omega arith, refl)) (all-append
+      (all-map (λ z. cell.Holds 2 (value.Integer z)) (λ z e. (omega arith, e)) h)
+      (all-replicate (cellCount - 1 - length inputs) cell.Free tt));
+}
   where
     filled : List Cell
     filled = map (λ z. cell.Holds 2 (value.Integer z)) inputs
 
     counted : suc (length (filled ++ replicate (cellCount - 1 - length inputs) cell.Free)) ≡ cellCount
     counted =
-        omega (arith, length-append filled (replicate (cellCount - 1 - length inputs) cell.Free),
+        omega (
+          arith,
+          length-append filled (replicate (cellCount - 1 - length inputs) cell.Free),
           length-map inputs (λ z. cell.Holds 2 (value.Integer z)),
-          length-replicate (cellCount - 1 - length inputs) cell.Free)
+          length-replicate (cellCount - 1 - length inputs) cell.Free,
+        )
 
 pub startMemory-inside : (inputs : List ℤ) → All InRange inputs → length inputs ≤ 256
     → InsideMemory (startMemory inputs)
@@ -124,7 +132,8 @@ unfolding startMemory
 startMemory-inside inputs h l = record {
   memory-fits = startMemory-fits inputs h l;
   blocks-inside = also {x = block.Fixed 0 1} (omega arith) (also {x = block.Fixed 1 (length inputs)} (omega arith)
-    (all-replicate (nameCount - 2) block.Unused tt)) }
+      (all-replicate (nameCount - 2) block.Unused tt));
+}
 
 -- ---- the observation memory
 pub withMarks-fits : (o : Observation) (k : ℕ) (b : Recorded) (first n : ℕ) → FitsObservation o → FitsRecorded b
@@ -132,20 +141,23 @@ pub withMarks-fits : (o : Observation) (k : ℕ) (b : Recorded) (first n : ℕ) 
 withMarks-fits o k b first n h r = record {
   record-count = length-rename (o .blocks) k b ∙ h .record-count;
   mark-count = length-fill (o .marks) first n false ∙ h .mark-count;
-  records-fit = all-rename (h .records-fit) k r }
+  records-fit = all-rename (h .records-fit) k r;
+}
 
 pub withMarks-inside : (o : Observation) (k : ℕ) (b : Recorded) (first n : ℕ) → InsideObservation o → FitsRecorded b
     → InsideRecorded b → InsideObservation (withMarks o k b first n)
 withMarks-inside o k b first n h r s = record {
   observation-fits = withMarks-fits o k b first n (h .observation-fits) r;
-  records-inside = all-rename (h .records-inside) k s }
+  records-inside = all-rename (h .records-inside) k s;
+}
 
 pub marked-fits : (o : Observation) (i : ℕ) → FitsObservation o
     → FitsObservation (record { blocks = o .blocks; marks = set (o .marks) i true })
 marked-fits o i h = record {
   record-count = h .record-count;
   mark-count = length-set (o .marks) i true ∙ h .mark-count;
-  records-fit = h .records-fit }
+  records-fit = h .records-fit;
+}
 
 -- ---- where a pointer leads is inside
 abbrev LeadsInside : Located → Type 0
@@ -167,10 +179,10 @@ pub locate-inside : (m : Memory) (p : Pointer) (i : ℕ) → InsideMemory m → 
 unfolding locate
 locate-inside m p i h e =
     subst LeadsInside e (locatedIn-inside (recordedOf (blockOf m (p .name))) (p .offset)
-      (all-named (h .blocks-inside) (p .name) block.Dead tt))
+    (all-named (h .blocks-inside) (p .name) block.Dead tt))
 
 pub locateMark-inside : (o : Observation) (p : Pointer) (i : ℕ) → InsideObservation o
     → locateMark o p ≡ located.At i → i < cellCount
 locateMark-inside o p i h e =
     subst LeadsInside e (locatedIn-inside (recordOf o (p .name)) (p .offset)
-      (all-named (h .records-inside) (p .name) recorded.Dead tt))
+    (all-named (h .records-inside) (p .name) recorded.Dead tt))

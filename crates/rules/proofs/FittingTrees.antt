@@ -30,8 +30,11 @@ FieldTree l (number p) w x = (w ≡ tree.none) × (p x ≡ true)
 
 -- the scope that a record asks for, and the scope below it
 abbrev pub OwnScope : ℕ → ℕ → Scope → Type 0
-OwnScope k m ρ = elim (eqb k 10) as (λ q. Type 0) [ true ↦ ρ m ≡ true | false ↦
-    elim (eqb k 47) as (λ q. Type 0) [ true ↦ ρ m ≡ false | false ↦ Unit {0} ] ]
+OwnScope k m ρ = elim (eqb k 10) as (λ q. Type 0) [
+  | true ↦ ρ m ≡ true
+  | false ↦
+      elim (eqb k 47) as (λ q. Type 0) [ true ↦ ρ m ≡ false | false ↦ Unit {0} ]
+]
 
 abbrev pub scopeBelow : ℕ → ℕ → Scope → Scope
 scopeBelow k m ρ x = (eqb k 47 && eqb m x) || ρ x
@@ -87,7 +90,7 @@ child-fits l t unnamed w x n j h q p = refl
 child-fits l t (child s) tree.none x n j h q p = absurd (no-sort l s h)
 child-fits l t (child s) (node k m z y a b c) x n j h q p =
     both-true _ _ (lt-ltb _ j p)
-      (eq-eqb _ (sortNumber s) (ap (sortOf l) (root-kind t (node k m z y a b c) n q (omega arith)) ∙ h))
+    (eq-eqb _ (sortNumber s) (ap (sortOf l) (root-kind t (node k m z y a b c) n q (omega arith)) ∙ h))
 child-fits l t (number p) w x n j h q i = refl
 
 -- a record that is some record whose fields fit has no fault
@@ -100,7 +103,7 @@ pub no-fault : (l : Language) (t : List ℕ) (j : ℕ) (f : Form) (r : Record) �
     → formOf l (r .kind) ≡ some f → fieldsFit f r ≡ true → childrenFit l t j f r ≡ true → recordFault l t j ≡ 0
 no-fault l t j f r e =
     subst (λ (r : Record). formOf l (r .kind) ≡ some f → fieldsFit f r ≡ true → childrenFit l t j f r ≡ true
-      → recordFault l t j ≡ 0) e (fault-free l t j f)
+    → recordFault l t j ≡ 0) e (fault-free l t j f)
 
 -- each record of a tree that keeps the rules keeps 3, 4 and 5
 pub record Held (l : Language) (t : List ℕ) (w : RecordTree) (n : ℕ) : Type 0 where
@@ -117,19 +120,19 @@ own-fault l t k m z x a b c n ρ h q =
     let nb : ℕ = n + treeSize a in
     let nc : ℕ = n + treeSize a + treeSize b in
     let fa : fieldFits (f .a) (rootNumber a n) ≡ true =
-        rw (field-root a n) (field-fits l (f .a) a 0 n (h .field-a)) in
+    rw (field-root a n) (field-fits l (f .a) a 0 n (h .field-a)) in
     let fb : fieldFits (f .b) (rootNumber b nb) ≡ true =
-        rw (field-root b nb) (field-fits l (f .b) b 0 nb (h .field-b)) in
+    rw (field-root b nb) (field-fits l (f .b) b 0 nb (h .field-b)) in
     let fc : fieldFits (f .c) (fieldC c x nc) ≡ true = field-fits l (f .c) c x nc (h .field-c) in
     let ga : childFits l t j (f .a) (rootNumber a n) ≡ true =
-        rw (field-root a n) (child-fits l t (f .a) a 0 n j (h .field-a) (q .0) (omega arith)) in
+    rw (field-root a n) (child-fits l t (f .a) a 0 n j (h .field-a) (q .0) (omega arith)) in
     let gb : childFits l t j (f .b) (rootNumber b nb) ≡ true =
-        rw (field-root b nb) (child-fits l t (f .b) b 0 nb j (h .field-b) (q .1) (omega arith)) in
+    rw (field-root b nb) (child-fits l t (f .b) b 0 nb j (h .field-b) (q .1) (omega arith)) in
     let gc : childFits l t j (f .c) (fieldC c x nc) ≡ true =
-        child-fits l t (f .c) c x nc j (h .field-c) (q .2) (omega arith) in
+    child-fits l t (f .c) c x nc j (h .field-c) (q .2) (omega arith) in
     no-fault l t j f (ownRecord k m z x a b c n) (q .3) (h .is-form)
-      (both-true _ _ (both-true _ _ (both-true _ _ (both-true _ _ (h .mark) fa) fb) fc) (h .literal))
-      (both-true _ _ (both-true _ _ ga gb) gc)
+    (both-true _ _ (both-true _ _ (both-true _ _ (both-true _ _ (h .mark) fa) fb) fc) (h .literal))
+    (both-true _ _ (both-true _ _ ga gb) gc)
 
 pub records-fit : (l : Language) (t : List ℕ) (w : RecordTree) (n : ℕ) → Held l t w n
     → (j : ℕ) → n < j → j ≤ n + treeSize w → recordFault l t j ≡ 0
@@ -141,4 +144,5 @@ records-fit l t = everywhere (λ j. recordFault l t j ≡ 0) (Held l t) step
       own = own-fault l t k m z x a b c n (h .in-scope) (h .fitting .0) (h .records);
       below-a = record { records = h .records .0; in-scope = scopeBelow k m (h .in-scope); fitting = h .fitting .1 };
       below-b = record { records = h .records .1; in-scope = scopeBelow k m (h .in-scope); fitting = h .fitting .2 };
-      below-c = record { records = h .records .2; in-scope = scopeBelow k m (h .in-scope); fitting = h .fitting .3 } }
+      below-c = record { records = h .records .2; in-scope = scopeBelow k m (h .in-scope); fitting = h .fitting .3 };
+    }

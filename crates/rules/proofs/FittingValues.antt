@@ -68,7 +68,7 @@ pub queryObservation-fits : (q : Query) (o : Observation) (v : Value) → FitsOb
 queryObservation-fits q o v h k =
     on-pointer EvaluatedFits AnyNumber evaluated.Stopped (λ c x. tt) FitsValue v _ tt k (λ p l.
     queried-fits q (recordOf o (p .name)) (λ i. markOf o i) p
-      (all-named (h .records-fit) (p .name) recorded.Dead tt) l)
+    (all-named (h .records-fit) (p .name) recorded.Dead tt) l)
 
 pub opposite-fits : (v : Value) → EvaluatedFits (opposite v)
 opposite-fits v = opposite-gives FitsValue AnyNumber (λ z e. e) moved-fits (λ c h. tt) v
@@ -95,18 +95,19 @@ defined-fits (cell.Holds o (values.Pointer p)) h = h .1
 readCell-fits : (m : Memory) (p : Pointer) → FitsMemory m → EvaluatedFits (readCell m p)
 readCell-fits m p h =
     at-cell EvaluatedFits AnyNumber evaluated.Stopped (λ c x. tt) (locate m p) _ tt
-      (λ i. defined-fits (cellOf m i) (all-getD (h .cells-fit) i cell.Free tt))
+    (λ i. defined-fits (cellOf m i) (all-getD (h .cells-fit) i cell.Free tt))
 
 -- N is what a temporary's name keeps, of no account here
 module _ {T : Type 0} (N : T → Type 0) (τ : Holding T) (holding : (t : T) → EvaluatedFits (held (τ t))) (ρ : Variables)
     (names : (x : ℕ) → FitsName (ρ x)) (m : Memory) (fits : FitsMemory m) (σ : Scope) where
   mutual
     unfolding evaluate
+
     pub evaluate-fits : (e : Expression T) → SoundExpression e N σ → EvaluatedFits (evaluate e τ ρ m)
     evaluate-fits (literal z) h = h
     evaluate-fits (read p) h =
         on-place EvaluatedFits AnyNumber evaluated.Stopped (λ c x. tt) (findPlace p τ ρ m) (readCell m)
-          (findPlace-fits p h) (λ l k. readCell-fits m l fits)
+        (findPlace-fits p h) (λ l k. readCell-fits m l fits)
     evaluate-fits (address p) h = addressOf-fits (findPlace p τ ρ m) (findPlace-fits p h)
     evaluate-fits (operation o a b) h =
         operated-fits o (evaluate a τ ρ m) (evaluate b τ ρ m) (evaluate-fits a (h .1)) (evaluate-fits b (h .2))

@@ -43,7 +43,8 @@ recordAs k t n = record {
   a = childA t n;
   b = childB t n;
   c = childC t n;
-  literal = literalOf t n }
+  literal = literalOf t n;
+}
 
 -- the node that record n is, as a record of kind k, its children's being what they are by themselves
 abbrev pub nodeAs : (l : Language) → ℕ → List ℕ → ℕ → NodeOf l
@@ -94,6 +95,7 @@ field-holds l t n (child s) x h q = go (decLt x n)
   where
     e : sortOfNode l (nodeBefore l t n x) ≡ sortNumber s
     e = eqb-true (sortOfNode l (nodeBefore l t n x)) (sortNumber s) q
+
     go : Dec (x < n) → FieldHolds l t n (child s) x
     go (yes d) = (ltb-true 0 x h, d, sym (ap (sortOfNode l) (node-earlier l t n x d)) ∙ e)
     go (no d) =
@@ -149,9 +151,11 @@ ignores-c l k false t n a b c d e h = go (eqb k 63) refl h
   where
     Same : (l : Language) → NodeOf l → NodeOf l → NodeOf l → NodeOf l → ℕ → Type 0
     Same l a b c d j = buildNode l n (recordAs j t n) a b c ≡ buildNode l n (recordAs j t n) a b d
+
     as-number : (l : Language) (a b c d : NodeOf l) → Same l a b c d 63 × Same l a b c d 64
     as-number source a b c d = (refl, refl)
     as-number target a b c d = (refl, refl)
+
     go : (q : Bool) → eqb k 63 ≡ q → (q || eqb k 64) ≡ true → Same l a b c d k
     go true u v = subst (Same l a b c d) (sym (eqb-true k 63 u)) (as-number l a b c d .0)
     go false u v = subst (Same l a b c d) (sym (eqb-true k 64 v)) (as-number l a b c d .1)
@@ -166,7 +170,7 @@ plain-node l t n (number g) x p h q = absurd (false≢true q)
 abbrev pub nodeUnder : (l : Language) → List ℕ → ℕ → NodeOf l
 nodeUnder l t n =
     buildNode l n (recordAt t n)
-      (nodeBefore l t n (childA t n)) (nodeBefore l t n (childB t n)) (nodeBefore l t n (childC t n))
+    (nodeBefore l t n (childA t n)) (nodeBefore l t n (childB t n)) (nodeBefore l t n (childC t n))
 
 built-as : (l : Language) (t : List ℕ) (n : ℕ) (f : Form) → 1 ≤ n → kindOf t n ≡ f .kind → readsChildren f ≡ true
     → FieldHolds l t n (f .a) (childA t n) → FieldHolds l t n (f .b) (childB t n)
@@ -180,7 +184,7 @@ built-as l t n f p k h a b c =
     let b = plain-node l t n (f .b) (childB t n) p b (q .1) in
     (λ i. buildNode l n (recordAs (k i) t n) (a i) (b i) C)
     ∙ ignores-c l (f .kind) (isPlain (f .c)) t n (nodeAt l t (childA t n)) (nodeAt l t (childB t n)) C
-      (nodeAt l t (childC t n)) (plain-node l t n (f .c) (childC t n) p c) (r .1)
+    (nodeAt l t (childC t n)) (plain-node l t n (f .c) (childC t n) p c) (r .1)
 
 -- the nodes that record n has for children
 abbrev pub nodesUnder : (l : Language) → List ℕ → ℕ → Option Form → Bool
@@ -207,7 +211,8 @@ kept l t n f p o h q e =
       b = b;
       c = c;
       literal = literal-holds (f .literal) (literalOf t n) (v .4);
-      node = e ∙ built-as l t n f p (found-kind l k f o) (found-passes readsChildren l k f (each-reads l) o) a b c }
+      node = e ∙ built-as l t n f p (found-kind l k f o) (found-passes readsChildren l k f (each-reads l) o) a b c;
+    }
 
 -- what makes node n no junk
 abbrev pub inTable : (l : Language) → List ℕ → ℕ → Option Form → Bool
@@ -219,5 +224,5 @@ pub node-built : (l : Language) (t : List ℕ) (n : ℕ) (f : Form) → 1 ≤ n 
     → FormHolds l t n f
 node-built l t n f p q r o h w =
     let g : inTable l t n (formOf l (kindOf t n)) ≡ true =
-      rw (lt-ltb 0 n p, le-leb n (recordCount t) q, eq-eqb (recordFault l t n) 0 r, o) w in
+    rw (lt-ltb 0 n p, le-leb n (recordCount t) q, eq-eqb (recordFault l t n) 0 r, o) w in
     kept l t n f p o h w (node-law l t n ∙ ap (λ (b : Bool). guarded l b (nodeUnder l t n)) g)

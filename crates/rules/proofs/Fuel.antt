@@ -61,16 +61,16 @@ fuel-run h (tree.sequence s a b) ρ m f l =
     next-keeps (AtMost h) AnyNumber (run a ρ m f) _ (fuel-run h a ρ m f l) (λ m₁ f₁ i. fuel-run h b ρ m₁ f₁ i)
 fuel-run h (tree.branch s e a b) ρ m f l =
     decide-keeps (AtMost h) AnyNumber s (condition (evaluateSource e ρ m)) _ _ m f
-      (any-test (condition (evaluateSource e ρ m))) l (fuel-run h a ρ m f l) (fuel-run h b ρ m f l)
+    (any-test (condition (evaluateSource e ρ m))) l (fuel-run h a ρ m f l) (fuel-run h b ρ m f l)
 fuel-run h (tree.while s e b) ρ m f l =
     turns-keeps (AtMost h) AnyNumber s _ _ tt (λ m₁ f₁ i. omega arith)
-      (λ m₁ f₁ i. any-test (condition (evaluateSource e ρ m₁))) (λ m₁ f₁ i. fuel-run h b ρ m₁ f₁ i) f m f l
+    (λ m₁ f₁ i. any-test (condition (evaluateSource e ρ m₁))) (λ m₁ f₁ i. fuel-run h b ρ m₁ f₁ i) f m f l
 fuel-run h (tree.letIn s x b) ρ m f l =
     inLet-keeps (AtMost h) AnyNumber AnyMade s m f (makeBlock m fixed 1) _ l (any-made (makeBlock m fixed 1))
-      (λ k m₁ i. fuel-run h b (extend ρ x k) m₁ f l) (λ k m₁ x m₂ f₂ i. i)
+    (λ k m₁ i. fuel-run h b (extend ρ x k) m₁ f l) (λ k m₁ x m₂ f₂ i. i)
 fuel-run h (tree.assert s p) ρ m f l =
     asserted-keeps (AtMost h) AnyNumber s m f (condition (evaluatePredicate p ρ m)) tt l
-      (any-test (condition (evaluatePredicate p ρ m)))
+    (any-test (condition (evaluatePredicate p ρ m)))
 
 pub run-fuel : (a : Statement) (ρ : Variables) (m : Memory) (f : ℕ) → fuelOf (run a ρ m f) ≤ f
 run-fuel a ρ m f = left (run a ρ m f) (fuel-run f a ρ m f (omega arith))
@@ -105,19 +105,19 @@ fuel-watch h (new s p e) ρ m o τ f l =
 fuel-watch h (free s e) ρ m o τ f l = watched-change h m o τ f l s (freed m (evaluate e (temporaryOf τ) ρ m))
 fuel-watch h (sequence s a b) ρ m o τ f l =
     watched-next (WatchedAtMost h) AnyNumber (watch a ρ m o τ f) _ (fuel-watch h a ρ m o τ f l)
-      (λ m₁ o₁ τ₁ f₁ i. fuel-watch h b ρ m₁ o₁ τ₁ f₁ i)
+    (λ m₁ o₁ τ₁ f₁ i. fuel-watch h b ρ m₁ o₁ τ₁ f₁ i)
 fuel-watch h (branch s e a b) ρ m o τ f l =
     watched-decide (WatchedAtMost h) AnyNumber s (condition (evaluate e (temporaryOf τ) ρ m)) _ _ m o τ f
-      (any-test (condition (evaluate e (temporaryOf τ) ρ m))) l
-      (fuel-watch h a ρ m o τ f l) (fuel-watch h b ρ m o τ f l)
+    (any-test (condition (evaluate e (temporaryOf τ) ρ m))) l
+    (fuel-watch h a ρ m o τ f l) (fuel-watch h b ρ m o τ f l)
 fuel-watch h (while s e b) ρ m o τ f l =
     watched-turns (WatchedAtMost h) AnyNumber s _ _ tt (λ m₁ o₁ τ₁ f₁ i. omega arith)
-      (λ m₁ o₁ τ₁ f₁ i. any-test (condition (evaluate e (temporaryOf τ₁) ρ m₁)))
-      (λ m₁ o₁ τ₁ f₁ i. fuel-watch h b ρ m₁ o₁ τ₁ f₁ i) f m o τ f l
+    (λ m₁ o₁ τ₁ f₁ i. any-test (condition (evaluate e (temporaryOf τ₁) ρ m₁)))
+    (λ m₁ o₁ τ₁ f₁ i. fuel-watch h b ρ m₁ o₁ τ₁ f₁ i) f m o τ f l
 fuel-watch h (letIn s x b) ρ m o τ f l =
     watched-inLet (WatchedAtMost h) AnyNumber AnyMade s (makeBlock m fixed 1) _ m o τ f l
-      (any-made (makeBlock m fixed 1)) (λ k m₁ i. fuel-watch h b (extend ρ x k) m₁ o τ f l)
-      (λ k m₁ x m₂ o₂ τ₂ f₂ i. i)
+    (any-made (makeBlock m fixed 1)) (λ k m₁ i. fuel-watch h b (extend ρ x k) m₁ o τ f l)
+    (λ k m₁ x m₂ o₂ τ₂ f₂ i. i)
 fuel-watch h (takeAddress s n p) ρ m o τ f l =
     watched-taken h m o τ f l s n (addressOf (findPlace p (temporaryOf τ) ρ m))
 fuel-watch h (takeValue s n e) ρ m o τ f l = watched-taken h m o τ f l s n (evaluate e (temporaryOf τ) ρ m)
@@ -129,10 +129,10 @@ fuel-watch h (takeNot s n) ρ m o τ f l =
     watched-taken h m o τ f l s n (onValue (heldIn τ (suc n)) evaluated.Stopped opposite)
 fuel-watch h (branchOn s n a b) ρ m o τ f l =
     watched-decide (WatchedAtMost h) AnyNumber s (condition (heldIn τ n)) _ _ m o τ f
-      (any-test (condition (heldIn τ n))) l (fuel-watch h a ρ m o τ f l) (fuel-watch h b ρ m o τ f l)
+    (any-test (condition (heldIn τ n))) l (fuel-watch h a ρ m o τ f l) (fuel-watch h b ρ m o τ f l)
 fuel-watch h (assertOn s n) ρ m o τ f l =
     watched-decide (WatchedAtMost h) AnyNumber s (condition (heldIn τ n)) _ _ m o τ f
-      (any-test (condition (heldIn τ n))) l l (tt, l)
+    (any-test (condition (heldIn τ n))) l l (tt, l)
 fuel-watch h (storeBlock s n) ρ m o τ f l =
     watched-observed h m o τ f l s (calledOnTwo (heldIn τ n) (heldIn τ (suc n)) (observation.storeBlock o))
 fuel-watch h (deleteBlock s n) ρ m o τ f l =

@@ -52,7 +52,7 @@ module _ (m : Memory) where
   unfolding memoryImage
   image-put-cell i c e h =
       put-second blockBytes 8 length-blockBytes cellBytes 16 length-cellBytes (m .blocks) (m .cells) (cellPlace i) i c
-        (omega arith) h
+      (omega arith) h
 
 module _ (o : Observation) where
   pub image-put-recorded : (k : ℕ) (b : Recorded) → k < length (o .blocks)
@@ -68,4 +68,4 @@ module _ (o : Observation) where
   unfolding observationImage
   image-put-mark i b e h =
       put-second recordedBytes 8 length-recordedBytes markBytes 1 length-markBytes (o .blocks) (o .marks) (markPlace i)
-        i b (omega arith) h
+      i b (omega arith) h

@@ -29,5 +29,9 @@ module _ (i : List ℕ) (e : inputsFault i ≡ false) where
   pub inputs-some : 1 ≤ length (inputsOf i)
   inputs-some =
       let front = neither (not (eqb (length i % 8) 0)) (eqb (length i) 0) (tests .0) in
-      omega (arith, inputs-length i, eqb-true (length i % 8) 0 (not-false _ (front .0)),
-        eqb-false (length i) 0 (front .1))
+      omega (
+        arith,
+        inputs-length i,
+        eqb-true (length i % 8) 0 (not-false _ (front .0)),
+        eqb-false (length i) 0 (front .1),
+      )

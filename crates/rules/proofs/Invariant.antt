@@ -66,4 +66,5 @@ onward-itself {m} v = record { invariant = v; becomes = λ k. becomes-itself (bl
 pub onward-then : {m m₁ m₂ : Memory} → Onward m m₁ → Onward m₁ m₂ → Onward m m₂
 onward-then {m} {m₁} {m₂} p q = record {
   invariant = q .invariant;
-  becomes = λ k. becomes-then (blockOf m k) (blockOf m₁ k) (blockOf m₂ k) (p .becomes k) (q .becomes k) }
+  becomes = λ k. becomes-then (blockOf m k) (blockOf m₁ k) (blockOf m₂ k) (p .becomes k) (q .becomes k);
+}

@@ -142,7 +142,7 @@ module _ (J : Memory → Type 0) (D E : ℕ → Type 0) (known : (c : ℕ) → E
   storeNew-keeps : {K : ℕ → Memory → Type 0} (m : Memory) (p : Pointer) (x : Made) → J m → MadeKeeps K E x
       → ((k : ℕ) (m₁ : Memory) → K k m₁ → J m₁)
       → ((k : ℕ) (m₁ : Memory) → K k m₁ → (i : ℕ)
-        → J (setCell m₁ i (cell.Holds (p .name) (values.Pointer (record { name = k; offset = pos 0 })))))
+      → J (setCell m₁ i (cell.Holds (p .name) (values.Pointer (record { name = k; offset = pos 0 })))))
       → ChangeKeeps J E (storeNew m p x)
   storeNew-keeps m p (made k m₁) j h g₁ g₂ = storeCell-keeps m₁ p _ (g₁ k m₁ h) (g₂ k m₁ h)
   storeNew-keeps m p (unmade c) j h g₁ g₂ = (h, j)
@@ -152,7 +152,7 @@ module _ (J : Memory → Type 0) (D E : ℕ → Type 0) (known : (c : ℕ) → E
       → ((n : ℕ) → MadeKeeps K E (makeBlock m freeable (suc n)))
       → ((k : ℕ) (m₁ : Memory) → K k m₁ → J m₁)
       → ((p : Pointer) → H p → (k : ℕ) (m₁ : Memory) → K k m₁ → (i : ℕ)
-        → J (setCell m₁ i (cell.Holds (p .name) (values.Pointer (record { name = k; offset = pos 0 })))))
+      → J (setCell m₁ i (cell.Holds (p .name) (values.Pointer (record { name = k; offset = pos 0 })))))
       → ChangeKeeps J E (allocated m f e)
   allocated-keeps m f e j hf he d makes g₁ g₂ =
       on-place (ChangeKeeps J E) D (λ k. stopped k m) (λ c x. (widen c x, j)) f _ hf (λ p hp.

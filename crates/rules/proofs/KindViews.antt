@@ -49,7 +49,7 @@ found-is (f ∷ fs) k = go (eqb k (f .kind)) (found-is fs k)
   where
     go : (b : Bool) → Found (λ g. g ≡ formIn fs k) (lookUp k fs)
         → Found (λ g. g ≡ elim b as (λ x. Form) [ true ↦ f | false ↦ formIn fs k ])
-          (elim b as (λ x. Option Form) [ true ↦ some f | false ↦ lookUp k fs ])
+        (elim b as (λ x. Option Form) [ true ↦ some f | false ↦ lookUp k fs ])
     go true ih = refl
     go false ih = ih
 
@@ -134,16 +134,131 @@ KindOf source s k = SourceKind s k
 KindOf target s k = TargetKind s k
 
 each-kind : (l : Language) → Each (λ f. KindOf l (f .sort) (f .kind)) (forms l)
-each-kind source =
-    (literal, (read, (address, (operation, (shifted, (variable, (pointed,
-    (value, (base, (offset, (blockLength, (combined,
-    (valid, (initialised, (compared, (negated, (both, (either,
-    (skip, (assign, (new, (free, (sequence, (branch, (while, (letIn, (assert, tt)))))))))))))))))))))))))))
-each-kind target =
-    (literal, (read, (address, (operation, (shifted, (variable, (pointed, (temporary,
-    (skip, (assign, (new, (free, (sequence, (branch, (while, (letIn,
-    (takeAddress, (takeValue, (takeOperation, (takeQuery, (takeNot, (branchOn, (assertOn,
-    (storeBlock, (deleteBlock, (initialise, tt))))))))))))))))))))))))))
+each-kind source = (
+  literal,
+  (
+    read,
+    (
+      address,
+      (
+        operation,
+        (
+          shifted,
+          (
+            variable,
+            (
+              pointed,
+              (
+                value,
+                (
+                  base,
+                  (
+                    offset,
+                    (
+                      blockLength,
+                      (
+                        combined,
+                        (
+                          valid,
+                          (
+                            initialised,
+                            (
+                              compared,
+                              (
+                                negated,
+                                (
+                                  both,
+                                  (
+                                    either,
+                                    (skip, (assign, (new, (free, (sequence, (branch, (while, (letIn, (assert, tt))))))))),
+                                  ),
+                                ),
+                              ),
+                            ),
+                          ),
+                        ),
+                      ),
+                    ),
+                  ),
+                ),
+              ),
+            ),
+          ),
+        ),
+      ),
+    ),
+  ),
+)
+each-kind target = (
+  literal,
+  (
+    read,
+    (
+      address,
+      (
+        operation,
+        (
+          shifted,
+          (
+            variable,
+            (
+              pointed,
+              (
+                temporary,
+                (
+                  skip,
+                  (
+                    assign,
+                    (
+                      new,
+                      (
+                        free,
+                        (
+                          sequence,
+                          (
+                            branch,
+                            (
+                              while,
+                              (
+                                letIn,
+                                (
+                                  takeAddress,
+                                  (
+                                    takeValue,
+                                    (
+                                      takeOperation,
+                                      (
+                                        takeQuery,
+                                        (
+                                          takeNot,
+                                          (
+                                            branchOn,
+                                            (
+                                              assertOn,
+                                              (storeBlock, (deleteBlock, (initialise, tt))),
+                                            ),
+                                          ),
+                                        ),
+                                      ),
+                                    ),
+                                  ),
+                                ),
+                              ),
+                            ),
+                          ),
+                        ),
+                      ),
+                    ),
+                  ),
+                ),
+              ),
+            ),
+          ),
+        ),
+      ),
+    ),
+  ),
+)
 
 -- the view of a kind that its language has
 pub kind-view : (l : Language) (k : ℕ) (f : Form) → formOf l k ≡ some f → KindOf l (f .sort) k

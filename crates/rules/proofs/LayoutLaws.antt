@@ -82,14 +82,14 @@ recorded-back recorded.Dead h = refl
 
 cell-back : (c : Cell) → FitsCell c
     → cellFrom (getD (cellBytes c) 0 0) (getD (cellBytes c) 1 0) (getD (cellBytes c) 2 0)
-        (integerAt (cellBytes c) 8) ≡ c
+    (integerAt (cellBytes c) 8) ≡ c
 unfolding cellBytes wordAt digits
 cell-back cell.Free h = refl
 cell-back (cell.Holds o value.Undefined) h = refl
 cell-back (cell.Holds o (value.Integer z)) h = ap (λ (x : ℤ). cell.Holds o (value.Integer x)) (integer-value z (h .1))
 cell-back (cell.Holds o (value.Pointer p)) h =
     ap (λ (x : ℤ). cell.Holds o (value.Pointer (record { name = p .name; offset = x })))
-      (integer-value (p .offset) (h .1 .1))
+    (integer-value (p .offset) (h .1 .1))
 
 mark-back : (b : Bool) → eqb (getD (markBytes b) 0 0) 1 ≡ b
 mark-back true = refl
@@ -101,16 +101,22 @@ pub length-memoryImage : (m : Memory) → length (m .blocks) ≡ nameCount → l
 unfolding memoryImage
 length-memoryImage m e h =
     length-append (flat blockBytes (m .blocks)) (flat cellBytes (m .cells))
-    ∙ omega (arith, length-flat blockBytes 8 length-blockBytes (m .blocks),
-      length-flat cellBytes 16 length-cellBytes (m .cells))
+    ∙ omega (
+      arith,
+      length-flat blockBytes 8 length-blockBytes (m .blocks),
+      length-flat cellBytes 16 length-cellBytes (m .cells),
+    )
 
 pub length-observationImage : (o : Observation) → length (o .blocks) ≡ nameCount → length (o .marks) ≡ cellCount
     → length (observationImage o) ≡ observationLength
 unfolding observationImage
 length-observationImage o e h =
     length-append (flat recordedBytes (o .blocks)) (flat markBytes (o .marks))
-    ∙ omega (arith, length-flat recordedBytes 8 length-recordedBytes (o .blocks),
-      length-flat markBytes 1 length-markBytes (o .marks))
+    ∙ omega (
+      arith,
+      length-flat recordedBytes 8 length-recordedBytes (o .blocks),
+      length-flat markBytes 1 length-markBytes (o .marks),
+    )
 
 -- ---- bytes
 bytes-flat : {A : Type 0} (P : A → Type 0) (f : A → List ℕ) → ((x : A) → P x → Bytes (f x)) → {xs : List A} → All P xs
@@ -123,7 +129,7 @@ bytes-record : (s first n : ℕ) → s < 256 → Bytes (blockRecord s first n)
 bytes-record s first n h =
     let zero-byte : 0 < 256 = omega arith in
     more-bytes h (more-bytes zero-byte (bytes-append (bytes-append (bytes-digits 2 first) (bytes-digits 2 n))
-      (more-bytes zero-byte (more-bytes zero-byte no-bytes))))
+    (more-bytes zero-byte (more-bytes zero-byte no-bytes))))
 
 bytes-block : (b : Block) → FitsBlock b → Bytes (blockBytes b)
 unfolding blockBytes
@@ -142,7 +148,7 @@ bytes-cellRecord : (k o n : ℕ) (z : ℤ) → k < 256 → o < 256 → n < 256 �
 bytes-cellRecord k o n z a b c =
     let zero-byte : 0 < 256 = omega arith in
     more-bytes a (more-bytes b (more-bytes c (more-bytes zero-byte (more-bytes zero-byte (more-bytes zero-byte
-      (more-bytes zero-byte (more-bytes zero-byte (bytes-digits 8 (ofZ w64 z)))))))))
+    (more-bytes zero-byte (more-bytes zero-byte (bytes-digits 8 (ofZ w64 z)))))))))
 
 bytes-cell : (c : Cell) → FitsCell c → Bytes (cellBytes c)
 unfolding cellBytes
@@ -165,7 +171,7 @@ pub bytes-memoryImage : (m : Memory) → FitsMemory m → Bytes (memoryImage m)
 unfolding memoryImage
 bytes-memoryImage m h =
     bytes-append (bytes-flat FitsBlock blockBytes bytes-block (h .blocks-fit))
-      (bytes-flat FitsCell cellBytes bytes-cell (h .cells-fit))
+    (bytes-flat FitsCell cellBytes bytes-cell (h .cells-fit))
 
 pub bytes-observationImage : (o : Observation) → FitsObservation o → Bytes (observationImage o)
 unfolding observationImage
@@ -178,7 +184,7 @@ record-back : {A : Type 0} (P : A → Type 0) (f : A → List ℕ) (from : ℕ �
     → ((x : A) → P x → from (getD (f x) 0 0) (wordAt 2 (f x) 2) (wordAt 2 (f x) 4) ≡ x)
     → (xs : List A) (d : A) (behind : List ℕ) (k : ℕ) → All P xs → P d → k < length xs
     → from (getD (flat f xs ++ behind) (blockPlace k) 0) (wordAt 2 (flat f xs ++ behind) (blockPlace k + 2))
-        (wordAt 2 (flat f xs ++ behind) (blockPlace k + 4)) ≡ getD xs k d
+    (wordAt 2 (flat f xs ++ behind) (blockPlace k + 4)) ≡ getD xs k d
 record-back P f from wide back xs d behind k all h l =
     let x = row-byte f 8 wide [] xs behind k d l (blockPlace k) 0 (omega arith) (omega arith) in
     let y = row-word f 8 wide [] xs behind k d l 2 (blockPlace k + 2) 2 (omega arith) (omega arith) in
@@ -194,7 +200,7 @@ module _ (m : Memory) (fits : FitsMemory m) where
   unfolding blockAt memoryImage
   image-block k h =
       record-back FitsBlock blockBytes blockFrom length-blockBytes block-back (m .blocks) block.Dead
-        (flat cellBytes (m .cells)) k (fits .blocks-fit) tt (omega (arith, fits .block-count))
+      (flat cellBytes (m .cells)) k (fits .blocks-fit) tt (omega (arith, fits .block-count))
 
   pub image-cell : (i : ℕ) → i < cellCount → cellAt (memoryImage m) i ≡ getD (m .cells) i cell.Free
   unfolding cellAt memoryImage
@@ -208,21 +214,22 @@ module _ (m : Memory) (fits : FitsMemory m) where
       let y = byte (cellPlace i + 1) 1 (omega arith) (omega arith) in
       let z = byte (cellPlace i + 2) 2 (omega arith) (omega arith) in
       let w = row-word cellBytes 16 length-cellBytes front (m .cells) [] i cell.Free l 8
-        (cellPlace i + 8) 8 (omega arith) (omega arith) in
+      (cellPlace i + 8) 8 (omega arith) (omega arith) in
       rw (← e, x, y, z, w) (cell-back (getD (m .cells) i cell.Free) (all-getD (fits .cells-fit) i cell.Free tt))
 
   pub memory-back : memoryOf (memoryImage m) ≡ m
   unfolding memoryOf
   memory-back = λ t. record {
     blocks = table-list nameCount (blockAt (memoryImage m)) (m .blocks) block.Dead (fits .block-count) image-block t;
-    cells = table-list cellCount (cellAt (memoryImage m)) (m .cells) cell.Free (fits .cell-count) image-cell t }
+    cells = table-list cellCount (cellAt (memoryImage m)) (m .cells) cell.Free (fits .cell-count) image-cell t;
+  }
 
 module _ (o : Observation) (fits : FitsObservation o) where
   pub image-recorded : (k : ℕ) → k < nameCount → recordedAt (observationImage o) k ≡ getD (o .blocks) k recorded.Dead
   unfolding recordedAt observationImage
   image-recorded k h =
       record-back FitsRecorded recordedBytes recordedFrom length-recordedBytes recorded-back (o .blocks) recorded.Dead
-        (flat markBytes (o .marks)) k (fits .records-fit) tt (omega (arith, fits .record-count))
+      (flat markBytes (o .marks)) k (fits .records-fit) tt (omega (arith, fits .record-count))
 
   pub image-mark : (i : ℕ) → i < cellCount → markAt (observationImage o) i ≡ getD (o .marks) i false
   unfolding markAt observationImage
@@ -230,15 +237,16 @@ module _ (o : Observation) (fits : FitsObservation o) where
       let front : List ℕ = flat recordedBytes (o .blocks) in
       let l : i < length (o .marks) = omega (arith, fits .mark-count) in
       let s : length front ≡ 2040 =
-        records-length recordedBytes (o .blocks) length-recordedBytes (fits .record-count) in
+      records-length recordedBytes (o .blocks) length-recordedBytes (fits .record-count) in
       let e = append-nil (flat markBytes (o .marks)) in
       let x = row-byte markBytes 1 length-markBytes front (o .marks) [] i false l
-        (markPlace i) 0 (omega arith) (omega arith) in
+      (markPlace i) 0 (omega arith) (omega arith) in
       rw (← e, x) (mark-back (getD (o .marks) i false))
 
   pub observation-back : observationOf (observationImage o) ≡ o
   unfolding observationOf
   observation-back = λ t. record {
     blocks = table-list nameCount (recordedAt (observationImage o)) (o .blocks) recorded.Dead (fits .record-count)
-      image-recorded t;
-    marks = table-list cellCount (markAt (observationImage o)) (o .marks) false (fits .mark-count) image-mark t }
+        image-recorded t;
+    marks = table-list cellCount (markAt (observationImage o)) (o .marks) false (fits .mark-count) image-mark t;
+  }

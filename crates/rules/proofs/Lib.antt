@@ -6,7 +6,6 @@ pub mod SearchLaws
 pub mod Lists
 pub mod WordLaws
 pub mod Rows
-
 -- Acceptance, and the trees of accepted tables.
 pub mod Sound
 pub mod ParentLaws
@@ -25,7 +24,6 @@ pub mod SoundTargets
 pub mod Counting
 pub mod TreeSizes
 pub mod SizeBound
-
 -- Emission: what is emitted is accepted and read back.
 pub mod SoundTranslation
 pub mod RecordBytes
@@ -39,7 +37,6 @@ pub mod ShapeLaws
 pub mod ScopeKept
 pub mod TargetAccepted
 pub mod TranslatedTables
-
 -- Runs: how they end, their fuel, a while by its turns, past false assertions.
 pub mod Keeping
 pub mod Operations
@@ -51,7 +48,6 @@ pub mod Endings
 pub mod Fuel
 pub mod Turns
 pub mod PastRun
-
 -- Memories: what every change keeps.
 pub mod MemoryLaws
 pub mod Invariant
@@ -61,7 +57,6 @@ pub mod PlainKept
 pub mod WatchedKept
 pub mod Totals
 pub mod Orderly
-
 -- Layouts: what fits, and is read back from its bytes.
 pub mod Fits
 pub mod FitsLaws
@@ -71,7 +66,6 @@ pub mod FittingValues
 pub mod KeptPredicates
 pub mod Reachable
 pub mod ReachableRoundTrip
-
 -- What the code's proofs use: changes of one record, runs of free places, tables with bytes behind them, expressions
 -- of both languages, statements kind by kind.
 pub mod FillLaws
@@ -80,14 +74,12 @@ pub mod RunLaws
 pub mod Padding
 pub mod SharedExpressions
 pub mod PlainArms
-
 -- Simulation: the translation runs as its source does.
 pub mod Mirror
 pub mod PredicateSimulation
 pub mod StatementSteps
 pub mod BlockSteps
 pub mod Simulation
-
 -- The claim, from the start on; what is worked out on paper, and where people err.
 pub mod Start
 pub mod StartObservation

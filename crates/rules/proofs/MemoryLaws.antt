@@ -99,7 +99,7 @@ unfolding allFree
 allFree-all p s zero h = refl
 allFree-all p s (suc n) h =
     rw (h s (omega arith) (omega arith), allFree)
-      (allFree-all p (suc s) n (λ i a b. h i (omega arith) (omega arith)))
+    (allFree-all p (suc s) n (λ i a b. h i (omega arith) (omega arith)))
 
 pub allFree-taken : (p : ℕ → Bool) (s n : ℕ) → p s ≡ false → allFree p s (suc n) ≡ false
 unfolding allFree

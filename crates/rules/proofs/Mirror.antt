@@ -72,7 +72,7 @@ mirror-initialise m p i v d e =
 pub mirror-store : (m : Memory) (u : Use) (n k first : ℕ) → Invariant m → blockOf m k ≡ block.Unused
     → freeRun m (suc n) ≡ search.At first
     → storeBlock (mirror m) (pointerTo k 0) (value.Integer (pos (suc n)))
-      ≡ noted (mirror (withBlock m u k first (suc n)))
+    ≡ noted (mirror (withBlock m u k first (suc n)))
 mirror-store m u n k first y e g =
     (λ j. storeAt (mirror m) k (suc n) (unused j) (run j))
     ∙ (λ j. noted (record { blocks = blocks j; marks = marks j }))

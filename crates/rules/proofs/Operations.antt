@@ -44,7 +44,7 @@ divided-fits rounded x y = pick (eqb (natAbs y) 0)
 
 module _ (G : Value → Type 0) (C : ℕ → Type 0) (numbers : (z : ℤ) → inRange z ≡ true → G (values.Integer z))
     (moves : (p : Pointer) (z : ℤ) → G (values.Pointer p) → inRange z ≡ true
-      → G (values.Pointer (record { name = p .name; offset = z })))
+    → G (values.Pointer (record { name = p .name; offset = z })))
     (stops : (c : ℕ) → Late 48 c → C c) where
   stopNumber-gives : (is : ℤ → Evaluated) (n : Number) → FitsNumber n
       → ((z : ℤ) → inRange z ≡ true → Gives G C (is z)) → Gives G C (stopNumber is evaluated.Stopped n)
@@ -124,4 +124,4 @@ module _ (G : Value → Type 0) (C : ℕ → Type 0) (numbers : (z : ℤ) → in
   pub opposite-gives : (v : Value) → Gives G C (opposite v)
   opposite-gives v =
       on-test (Gives G C) C evaluated.Stopped (λ c x. x) (tested v) _ _ (tested-stops v)
-        (truth-gives false) (truth-gives true)
+      (truth-gives false) (truth-gives true)

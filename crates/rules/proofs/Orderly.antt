@@ -81,7 +81,8 @@ orderly {m} {m₁} h = record {
   sum = total m₁ (h .invariant);
   separate = apart m₁ (h .invariant);
   given = λ k e. becomes-given (blockOf m k) (blockOf m₁ k) (h .becomes k) e;
-  dead = λ k e. rw e at (h .becomes k) }
+  dead = λ k e. rw e at (h .becomes k);
+}
 
 pub plain-orderly : (a : Statement) (ρ : Variables) (m : Memory) (f : ℕ) → Invariant m
     → Orderly m (memoryAfter (run a ρ m f))
@@ -107,4 +108,4 @@ pub never-twice : (m m₁ m₂ m₃ : Memory) (u u₂ : Use) (n n₂ k : ℕ) �
     → makeBlock m₂ u₂ n₂ ≡ made k m₃ → ⊥
 never-twice m m₁ m₂ m₃ u u₂ n n₂ k y y₂ e h e₂ =
     true≢false
-      (sym (ap isUnused (made-unused m₂ m₃ u₂ n₂ k y₂ e₂)) ∙ h k (made-given m m₁ u n k y e))
+    (sym (ap isUnused (made-unused m₂ m₃ u₂ n₂ k y₂ e₂)) ∙ h k (made-given m m₁ u n k y e))

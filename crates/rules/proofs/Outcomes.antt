@@ -47,8 +47,8 @@ module _ (I : Memory → ℕ → Type 0) (E : ℕ → Type 0) where
   turns-keeps s holds body e down h b (suc g) m zero i = (e, i)
   turns-keeps s holds body e down h b (suc g) m (suc f) i =
       decide-keeps s (holds m) _ plain.finished m f (h m (suc f) i) (down m f i)
-        (next-keeps (body m f) _ (b m f (down m f i)) (λ m₂ f₂ i₂. turns-keeps s holds body e down h b g m₂ f₂ i₂))
-        (down m f i)
+      (next-keeps (body m f) _ (b m f (down m f i)) (λ m₂ f₂ i₂. turns-keeps s holds body e down h b g m₂ f₂ i₂))
+      (down m f i)
 
   pub inLet-keeps : (K : ℕ → Memory → Type 0) (s : ℕ) (m : Memory) (f : ℕ) (x : Made) (body : ℕ → Memory → ℕ → Outcome)
       → I m f → MadeKeeps K E x → ((k : ℕ) (m₁ : Memory) → K k m₁ → Outcomes I E (body k m₁ f))
@@ -103,15 +103,15 @@ module _ (I : State) (E : ℕ → Type 0) where
   watched-turns s holds body e down h b (suc g) m o τ zero i = (e, i)
   watched-turns s holds body e down h b (suc g) m o τ (suc f) i =
       watched-decide s (holds τ m) _ watched.finished m o τ f (h m o τ (suc f) i) (down m o τ f i)
-        (watched-next (body m o τ f) _ (b m o τ f (down m o τ f i))
-          (λ m₂ o₂ τ₂ f₂ i₂. watched-turns s holds body e down h b g m₂ o₂ τ₂ f₂ i₂))
-        (down m o τ f i)
+      (watched-next (body m o τ f) _ (b m o τ f (down m o τ f i))
+      (λ m₂ o₂ τ₂ f₂ i₂. watched-turns s holds body e down h b g m₂ o₂ τ₂ f₂ i₂))
+      (down m o τ f i)
 
   pub watched-inLet : (K : ℕ → Memory → Type 0) (s : ℕ) (x : Made) (body : ℕ → Watching) (m : Memory) (o : Observation)
       (τ : Temporaries) (f : ℕ) → I m o τ f → MadeKeeps K E x
       → ((k : ℕ) (m₁ : Memory) → K k m₁ → WatchedOutcomes I E (body k m₁ o τ f))
       → ((k : ℕ) (m₁ : Memory) → K k m₁ → (m₂ : Memory) (o₂ : Observation) (τ₂ : Temporaries) (f₂ : ℕ)
-        → I m₂ o₂ τ₂ f₂ → I (endBlock m₂ k) o₂ τ₂ f₂)
+      → I m₂ o₂ τ₂ f₂ → I (endBlock m₂ k) o₂ τ₂ f₂)
       → WatchedOutcomes I E (watched.inLet s x body m o τ f)
   watched-inLet K s (unmade c) body m o τ f i h b g = (h, i)
   watched-inLet K s (made k m₁) body m o τ f i h b g =

@@ -79,6 +79,7 @@ module _ (t z : List ℕ) where
     where
       e : recordAt (t ++ z) n ≡ recordAt t n
       e = record-padded n p q
+
       by-form : (o : Option Form) → faultOf l (t ++ z) n o ≡ faultOf l t n o
       by-form none = refl
       by-form (some f) =
@@ -93,7 +94,7 @@ module _ (t z : List ℕ) where
       let r = record-padded (suc n) (omega arith) q in
       let f = fault-padded l (suc n) (omega arith) q in
       let w : leb (suc n) (recordCount (t ++ z)) ≡ leb (suc n) (recordCount t) =
-        le-leb (suc n) (recordCount (t ++ z)) (omega (arith, length-append t z)) ∙ sym (le-leb (suc n) (recordCount t) q) in
+      le-leb (suc n) (recordCount (t ++ z)) (omega (arith, length-append t z)) ∙ sym (le-leb (suc n) (recordCount t) q) in
       λ i. from (w i) (f i) (r i)
     where
       from : Bool → ℕ → Record → NodeOf l

@@ -51,13 +51,13 @@ module _ (l : Language) (t : List ℕ) (m : ℕ) where
       → 0 < timesOf (some f) r c → (0 < c) × (c < m)
   in-fields f r c p q h =
       let ps = five-pass (fieldFits (f .mark) (r .mark)) (fieldFits (f .a) (r .a)) (fieldFits (f .b) (r .b))
-        (fieldFits (f .c) (r .c)) (literalFits (f .literal) (r .literal)) p in
+      (fieldFits (f .c) (r .c)) (literalFits (f .literal) (r .literal)) p in
       let qs = three-pass (childFits l t m (f .a) (r .a)) (childFits l t m (f .b) (r .b))
-        (childFits l t m (f .c) (r .c)) q in
+      (childFits l t m (f .c) (r .c)) q in
       go (decLt 0 (timesIn (f .a) (r .a) c)) (decLt 0 (timesIn (f .b) (r .b) c))
-        (in-field (f .a) (r .a) c (ps .1) (qs .0))
-        (in-field (f .b) (r .b) c (ps .2) (qs .1))
-        (in-field (f .c) (r .c) c (ps .3) (qs .2))
+      (in-field (f .a) (r .a) c (ps .1) (qs .0))
+      (in-field (f .b) (r .b) c (ps .2) (qs .1))
+      (in-field (f .c) (r .c) c (ps .3) (qs .2))
     where
       go : Dec (0 < timesIn (f .a) (r .a) c) → Dec (0 < timesIn (f .b) (r .b) c)
           → (0 < timesIn (f .a) (r .a) c → (0 < c) × (c < m)) → (0 < timesIn (f .b) (r .b) c → (0 < c) × (c < m))
@@ -124,13 +124,13 @@ module _ (l : Language) (t : List ℕ) (c : ℕ) where
   unfolding parentOf
   parent-lowest n p q h f =
       lowest-at (λ m. ltb 0 (timesChildOf l t m c)) 1 (recordCount t) n p (omega arith) (lt-ltb 0 _ h)
-        (λ i a b. le-ltb 0 (timesChildOf l t i c) (omega (arith, f i a b)))
+      (λ i a b. le-ltb 0 (timesChildOf l t i c) (omega (arith, f i a b)))
 
   pub parent-none : ((i : ℕ) → 1 ≤ i → i ≤ recordCount t → timesChildOf l t i c ≡ 0) → parentOf l t c ≡ search.Nothing
   unfolding parentOf
   parent-none f =
       lowest-nothing (λ m. ltb 0 (timesChildOf l t m c)) 1 (recordCount t)
-        (λ i a b. le-ltb 0 (timesChildOf l t i c) (omega (arith, f i a (omega arith))))
+      (λ i a b. le-ltb 0 (timesChildOf l t i c) (omega (arith, f i a (omega arith))))
 
 -- what 6 asks of another record than the last
 once-of : (l : Language) (t : List ℕ) (c : ℕ) → eqb c (recordCount t) ≡ false → shapeFault l t c ≡ false
@@ -150,7 +150,7 @@ pub record Parent (l : Language) (t : List ℕ) (c : ℕ) : Type 0 where
 pub parent-is : (l : Language) (t : List ℕ) (m c : ℕ) → parentOf l t c ≡ search.At m → IsParent l t m c
 parent-is l t m c e =
     let h : (1 ≤ m) × (m < 1 + recordCount t) × (ltb 0 (timesChildOf l t m c) ≡ true) =
-        subst (Outcome (λ m. ltb 0 (timesChildOf l t m c)) 1 (recordCount t)) e (parent-outcome l t c) in
+    subst (Outcome (λ m. ltb 0 (timesChildOf l t m c)) 1 (recordCount t)) e (parent-outcome l t c) in
     record { in-table = omega arith; has-child = ltb-true 0 (timesChildOf l t m c) (h .2) }
 
 -- how often c is a child of n, by the fields
@@ -180,17 +180,20 @@ module _ (l : Language) (t : List ℕ) (n : ℕ) (f : Form) (s : Sort) (is-form 
   pub parent-a : f .a ≡ child s → IsParent l t n (childA t n)
   parent-a e = record {
     in-table = in-table;
-    has-child = omega (arith, times-of (childA t n), times-self (f .a) (childA t n) e) }
+    has-child = omega (arith, times-of (childA t n), times-self (f .a) (childA t n) e);
+  }
 
   pub parent-b : f .b ≡ child s → IsParent l t n (childB t n)
   parent-b e = record {
     in-table = in-table;
-    has-child = omega (arith, times-of (childB t n), times-self (f .b) (childB t n) e) }
+    has-child = omega (arith, times-of (childB t n), times-self (f .b) (childB t n) e);
+  }
 
   pub parent-c : f .c ≡ child s → IsParent l t n (childC t n)
   parent-c e = record {
     in-table = in-table;
-    has-child = omega (arith, times-of (childC t n), times-self (f .c) (childC t n) e) }
+    has-child = omega (arith, times-of (childC t n), times-self (f .c) (childC t n) e);
+  }
 
 module _ (l : Language) (t : List ℕ) (keeps : Passed l t) where
   pub parent-above : (m c : ℕ) → IsParent l t m c → (0 < c) × (c < m)
@@ -205,14 +208,22 @@ module _ (l : Language) (t : List ℕ) (keeps : Passed l t) where
   parent-of-child m c h =
       let below : (0 < c) × (c < m) = parent-above m c h in
       parent-lowest l t c m (h .in-table .0) (h .in-table .1) (h .has-child)
-        (λ i a b. omega (arith, times-both l t c i m (recordCount t) a b (h .in-table .1), h .has-child,
-          child-once c (below .0) (omega arith)))
+      (λ i a b. omega (
+        arith,
+        times-both l t c i m (recordCount t) a b (h .in-table .1),
+        h .has-child,
+        child-once c (below .0) (omega arith),
+      ))
 
   pub child-single : (m c : ℕ) → IsParent l t m c → timesChildOf l t m c ≡ 1
   child-single m c h =
       let below = parent-above m c h in
-      omega (arith, h .has-child, times-least l t c m (recordCount t) (h .in-table .0) (h .in-table .1),
-        child-once c (below .0) (omega (arith, below .1, h .in-table .1)))
+      omega (
+        arith,
+        h .has-child,
+        times-least l t c m (recordCount t) (h .in-table .0) (h .in-table .1),
+        child-once c (below .0) (omega (arith, below .1, h .in-table .1)),
+      )
 
   -- the last record is no child, and has no parent
   not-child : (n : ℕ) → recordCount t ≤ n → (i : ℕ) → 1 ≤ i → i ≤ recordCount t → timesChildOf l t i n ≡ 0
@@ -235,10 +246,15 @@ module _ (l : Language) (t : List ℕ) (keeps : Passed l t) where
       go : (s : Search) → Outcome (λ m. ltb 0 (timesChildOf l t m c)) 1 (recordCount t) s → Parent l t c
       go (search.At m) h = record {
         number = m;
-        is-parent = record { in-table = omega arith; has-child = ltb-true 0 (timesChildOf l t m c) (h .2) } }
+        is-parent = record { in-table = omega arith; has-child = ltb-true 0 (timesChildOf l t m c) (h .2) };
+      }
       go search.Nothing h =
-          absurd (omega (arith, child-once c p q, times-none l t c (recordCount t)
-            (λ i a b. omega (arith, ltb-false 0 (timesChildOf l t i c) (h i a (omega arith))))))
+          absurd (omega (
+            arith,
+            child-once c p q,
+            times-none l t c (recordCount t)
+                (λ i a b. omega (arith, ltb-false 0 (timesChildOf l t i c) (h i a (omega arith)))),
+          ))
 
   -- every record is reached from the last by going to children
   pub by-descent : (P : ℕ → Type 0) → P (recordCount t) → ((m c : ℕ) → IsParent l t m c → P m → P c)
@@ -247,6 +263,7 @@ module _ (l : Language) (t : List ℕ) (keeps : Passed l t) where
     where
       here : (n : ℕ) → n ≤ recordCount t → recordCount t ≤ n → P n
       here n q h = subst P (omega arith) last
+
       over : (d n : ℕ) → 1 ≤ n → n ≤ recordCount t → recordCount t ≤ n + suc d
           → ((m : ℕ) → 1 ≤ m → m ≤ recordCount t → recordCount t ≤ m + d → P m) → Dec (n < recordCount t) → P n
       over d n p q h f (no r) = here n q (omega arith)
@@ -255,6 +272,7 @@ module _ (l : Language) (t : List ℕ) (keeps : Passed l t) where
           let m : ℕ = above .number in
           let is : IsParent l t m n = above .is-parent in
           down m n is (f m (is .in-table .0) (is .in-table .1) (omega (arith, parent-above m n is)))
+
       reach : (d n : ℕ) → 1 ≤ n → n ≤ recordCount t → recordCount t ≤ n + d → P n
       reach zero n p q h = here n q (omega arith)
       reach (suc d) n p q h = over d n p q h (λ m a b e. reach d m a b e) (decLt n (recordCount t))

@@ -48,9 +48,9 @@ turns-is zero s holds k kp h m f = refl
 turns-is (suc g) s holds k kp h m zero = refl
 turns-is (suc g) s holds k kp h m (suc f) =
     decide-is s (holds m) _ _ _ _
-      (λ m₁ f₁. next-is (k m₁ f₁) _ _ (turns-is g s holds k kp h)
-        ∙ ap (λ o. next o (λ m₂ f₂. turns g s holds kp m₂ f₂)) (h m₁ f₁))
-      (λ m₁ f₁. refl) m f
+    (λ m₁ f₁. next-is (k m₁ f₁) _ _ (turns-is g s holds k kp h)
+    ∙ ap (λ o. next o (λ m₂ f₂. turns g s holds kp m₂ f₂)) (h m₁ f₁))
+    (λ m₁ f₁. refl) m f
 
 let-is : (s : ℕ) (m : Memory) (f : ℕ) (r : Made) (b : ℕ → Memory → ℕ → PastOutcome) (bp : ℕ → Memory → ℕ → Outcome)
     → ((k : ℕ) → Follows (b k) (bp k)) → atFirstFalse (inLetPast s m f r b) ≡ inLet s m f r bp
@@ -74,7 +74,7 @@ past-is (sequence s a b) ρ m f =
     ∙ ap (λ o. next o (λ m₁ f₁. run b ρ m₁ f₁)) (past-is a ρ m f)
 past-is (branch s e a b) ρ m f =
     decide-is s (condition (evaluateSource e ρ m)) _ _ _ _
-      (λ m₁ f₁. past-is a ρ m₁ f₁) (λ m₁ f₁. past-is b ρ m₁ f₁) m f
+    (λ m₁ f₁. past-is a ρ m₁ f₁) (λ m₁ f₁. past-is b ρ m₁ f₁) m f
 past-is (while s e b) ρ m f = turns-is f s _ _ _ (λ m₁ f₁. past-is b ρ m₁ f₁) m f
 past-is (letIn s x b) ρ m f = let-is s m f (makeBlock m fixed 1) _ _ (λ k m₁ f₁. past-is b (extend ρ x k) m₁ f₁)
 past-is (assert s p) ρ m f = assert-is s m f (condition (evaluatePredicate p ρ m))

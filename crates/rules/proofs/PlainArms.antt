@@ -99,15 +99,15 @@ module _ (t : List ℕ) (n : ℕ) (h : HasSort statement t n) where
 
     pub run-assign : kindOf t n ≡ 41
         → run (statementAt t n) ρ m f
-          ≡ after n f (assigned m (findSource (placeAt t (childA t n)) ρ m)
-            (evaluateSource (expressionAt t (childB t n)) ρ m))
+        ≡ after n f (assigned m (findSource (placeAt t (childA t n)) ρ m)
+        (evaluateSource (expressionAt t (childB t n)) ρ m))
     unfolding run
     run-assign e = run-kind 41 e
 
     pub run-new : kindOf t n ≡ 42
         → run (statementAt t n) ρ m f
-          ≡ after n f (allocated m (findSource (placeAt t (childA t n)) ρ m)
-            (evaluateSource (expressionAt t (childB t n)) ρ m))
+        ≡ after n f (allocated m (findSource (placeAt t (childA t n)) ρ m)
+        (evaluateSource (expressionAt t (childB t n)) ρ m))
     unfolding run
     run-new e = run-kind 42 e
 
@@ -118,21 +118,21 @@ module _ (t : List ℕ) (n : ℕ) (h : HasSort statement t n) where
 
     pub run-sequence : kindOf t n ≡ 44
         → run (statementAt t n) ρ m f
-          ≡ next (run (statementAt t (childA t n)) ρ m f) (λ m₁ f₁. run (statementAt t (childB t n)) ρ m₁ f₁)
+        ≡ next (run (statementAt t (childA t n)) ρ m f) (λ m₁ f₁. run (statementAt t (childB t n)) ρ m₁ f₁)
     unfolding run
     run-sequence e = run-kind 44 e
 
     pub run-branch : kindOf t n ≡ 45
         → run (statementAt t n) ρ m f
-          ≡ decide n (condition (evaluateSource (expressionAt t (childA t n)) ρ m))
-            (λ m₁ f₁. run (statementAt t (childB t n)) ρ m₁ f₁) (λ m₁ f₁. run (statementAt t (childC t n)) ρ m₁ f₁) m f
+        ≡ decide n (condition (evaluateSource (expressionAt t (childA t n)) ρ m))
+        (λ m₁ f₁. run (statementAt t (childB t n)) ρ m₁ f₁) (λ m₁ f₁. run (statementAt t (childC t n)) ρ m₁ f₁) m f
     unfolding run
     run-branch e = run-kind 45 e
 
     pub run-let : kindOf t n ≡ 47
         → run (statementAt t n) ρ m f
-          ≡ inLet n m f (makeBlock m fixed 1)
-            (λ k m₁ f₁. run (statementAt t (childA t n)) (extend ρ (markOf t n) k) m₁ f₁)
+        ≡ inLet n m f (makeBlock m fixed 1)
+        (λ k m₁ f₁. run (statementAt t (childA t n)) (extend ρ (markOf t n) k) m₁ f₁)
     unfolding run
     run-let e = run-kind 47 e
 
@@ -148,16 +148,16 @@ module _ (t : List ℕ) (n : ℕ) (h : HasSort statement t n) where
 
   pub run-while-suc : kindOf t n ≡ 46 → (ρ : Variables) (m : Memory) (f : ℕ)
       → run (statementAt t n) ρ m (suc f)
-        ≡ decide n (condition (evaluateSource (expressionAt t (childA t n)) ρ m))
-          (λ m₁ f₁. next (run (statementAt t (childB t n)) ρ m₁ f₁) (λ m₂ f₂. run (statementAt t n) ρ m₂ f₂))
-          finished m f
+      ≡ decide n (condition (evaluateSource (expressionAt t (childA t n)) ρ m))
+      (λ m₁ f₁. next (run (statementAt t (childB t n)) ρ m₁ f₁) (λ m₂ f₂. run (statementAt t n) ρ m₂ f₂))
+      finished m f
   run-while-suc e ρ m f =
       run-kind ρ m (suc f) 46 e
       ∙ while-suc n (expressionAt t (childA t n)) (statementAt t (childB t n)) ρ m f
       ∙ sym (ap (λ (w : Statement).
-        decide n (condition (evaluateSource (expressionAt t (childA t n)) ρ m))
-          (λ m₁ f₁. next (run (statementAt t (childB t n)) ρ m₁ f₁) (λ m₂ f₂. run w ρ m₂ f₂)) finished m f)
-        (ap sourceStatement (form 46 e .node)))
+      decide n (condition (evaluateSource (expressionAt t (childA t n)) ρ m))
+      (λ m₁ f₁. next (run (statementAt t (childB t n)) ρ m₁ f₁) (λ m₂ f₂. run w ρ m₂ f₂)) finished m f)
+      (ap sourceStatement (form 46 e .node)))
 
   -- what the children keep
   module _ (σ : Scope) (s : SoundStatement (statementAt t n) σ) where

@@ -25,6 +25,7 @@ use Rattle.rules.specs.declared.Temporary.the-variants as temporaries
 -- a source expression gives the same in the target, whatever the temporaries hold
 mutual
   unfolding evaluate embed
+
   pub embed-is : (e : Expression ⊥) (τ : Temporaries) (ρ : Variables) (m : Memory)
       → evaluate (embed e) (temporaryOf τ) ρ m ≡ evaluateSource e ρ m
   embed-is (literal z) τ ρ m = refl
@@ -84,7 +85,7 @@ module _ (s : ℕ) (m : Memory) (o : Observation) (f : ℕ) where
       (kw : Watching)
       → Gives n₁ s τ m o f r w
       → ((v : Value) (τ₁ : Temporaries) → temporaryOf τ₁ n₁ ≡ temporaries.Holds v → Full τ₁ → Alike n₁ τ₁ τ
-          → Gives n s τ m o f (kr v) (kw m o τ₁ f))
+      → Gives n s τ m o f (kr v) (kw m o τ₁ f))
       → Gives n s τ m o f (onValue r evaluated.Stopped kr) (next w kw)
   gives-next kr kw (gives {v} {τ₁} h l p) g = g v τ₁ h l p
   gives-next kr kw stops g = stops
@@ -119,7 +120,7 @@ module _ (s : ℕ) (m : Memory) (o : Observation) (f : ℕ) where
       → temporaryOf τ₁ (suc n) ≡ temporaries.Holds v → temporaryOf τ₂ (suc (suc n)) ≡ temporaries.Holds u → Full τ₂
       → Alike (suc (suc n)) τ₂ τ₁
       → Gives n s τ₁ m o f (operate q v u)
-          (taken s n (operated q (heldIn τ₂ (suc n)) (heldIn τ₂ (suc (suc n)))) m o τ₂ f)
+      (taken s n (operated q (heldIn τ₂ (suc n)) (heldIn τ₂ (suc (suc n)))) m o τ₂ f)
   gives-operation q n v u τ₁ τ₂ b h g l p =
       rw (p (suc n) (omega arith) ∙ h, g) (gives-taken n τ₁ τ₂ (operate q v u) b l (λ k c. p k (omega arith)))
 
@@ -127,7 +128,7 @@ module _ (s : ℕ) (m : Memory) (o : Observation) (f : ℕ) where
 gives-query : (q : Query) (s n : ℕ) (m : Memory) (f : ℕ) (v : Value) (τ τ₁ : Temporaries) → n < 64
     → temporaryOf τ₁ (suc n) ≡ temporaries.Holds v → Full τ₁ → Alike (suc n) τ₁ τ
     → Gives n s τ m (mirror m) f (queryMemory q m v)
-        (taken s n (onValue (heldIn τ₁ (suc n)) evaluated.Stopped (queryObservation q (mirror m))) m (mirror m) τ₁ f)
+    (taken s n (onValue (heldIn τ₁ (suc n)) evaluated.Stopped (queryObservation q (mirror m))) m (mirror m) τ₁ f)
 gives-query q s n m f v τ τ₁ b h l p =
     rw (h, mirror-query m q v) (gives-taken s m (mirror m) f n τ τ₁ (queryMemory q m v) b l (λ k c. p k (omega arith)))
 
@@ -139,12 +140,12 @@ term-agrees (value e) σ ρ m s n τ f d l =
     rw (embed-is e τ ρ m) (gives-taken s m (mirror m) f n τ τ (evaluateSource e ρ m) (d .0) l (λ k b. refl))
 term-agrees (asked q t) σ ρ m s n τ f d l =
     gives-next s m (mirror m) f _ _ (term-agrees t σ ρ m s (suc n) τ f (d .1) l)
-      (λ v τ₁ h l₁ p. gives-query q s n m f v τ τ₁ (omega arith) h l₁ p)
+    (λ v τ₁ h l₁ p. gives-query q s n m f v τ τ₁ (omega arith) h l₁ p)
 term-agrees (combined o a b) σ ρ m s n τ f d l =
     gives-next s m (mirror m) f _ _ (term-agrees a σ ρ m s (suc n) τ f (d .1) l)
-      (λ v τ₁ h l₁ p. gives-from s m (mirror m) f (λ k c. p k (omega arith))
-        (gives-next s m (mirror m) f _ _ (term-agrees b σ ρ m s (suc (suc n)) τ₁ f (d .2) l₁)
-          (λ u τ₂ g l₂ q. gives-operation s m (mirror m) f o n v u τ₁ τ₂ (omega arith) h g l₂ q)))
+    (λ v τ₁ h l₁ p. gives-from s m (mirror m) f (λ k c. p k (omega arith))
+    (gives-next s m (mirror m) f _ _ (term-agrees b σ ρ m s (suc (suc n)) τ₁ f (d .2) l₁)
+    (λ u τ₂ g l₂ q. gives-operation s m (mirror m) f o n v u τ₁ τ₂ (omega arith) h g l₂ q)))
 
 pub predicate-agrees : (a : Predicate) (σ : Scope) (ρ : Variables) (m : Memory) (s n : ℕ) (τ : Temporaries) (f : ℕ)
     → SoundPredicate a σ n → Full τ
@@ -154,14 +155,14 @@ predicate-agrees (holds q t) σ ρ m s n τ f d l = term-agrees (asked q t) σ �
 predicate-agrees (compared o a b) σ ρ m s n τ f d l = term-agrees (combined o a b) σ ρ m s n τ f d l
 predicate-agrees (negated a) σ ρ m s n τ f d l =
     gives-next s m (mirror m) f _ _ (predicate-agrees a σ ρ m s (suc n) τ f (d .1) l)
-      (λ v τ₁ h l₁ p. gives-not s m (mirror m) f n v τ τ₁ (omega arith) h l₁ p)
+    (λ v τ₁ h l₁ p. gives-not s m (mirror m) f n v τ τ₁ (omega arith) h l₁ p)
 predicate-agrees (both a b) σ ρ m s n τ f d l =
     gives-next s m (mirror m) f _ _ (predicate-agrees a σ ρ m s n τ f (d .1) l)
-      (λ v τ₁ h l₁ p. gives-from s m (mirror m) f p
-        (gives-both s m (mirror m) f n τ₁ v (evaluatePredicate b ρ m) _ h l₁
-          (predicate-agrees b σ ρ m s n τ₁ f (d .2) l₁)))
+    (λ v τ₁ h l₁ p. gives-from s m (mirror m) f p
+    (gives-both s m (mirror m) f n τ₁ v (evaluatePredicate b ρ m) _ h l₁
+    (predicate-agrees b σ ρ m s n τ₁ f (d .2) l₁)))
 predicate-agrees (either a b) σ ρ m s n τ f d l =
     gives-next s m (mirror m) f _ _ (predicate-agrees a σ ρ m s n τ f (d .1) l)
-      (λ v τ₁ h l₁ p. gives-from s m (mirror m) f p
-        (gives-either s m (mirror m) f n τ₁ v (evaluatePredicate b ρ m) _ h l₁
-          (predicate-agrees b σ ρ m s n τ₁ f (d .2) l₁)))
+    (λ v τ₁ h l₁ p. gives-from s m (mirror m) f p
+    (gives-either s m (mirror m) f n τ₁ v (evaluatePredicate b ρ m) _ h l₁
+    (predicate-agrees b σ ρ m s n τ₁ f (d .2) l₁)))

@@ -46,7 +46,7 @@ numbersIn-range (suc n) i = also (integer-range (wordAt 8 i 0)) (numbersIn-range
 inputs-few : (i : List ℕ) → inputsFault i ≡ false → length (inputsOf i) ≤ inputLimit
 inputs-few i e =
     let t : ltb inputLimit (length i / 8) ≡ false =
-      last (not (eqb (length i % 8) 0) || eqb (length i) 0) (ltb inputLimit (length i / 8)) e in
+    last (not (eqb (length i % 8) 0) || eqb (length i) 0) (ltb inputLimit (length i / 8)) e in
     omega (arith, length-numbersIn (length i / 8) i, ltb-false inputLimit (length i / 8) t)
   where
     last : (a b : Bool) → a || b ≡ false → b ≡ false
@@ -74,13 +74,15 @@ pub shown : (m : Memory) → FitsMemory m → Shown m
 shown m h = record {
   image-length = length-memoryImage m (h .block-count) (h .cell-count);
   image-bytes = bytes-memoryImage m h;
-  image-back = memory-back m h }
+  image-back = memory-back m h;
+}
 
 pub observation-shown : (o : Observation) → FitsObservation o → ObservationShown o
 observation-shown o h = record {
   image-length = length-observationImage o (h .record-count) (h .mark-count);
   image-bytes = bytes-observationImage o h;
-  image-back = observation-back o h }
+  image-back = observation-back o h;
+}
 
 -- ---- the plain run
 after-kept : (J : Memory → Type 0) (x : Outcome) → Outcomes (Plainly J) AnyNumber x → J (memoryAfter x)
@@ -101,8 +103,8 @@ pub plain-inside : (t i : List ℕ) (f : ℕ) → SoundStatement (sourceProgram 
     → InsideMemory (memoryAfter (plainOutcome t i f))
 plain-inside t i f h e =
     after-kept InsideMemory (plainOutcome t i f)
-      (run-keeps InsideMemory inside-invariant (sourceProgram t) startScope h startVariables startVariables-fit
-        (startMemory (inputsOf i)) f (start-inside i e))
+    (run-keeps InsideMemory inside-invariant (sourceProgram t) startScope h startVariables startVariables-fit
+    (startMemory (inputsOf i)) f (start-inside i e))
 
 pub plain-round-trip : (t i : List ℕ) (f : ℕ) → SoundStatement (sourceProgram t) startScope → inputsFault i ≡ false
     → Shown (memoryAfter (plainOutcome t i f))
@@ -119,24 +121,26 @@ pub watch-fits : (a : TargetStatement) (σ : Scope) → SoundTarget a σ → (ρ
     → FitsMemory (watchedMemoryAfter (watch a ρ m o τ f)) × FitsObservation (observationAfter (watch a ρ m o τ f))
 watch-fits a σ h ρ r m o τ f i j k =
     both-kept FitsMemory FitsObservation (watch a ρ m o τ f)
-      (watch-keeps FitsMemory fits-invariant FitsObservation fits-observation-invariant a σ h ρ r m o τ f
-        (record { memory-kept = i; observation-kept = j; temporaries-fit = k }))
+    (watch-keeps FitsMemory fits-invariant FitsObservation fits-observation-invariant a σ h ρ r m o τ f
+    (record { memory-kept = i; observation-kept = j; temporaries-fit = k }))
 
 pub watched-inside : (t i : List ℕ) (f : ℕ) → SoundTarget (targetProgram t) startScope → inputsFault i ≡ false
     → InsideMemory (watchedMemoryAfter (watchedOutcome t i f))
     × InsideObservation (observationAfter (watchedOutcome t i f))
 watched-inside t i f h e =
     both-kept InsideMemory InsideObservation (watchedOutcome t i f)
-      (watch-keeps InsideMemory inside-invariant InsideObservation inside-observation-invariant (targetProgram t)
-        startScope h startVariables startVariables-fit (startMemory (inputsOf i)) (startObservation (length i / 8))
-        startTemporaries f (record {
-          memory-kept = start-inside i e;
-          observation-kept = startObservation-inside (length i / 8);
-          temporaries-fit = startTemporaries-fit }))
+    (watch-keeps InsideMemory inside-invariant InsideObservation inside-observation-invariant (targetProgram t)
+    startScope h startVariables startVariables-fit (startMemory (inputsOf i)) (startObservation (length i / 8))
+    startTemporaries f (record {
+      memory-kept = start-inside i e;
+      observation-kept = startObservation-inside (length i / 8);
+      temporaries-fit = startTemporaries-fit;
+    }))
 
 pub watched-round-trip : (t i : List ℕ) (f : ℕ) → SoundTarget (targetProgram t) startScope → inputsFault i ≡ false
     → Shown (watchedMemoryAfter (watchedOutcome t i f)) × ObservationShown (observationAfter (watchedOutcome t i f))
 watched-round-trip t i f h e =
-    let x = watched-inside t i f h e in
-    (shown (watchedMemoryAfter (watchedOutcome t i f)) (x .0 .memory-fits),
-    observation-shown (observationAfter (watchedOutcome t i f)) (x .1 .observation-fits))
+    let x = watched-inside t i f h e in (
+      shown (watchedMemoryAfter (watchedOutcome t i f)) (x .0 .memory-fits),
+      observation-shown (observationAfter (watchedOutcome t i f)) (x .1 .observation-fits),
+    )

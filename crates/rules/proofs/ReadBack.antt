@@ -60,13 +60,13 @@ module _ (t : List ℕ) (faultless : (j : ℕ) → 0 < j → j ≤ recordCount t
       → Holds (recordAt t) (node k m z x a b c) n → n + treeSize (node k m z x a b c) ≤ recordCount t
       → IsNode t a n A → IsNode t b (n + treeSize a) B
       → nodeIn target (nodes target t (n + treeSize (node k m z x a b c))) (fieldC c x (n + treeSize a + treeSize b))
-        ≡ C
+      ≡ C
       → nodesFit target (formOf target k) A B C ≡ true
       → IsNode t (node k m z x a b c) n (targetOf (natAbs z) (ownRecord k m z x a b c n) A B C)
   root-node k m z x a b c n A B C h s ea eb ec f =
       let j : ℕ = n + treeSize (node k m z x a b c) in
       built target t j (ownRecord k m z x a b c n) (h .3) (omega arith) s (faultless j (omega arith) s) A B C
-        (child-node a n j A (omega arith) ea, child-node b (n + treeSize a) j B (omega arith) eb, ec, f)
+      (child-node a n j A (omega arith) ea, child-node b (n + treeSize a) j B (omega arith) eb, ec, f)
 
   -- a tree with no child C, and one with no child at all
   two-node : (k m : ℕ) (z : ℤ) (x : ℕ) (a b : RecordTree) (n : ℕ) {A B y : TargetNode}
@@ -88,29 +88,30 @@ module _ (t : List ℕ) (faultless : (j : ℕ) → 0 < j → j ≤ recordCount t
 
   mutual
     unfolding expressionTree formOf lookUp
+
     expression-back : (e : Expression ℕ) (n : ℕ) → Holds (recordAt t) (expressionTree e) n
         → n + treeSize (expressionTree e) ≤ recordCount t → IsNode t (expressionTree e) n (expressionNode e)
     expression-back (literal z) n h s = leaf-node 1 0 z 0 n h s (λ C. refl) (λ C. refl)
     expression-back (read p) n h s =
         two-node 2 0 (pos 0) 0 (placeTree p) none n h s (place-back p n (h .0) (omega arith)) (no-node t n)
-          (λ C. refl) (λ C. refl)
+        (λ C. refl) (λ C. refl)
     expression-back (address p) n h s =
         two-node 3 0 (pos 0) 0 (placeTree p) none n h s (place-back p n (h .0) (omega arith)) (no-node t n)
-          (λ C. refl) (λ C. refl)
+        (λ C. refl) (λ C. refl)
     expression-back (operation o a b) n h s =
         two-node 4 (operatorNumber o) (pos 0) 0 (expressionTree a) (expressionTree b) n h s
-          (expression-back a n (h .0) (omega arith)) (expression-back b _ (h .1) (omega arith))
-          (λ C. refl) (λ C. ap (λ (o : Operator). expressionNode (operation o a b)) (operator-back o))
+        (expression-back a n (h .0) (omega arith)) (expression-back b _ (h .1) (omega arith))
+        (λ C. refl) (λ C. ap (λ (o : Operator). expressionNode (operation o a b)) (operator-back o))
     expression-back (shifted a b) n h s =
         two-node 5 0 (pos 0) 0 (expressionTree a) (expressionTree b) n h s
-          (expression-back a n (h .0) (omega arith)) (expression-back b _ (h .1) (omega arith)) (λ C. refl) (λ C. refl)
+        (expression-back a n (h .0) (omega arith)) (expression-back b _ (h .1) (omega arith)) (λ C. refl) (λ C. refl)
 
     place-back : (p : Place ℕ) (n : ℕ) → Holds (recordAt t) (placeTree p) n
         → n + treeSize (placeTree p) ≤ recordCount t → IsNode t (placeTree p) n (placeNode p)
     place-back (variable x) n h s = leaf-node 10 x (pos 0) 0 n h s (λ C. refl) (λ C. refl)
     place-back (pointed e) n h s =
         two-node 11 0 (pos 0) 0 (expressionTree e) none n h s (expression-back e n (h .0) (omega arith)) (no-node t n)
-          (λ C. refl) (λ C. refl)
+        (λ C. refl) (λ C. refl)
     place-back (temporary m) n h s = leaf-node 12 m (pos 0) 0 n h s (λ C. refl) (λ C. refl)
 
   statement-back : (w : TargetStatement) (n : ℕ) → Holds (recordAt t) (statementTree w) n
@@ -119,49 +120,49 @@ module _ (t : List ℕ) (faultless : (j : ℕ) → 0 < j → j ≤ recordCount t
   statement-back (skip i) n h s = leaf-node 40 0 (pos i) 0 n h s (λ C. refl) (λ C. refl)
   statement-back (assign i p e) n h s =
       two-node 41 0 (pos i) 0 (placeTree p) (expressionTree e) n h s (place-back p n (h .0) (omega arith))
-        (expression-back e (n + treeSize (placeTree p)) (h .1) (omega arith)) (λ C. refl) (λ C. refl)
+      (expression-back e (n + treeSize (placeTree p)) (h .1) (omega arith)) (λ C. refl) (λ C. refl)
   statement-back (new i p e) n h s =
       two-node 42 0 (pos i) 0 (placeTree p) (expressionTree e) n h s (place-back p n (h .0) (omega arith))
-        (expression-back e (n + treeSize (placeTree p)) (h .1) (omega arith)) (λ C. refl) (λ C. refl)
+      (expression-back e (n + treeSize (placeTree p)) (h .1) (omega arith)) (λ C. refl) (λ C. refl)
   statement-back (free i e) n h s =
       two-node 43 0 (pos i) 0 (expressionTree e) none n h s (expression-back e n (h .0) (omega arith)) (no-node t n)
-        (λ C. refl) (λ C. refl)
+      (λ C. refl) (λ C. refl)
   statement-back (sequence i a b) n h s =
       two-node 44 0 (pos i) 0 (statementTree a) (statementTree b) n h s (statement-back a n (h .0) (omega arith))
-        (statement-back b (n + treeSize (statementTree a)) (h .1) (omega arith)) (λ C. refl) (λ C. refl)
+      (statement-back b (n + treeSize (statementTree a)) (h .1) (omega arith)) (λ C. refl) (λ C. refl)
   statement-back (branch i e a b) n h s =
       let nb : ℕ = n + treeSize (expressionTree e) in
       let nc : ℕ = nb + treeSize (statementTree a) in
       root-node 45 0 (pos i) 0 (expressionTree e) (statementTree a) (statementTree b) n
-        (expressionNode e) (statementNode a) (statementNode b) h s (expression-back e n (h .0) (omega arith))
-        (statement-back a nb (h .1) (omega arith))
-        (field-node (statementTree b) nc _ (statementNode b) (omega arith) (statement-back b nc (h .2) (omega arith)))
-        refl
+      (expressionNode e) (statementNode a) (statementNode b) h s (expression-back e n (h .0) (omega arith))
+      (statement-back a nb (h .1) (omega arith))
+      (field-node (statementTree b) nc _ (statementNode b) (omega arith) (statement-back b nc (h .2) (omega arith)))
+      refl
   statement-back (while i e b) n h s =
       two-node 46 0 (pos i) 0 (expressionTree e) (statementTree b) n h s (expression-back e n (h .0) (omega arith))
-        (statement-back b (n + treeSize (expressionTree e)) (h .1) (omega arith)) (λ C. refl) (λ C. refl)
+      (statement-back b (n + treeSize (expressionTree e)) (h .1) (omega arith)) (λ C. refl) (λ C. refl)
   statement-back (letIn i x b) n h s =
       two-node 47 x (pos i) 0 (statementTree b) none n h s (statement-back b n (h .0) (omega arith)) (no-node t n)
-        (λ C. refl) (λ C. refl)
+      (λ C. refl) (λ C. refl)
   statement-back (takeAddress i m p) n h s =
       two-node 60 m (pos i) 0 (placeTree p) none n h s (place-back p n (h .0) (omega arith)) (no-node t n)
-        (λ C. refl) (λ C. refl)
+      (λ C. refl) (λ C. refl)
   statement-back (takeValue i m e) n h s =
       two-node 61 m (pos i) 0 (expressionTree e) none n h s (expression-back e n (h .0) (omega arith)) (no-node t n)
-        (λ C. refl) (λ C. refl)
+      (λ C. refl) (λ C. refl)
   statement-back (takeOperation i m o) n h s =
       leaf-node 63 m (pos i) (operatorNumber o) n h s (λ C. refl)
-        (λ C. ap (λ (o : Operator). statementNode (takeOperation i m o)) (operator-back o))
+      (λ C. ap (λ (o : Operator). statementNode (takeOperation i m o)) (operator-back o))
   statement-back (takeQuery i m q) n h s =
       leaf-node 64 m (pos i) (queryNumber q) n h s (λ C. refl)
-        (λ C. ap (λ (q : Query). statementNode (takeQuery i m q)) (query-back q))
+      (λ C. ap (λ (q : Query). statementNode (takeQuery i m q)) (query-back q))
   statement-back (takeNot i m) n h s = leaf-node 65 m (pos i) 0 n h s (λ C. refl) (λ C. refl)
   statement-back (branchOn i m a b) n h s =
       let nc : ℕ = n + 0 + treeSize (statementTree a) in
       root-node 66 m (pos i) 0 none (statementTree a) (statementTree b) n junk (statementNode a)
-        (statementNode b) h s (no-node t n) (statement-back a (n + 0) (h .1) (omega arith))
-        (field-node (statementTree b) nc _ (statementNode b) (omega arith) (statement-back b nc (h .2) (omega arith)))
-        refl
+      (statementNode b) h s (no-node t n) (statement-back a (n + 0) (h .1) (omega arith))
+      (field-node (statementTree b) nc _ (statementNode b) (omega arith) (statement-back b nc (h .2) (omega arith)))
+      refl
   statement-back (assertOn i m) n h s = leaf-node 67 m (pos i) 0 n h s (λ C. refl) (λ C. refl)
   statement-back (storeBlock i m) n h s = leaf-node 68 m (pos i) 0 n h s (λ C. refl) (λ C. refl)
   statement-back (deleteBlock i m) n h s = leaf-node 69 m (pos i) 0 n h s (λ C. refl) (λ C. refl)
@@ -170,15 +171,15 @@ module _ (t : List ℕ) (faultless : (j : ℕ) → 0 < j → j ≤ recordCount t
 -- the last record of the bytes of a sound target statement is that statement
 pub read-back : (w : TargetStatement) → SoundTarget w startScope → treeSize (statementTree w) ≤ 4096
     → nodeAt target (tableBytes (emit (statementTree w) 0)) (recordCount (tableBytes (emit (statementTree w) 0)))
-      ≡ statementNode w
+    ≡ statementNode w
 read-back w h s =
     let t : List ℕ = tableBytes (emit (statementTree w) 0) in
     let count : recordCount t ≡ treeSize (statementTree w) = emitted-count (statementTree w) in
     let held : Held target t (statementTree w) 0 =
-        emitted target (statementTree w) startScope (statement-fits w startScope h) s in
+    emitted target (statementTree w) startScope (statement-fits w startScope h) s in
     ap (nodeAt target t) (count ∙ sym (root-size (statementTree w)))
     ∙ statement-back t (λ j p q. records-fit target t (statementTree w) 0 held j p (omega arith)) w 0 (held .records)
-        (omega arith)
+    (omega arith)
 
 pub program-back : (w : TargetStatement) → SoundTarget w startScope → treeSize (statementTree w) ≤ 4096
     → targetProgram (tableBytes (emit (statementTree w) 0)) ≡ w

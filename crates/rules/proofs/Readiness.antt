@@ -72,11 +72,11 @@ pub record Ready (l : Language) (t : List ℕ) (n : ℕ) (f : Form) : Type 0 whe
   pub names : NamesBelow l (f .kind) (levelAt l t n)
   pub apart : Apart (f .a) (f .b) (childA t n) (childB t n)
   pub a : ChildSound l t (f .a) (childA t n) (scopeBelow (f .kind) (markOf t n) (scopeAt l t n))
-    (levelUnder l (f .kind) (eqb (childB t n) (childA t n)) (levelAt l t n))
+      (levelUnder l (f .kind) (eqb (childB t n) (childA t n)) (levelAt l t n))
   pub b : ChildSound l t (f .b) (childB t n) (scopeBelow (f .kind) (markOf t n) (scopeAt l t n))
-    (levelUnder l (f .kind) (eqb (childB t n) (childB t n)) (levelAt l t n))
+      (levelUnder l (f .kind) (eqb (childB t n) (childB t n)) (levelAt l t n))
   pub c : ChildSound l t (f .c) (childC t n) (scopeBelow (f .kind) (markOf t n) (scopeAt l t n))
-    (levelUnder l (f .kind) (eqb (childB t n) (childC t n)) (levelAt l t n))
+      (levelUnder l (f .kind) (eqb (childB t n) (childC t n)) (levelAt l t n))
 
 -- the record's own rules
 scope-used : (l : Language) (t : List ℕ) (n : ℕ) → scopeFault l t n ≡ false → kindOf t n ≡ 10
@@ -122,7 +122,7 @@ module _ (l : Language) (t : List ℕ) (a : Accepted l t) (n : ℕ) (p : 1 ≤ n
     (sound : (x : ℕ) → x < n → (s : Sort) → Stands l t x s → SoundAt l t x s) where
   child-sound : (g : Field) (x : ℕ) → FieldHolds l t n g x → timesIn g x x ≤ timesChildOf l t n x
       → ChildSound l t g x (scopeBelow (f .kind) (markOf t n) (scopeAt l t n))
-        (levelUnder l (f .kind) (eqb (childB t n) x) (levelAt l t n))
+      (levelUnder l (f .kind) (eqb (childB t n) x) (levelAt l t n))
   child-sound unnamed x h w = tt
   child-sound (child s) x h w =
       let k = found-kind l (kindOf t n) f o in
@@ -139,11 +139,11 @@ module _ (l : Language) (t : List ℕ) (a : Accepted l t) (n : ℕ) (p : 1 ≤ n
       let x = childA t n in
       let rest = timesIn (f .c) (childC t n) x in
       let w : timesIn (child s) x x + timesIn (f .b) (childB t n) x + rest ≡ timesChildOf l t n x =
-        ap (λ (g : Field). timesIn g x x + timesIn (f .b) (childB t n) x + rest) e
-        ∙ sym (times-by-fields l t n x f o) in
+      ap (λ (g : Field). timesIn g x x + timesIn (f .b) (childB t n) x + rest) e
+      ∙ sym (times-by-fields l t n x f o) in
       are-apart (child s) (f .b) x (childB t n) rest
       (w ∙ child-single l t (passed-of l t a) n x
-        (record { in-table = (p, q); has-child = omega (arith, same-yes x, w) }))
+      (record { in-table = (p, q); has-child = omega (arith, same-yes x, w) }))
   apart-here (number g) e h = tt
 
   pub ready : Ready l t n f
@@ -160,7 +160,8 @@ module _ (l : Language) (t : List ℕ) (a : Accepted l t) (n : ℕ) (p : 1 ≤ n
         apart = apart-here (f .a) refl (holds .a);
         a = child-sound (f .a) (childA t n) (holds .a) (omega (arith, times-by-fields l t n (childA t n) f o));
         b = child-sound (f .b) (childB t n) (holds .b) (omega (arith, times-by-fields l t n (childB t n) f o));
-        c = child-sound (f .c) (childC t n) (holds .c) (omega (arith, times-by-fields l t n (childC t n) f o)) }
+        c = child-sound (f .c) (childC t n) (holds .c) (omega (arith, times-by-fields l t n (childC t n) f o));
+      }
 
 pub node-as : (l : Language) (t : List ℕ) (n : ℕ) (s : Sort) → Stands l t n s
     → nodeAs l (kindOf t n) t n ≡ nodeAt l t n
@@ -170,13 +171,13 @@ node-as l t n s w =
 -- where each kind's node is sound by what its record hands on, every node is
 module _ (l : Language) (t : List ℕ) (a : Accepted l t)
     (arm : (n : ℕ) (s : Sort) (k : ℕ) → KindOf l s k → Ready l t n (formAt l k)
-      → SoundAs l s (nodeAs l k t n) (scopeAt l t n) (levelAt l t n)) where
+    → SoundAs l s (nodeAs l k t n) (scopeAt l t n) (levelAt l t n)) where
   sound-below : (m n : ℕ) → n < m → (s : Sort) → Stands l t n s → SoundAt l t n s
   sound-below zero n d s w = absurd (omega arith)
   sound-below (suc m) n d s w =
       let o = w .found in
       let r = ready l t a n (w .from-one) (w .within) (w .form) o (w .holds)
-        (λ x e r u. sound-below m x (omega arith) r u) in
+      (λ x e r u. sound-below m x (omega arith) r u) in
       subst (λ (x : NodeOf l). SoundAs l s x (scopeAt l t n) (levelAt l t n)) (node-as l t n s w)
       (arm n s (kindOf t n) (w .kind) (subst (Ready l t n) (found-at l (kindOf t n) (w .form) o) r))
 

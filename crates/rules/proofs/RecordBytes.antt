@@ -56,7 +56,8 @@ record-front r rest h =
       b = word-front 2 (r .b) [] (h .b-fits) i;
       c = word-front 2 (r .c) [] (h .c-fits) i;
       literal = (ap (toZ w64) (word-front 8 (ofZ w64 (r .literal)) [] (integer-fits (r .literal) (h .literal-fits)))
-        ∙ integer-back (r .literal) (h .literal-fits)) i }
+          ∙ integer-back (r .literal) (h .literal-fits)) i;
+    }
 
 -- a record behind the first
 module _ (front l : List ℕ) (n : ℕ) (e : length front ≡ 16) where
@@ -77,7 +78,8 @@ module _ (front l : List ℕ) (n : ℕ) (e : length front ≡ 16) where
         a = field-after 2 2 i;
         b = field-after 2 4 i;
         c = field-after 2 6 i;
-        literal = toZ w64 (field-after 8 8 i) }
+        literal = toZ w64 (field-after 8 8 i);
+      }
 
 -- ---- a table
 abbrev pub AllFit : List Record → Type 0
@@ -126,10 +128,10 @@ bytes-record r h =
     let b : List ℕ = digits 2 (r .b) in
     let c : List ℕ = digits 2 (r .c) in
     more-bytes (h .kind-fits) (more-bytes (h .mark-fits)
-      (bytes-append (a ++ b ++ c) (integerBytes (r .literal))
-        (bytes-append (a ++ b) c (bytes-append a b (bytes-digits 2 (r .a)) (bytes-digits 2 (r .b)))
-          (bytes-digits 2 (r .c)))
-        (bytes-digits 8 (ofZ w64 (r .literal)))))
+    (bytes-append (a ++ b ++ c) (integerBytes (r .literal))
+    (bytes-append (a ++ b) c (bytes-append a b (bytes-digits 2 (r .a)) (bytes-digits 2 (r .b)))
+    (bytes-digits 2 (r .c)))
+    (bytes-digits 8 (ofZ w64 (r .literal)))))
 
 pub bytes-table : (rs : List Record) → AllFit rs → AllBytes (tableBytes rs)
 unfolding flat

@@ -25,7 +25,7 @@ record-digits s first n hs hf hl =
     let x₃ : x / 256 / 256 / 256 ≡ first / 256 + n * 256 = omega arith in
     let x₄ : x / 256 / 256 / 256 / 256 ≡ n = omega arith in
     eight (omega arith) (omega arith) (omega arith) (omega arith) (omega arith) (omega arith) (omega arith)
-        (omega arith)
+    (omega arith)
 
 pub length-record : (s first n : ℕ) → length (blockRecord s first n) ≡ 8
 unfolding digits
@@ -68,11 +68,11 @@ module _ {A : Type 0} (from : ℕ → ℕ → ℕ → A) where
         ∙ getD-put-in l R (blockPlace k) fits 0 (omega (arith, length-record s first n)) in
         let x : little (part 2 (put l (blockPlace k) R) (blockPlace k + 2)) ≡ first =
         ap little (part-put-in l R (blockPlace k) fits 2 2 (omega (arith, length-record s first n)) ∙ first-is s
-          first n)
+        first n)
         ∙ digits-value 2 first f in
         let y : little (part 2 (put l (blockPlace k) R) (blockPlace k + 4)) ≡ n =
         ap little (part-put-in l R (blockPlace k) fits 2 4 (omega (arith, length-record s first n)) ∙ length-is s
-          first n)
+        first n)
         ∙ digits-value 2 n g in
         λ i. from (z i) (x i) (y i)
 

@@ -47,7 +47,7 @@ module _ {A : Type 0} where
       → table 0 n g ≡ set (table 0 n f) i v
   table-set n i f g v h here rest =
       table-list n g (set (table 0 n f) i v) v (length-set (table 0 n f) i v ∙ length-table n 0 f)
-        (λ j l. at j l (ℕ-discrete j i))
+      (λ j l. at j l (ℕ-discrete j i))
     where
       at : (j : ℕ) → j < n → Dec (j ≡ i) → g j ≡ getD (set (table 0 n f) i v) j v
       at j l (yes e) =

@@ -21,8 +21,11 @@ use Rattle.rules.proofs.ShapeLaws.{times-own}
 abbrev verdict : Bool → Bool → Bool → Bool
 verdict p q b = elim p [ true ↦ not b | false ↦ elim q [ true ↦ b | false ↦ false ] ]
 
-kept : (p q b : Bool) → (elim p as (λ z. Type 0) [ true ↦ b ≡ true | false ↦
-    elim q as (λ z. Type 0) [ true ↦ b ≡ false | false ↦ Unit {0} ] ]) → verdict p q b ≡ false
+kept : (p q b : Bool) → (elim p as (λ z. Type 0) [
+  | true ↦ b ≡ true
+  | false ↦
+      elim q as (λ z. Type 0) [ true ↦ b ≡ false | false ↦ Unit {0} ]
+]) → verdict p q b ≡ false
 kept true q b h = ap not h
 kept false true b h = h
 kept false false b h = refl
@@ -60,10 +63,11 @@ module _ (l : Language) (t : List ℕ) (keeps : Passed l t) where
       let em : markOf t j ≡ m = ap (λ (r : Record). r .mark) (h .records .3) in
       let here : (x : ℕ) → inScope l t (recordCount t) x j ≡ ρ x = h .at-root (omega arith) in
       let above : (d : ℕ) → 0 < d → 0 < same (rootNumber a n) d + same (rootNumber b nb) d + same (rootNumber c nc) d
-          → (x : ℕ) → inScope l t (recordCount t) x d ≡ scopeBelow k m ρ x =
-          λ d p q. below-scope j k m d ρ ek em here (record {
-            in-table = omega (arith, h .inside);
-            has-child = omega (arith, times-own l t k m z x a b c n d ρ p (h .fitting .0) (h .records)) }) in
+      → (x : ℕ) → inScope l t (recordCount t) x d ≡ scopeBelow k m ρ x =
+      λ d p q. below-scope j k m d ρ ek em here (record {
+        in-table = omega (arith, h .inside);
+        has-child = omega (arith, times-own l t k m z x a b c n d ρ p (h .fitting .0) (h .records));
+      }) in
       record {
         own = no-scope-fault l t j k m ρ ek em here (h .fitting .0 .scope);
         below-a = record {
@@ -71,19 +75,23 @@ module _ (l : Language) (t : List ℕ) (keeps : Passed l t) where
           in-scope = scopeBelow k m ρ;
           fitting = h .fitting .1;
           at-root = λ p. above (rootNumber a n) p (omega (arith, same-yes (rootNumber a n)));
-          inside = omega (arith, h .inside) };
+          inside = omega (arith, h .inside);
+        };
         below-b = record {
           records = h .records .1;
           in-scope = scopeBelow k m ρ;
           fitting = h .fitting .2;
           at-root = λ p. above (rootNumber b nb) p (omega (arith, same-yes (rootNumber b nb)));
-          inside = omega (arith, h .inside) };
+          inside = omega (arith, h .inside);
+        };
         below-c = record {
           records = h .records .2;
           in-scope = scopeBelow k m ρ;
           fitting = h .fitting .3;
           at-root = λ p. above (rootNumber c nc) p (omega (arith, same-yes (rootNumber c nc)));
-          inside = omega (arith, h .inside) } }
+          inside = omega (arith, h .inside);
+        };
+      }
 
   pub scopes-kept : (w : RecordTree) (n : ℕ) → Scoped l t w n → (j : ℕ) → n < j → j ≤ n + treeSize w
       → scopeFault l t j ≡ false
@@ -98,5 +106,6 @@ scope-kept l t w keeps count holds fitting j p q =
       in-scope = startScope;
       fitting = fitting;
       at-root = λ r x.
-        ap (inScope l t (recordCount t) x) (root-size w ∙ sym count) ∙ scope-last l t keeps x ∙ start-scope x;
-      inside = omega arith }) j p (omega arith)
+          ap (inScope l t (recordCount t) x) (root-size w ∙ sym count) ∙ scope-last l t keeps x ∙ start-scope x;
+      inside = omega arith;
+    }) j p (omega arith)

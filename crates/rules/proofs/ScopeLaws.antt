@@ -73,10 +73,16 @@ let-or-above true f g e = refl
 let-or-above false f g e = e
 
 one-up : (b : Bool) (s : Search) (p f g : ℕ → Bool) → ((m : ℕ) → f m ≡ g m)
-    → elim b as (λ q. Bool) [ true ↦ true | false ↦
-      elim s as (λ q. Bool) [ search.Nothing ↦ false | search.At m ↦
-      elim (p m) as (λ q. Bool) [ true ↦ true | false ↦ f m ] ] ]
-      ≡ fromParent b (λ m. b || (p m || g m)) s
+    → elim b as (λ q. Bool) [
+      | true ↦ true
+      | false ↦
+          elim s as (λ q. Bool) [
+            | search.Nothing ↦ false
+            | search.At m ↦
+                elim (p m) as (λ q. Bool) [ true ↦ true | false ↦ f m ]
+          ]
+    ]
+    ≡ fromParent b (λ m. b || (p m || g m)) s
 one-up true search.Nothing p f g h = refl
 one-up true (search.At m) p f g h = refl
 one-up false search.Nothing p f g h = refl
@@ -87,7 +93,7 @@ unfolding inScope climb
 scope-climb l t x zero n = refl
 scope-climb l t x (suc d) n =
     one-up (eqb x 0) (parentOf l t n) (λ m. isLetOf t m x) (λ m. inScope l t d x m)
-      (λ m. climb l t (eqb x 0) (scopeUp t x) d m) (λ m. scope-climb l t x d m)
+    (λ m. climb l t (eqb x 0) (scopeUp t x) d m) (λ m. scope-climb l t x d m)
 
 -- variable 0 is in scope throughout
 pub zero-in-scope : (l : Language) (t : List ℕ) (x d n : ℕ) → eqb x 0 ≡ true → inScope l t d x n ≡ true

@@ -60,20 +60,24 @@ lowest-found p j (suc k) = go (p j) refl (lowest p (suc j) k) (lowest-found p (s
     more : (n : ℕ) → p j ≡ false → NonePass p (suc j) n → (i : ℕ) → j ≤ i → i < n → Dec (j < i) → p i ≡ false
     more n e h i a b (no q) = ap p (omega arith) ∙ e
     more n e h i a b (yes q) = h i q b
+
     later : p j ≡ false → (s : Search) → Found p (suc j) k s → Found p j (suc k) s
     later e search.Nothing h = λ i a b. more (j + suc k) e (λ i c d. h i c (omega arith)) i a b (decLt j i)
     later e (search.At n) h = record {
       from = omega (arith, h .from);
       below = omega (arith, h .below);
       passes = h .passes;
-      none-lower = λ i a b. more n e (h .none-lower) i a b (decLt j i) }
+      none-lower = λ i a b. more n e (h .none-lower) i a b (decLt j i);
+    }
+
     go : (b : Bool) → p j ≡ b → (s : Search) → Found p (suc j) k s
         → Found p j (suc k) (elim b as (λ q. Search) [ true ↦ search.At j | false ↦ s ])
     go true e s h = record {
       from = omega arith;
       below = omega arith;
       passes = e;
-      none-lower = λ i a b. absurd (omega arith) }
+      none-lower = λ i a b. absurd (omega arith);
+    }
     go false e s h = later e s h
 
 -- the same without what is lower

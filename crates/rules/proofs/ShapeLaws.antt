@@ -63,33 +63,40 @@ times-record l t i j r e = ap (λ (r : Record). timesOf (formOf l (r .kind)) r j
 pub times-own : (l : Language) (t : List ℕ) (k m : ℕ) (z : ℤ) (x : ℕ) (a b c : RecordTree) (n j : ℕ) (ρ : Scope)
     → 1 ≤ j → Fits l k m z x a b c ρ → Holds (recordAt t) (node k m z x a b c) n
     → timesChildOf l t (n + suc (treeSize a + treeSize b + treeSize c)) j
-      ≡ same (rootNumber a n) j + same (rootNumber b (n + treeSize a)) j
-        + same (rootNumber c (n + treeSize a + treeSize b)) j
+    ≡ same (rootNumber a n) j + same (rootNumber b (n + treeSize a)) j
+    + same (rootNumber c (n + treeSize a + treeSize b)) j
 times-own l t k m z x a b c n j ρ p h q =
     let r : Record = ownRecord k m z x a b c n in
     times-record l t (n + suc (treeSize a + treeSize b + treeSize c)) j r (q .3)
     ∙ ap (λ o. timesOf o r j) (h .is-form)
     ∙ (λ i. (ap (λ (y : ℕ). timesIn (h .form .a) y j) (field-root a n)
-          ∙ times-field l (h .form .a) a 0 n j p (h .field-a)) i
-        + (ap (λ (y : ℕ). timesIn (h .form .b) y j) (field-root b (n + treeSize a))
-          ∙ times-field l (h .form .b) b 0 (n + treeSize a) j p (h .field-b)) i
-        + times-field l (h .form .c) c x (n + treeSize a + treeSize b) j p (h .field-c) i)
+    ∙ times-field l (h .form .a) a 0 n j p (h .field-a)) i
+    + (ap (λ (y : ℕ). timesIn (h .form .b) y j) (field-root b (n + treeSize a))
+    ∙ times-field l (h .form .b) b 0 (n + treeSize a) j p (h .field-b)) i
+    + times-field l (h .form .c) c x (n + treeSize a + treeSize b) j p (h .field-c) i)
 
 -- each of a tree's records is a child once, but for its root
 once : (l : Language) (t : List ℕ) (w : RecordTree) (n j : ℕ) (ρ : Scope) → 1 ≤ j → Holds (recordAt t) w n
     → Fitting l w ρ → timesChild l t (n + treeSize w) j + same (rootNumber w n) j + among n j
-      ≡ timesChild l t n j + among (n + treeSize w) j
+    ≡ timesChild l t n j + among (n + treeSize w) j
 once l t none n j ρ p q h = rw add-zero (omega (arith, same-no 0 j (omega arith)))
 once l t (node k m z x a b c) n j ρ p q h =
     let σ : Scope = scopeBelow k m ρ in
     let i : ℕ = n + treeSize a + treeSize b + treeSize c in
     let e : n + suc (treeSize a + treeSize b + treeSize c) ≡ suc i = omega arith in
-    omega (arith, once l t a n j σ p (q .0) (h .1), once l t b (n + treeSize a) j σ p (q .1) (h .2),
+    omega (
+      arith,
+      once l t a n j σ p (q .0) (h .1),
+      once l t b (n + treeSize a) j σ p (q .1) (h .2),
       once l t c (n + treeSize a + treeSize b) j σ p (q .2) (h .3),
       times-own l t k m z x a b c n j ρ p (h .0) q,
-      ap (λ (y : ℕ). timesChild l t y j) e, ap (λ (y : ℕ). timesChildOf l t y j) e, ap (λ (y : ℕ). among y j) e,
+      ap (λ (y : ℕ). timesChild l t y j) e,
+      ap (λ (y : ℕ). timesChildOf l t y j) e,
+      ap (λ (y : ℕ). among y j) e,
       same-to (n + suc (treeSize a + treeSize b + treeSize c)) (suc i) j e,
-      times-suc l t j i, among-suc i j)
+      times-suc l t j i,
+      among-suc i j,
+    )
 
 -- ---- 6
 last-shape : (l : Language) (t : List ℕ) → sortOf l (kindOf t (recordCount t)) ≡ sortNumber statement
@@ -97,7 +104,7 @@ last-shape : (l : Language) (t : List ℕ) → sortOf l (kindOf t (recordCount t
 unfolding shapeFault
 last-shape l t h n e =
     rw (eq-eqb n (recordCount t) e, shapeFault)
-      (ap not (eq-eqb (sortOf l (kindOf t n)) (sortNumber statement) (ap (λ (y : ℕ). sortOf l (kindOf t y)) e ∙ h)))
+    (ap not (eq-eqb (sortOf l (kindOf t n)) (sortNumber statement) (ap (λ (y : ℕ). sortOf l (kindOf t y)) e ∙ h)))
 
 other-shape : (l : Language) (t : List ℕ) (n : ℕ) → (n ≡ recordCount t → ⊥) → timesChild l t (recordCount t) n ≡ 1
     → shapeFault l t n ≡ false
@@ -110,19 +117,28 @@ pub passed : (l : Language) (t : List ℕ) (w : RecordTree) → recordCount t �
     → sortOf l (rootKind w) ≡ sortNumber statement → Passed l t
 passed l t w count held sort = record {
   records = λ n p q. records-fit l t w 0 held n p (omega arith);
-  shape = λ n p q. go n p q (decLt n (recordCount t)) }
+  shape = λ n p q. go n p q (decLt n (recordCount t));
+}
   where
     counted : (n : ℕ) → 1 ≤ n → n < recordCount t → timesChild l t (recordCount t) n ≡ 1
     counted n p q =
         let e : 0 + treeSize w ≡ recordCount t = omega arith in
-        omega (arith, once l t w 0 n (held .in-scope) p (held .records) (held .fitting),
-          ap (λ (y : ℕ). timesChild l t y n) e, ap (λ (y : ℕ). among y n) e, among-above 0 n p,
-          same-no (rootNumber w 0) n (omega (arith, root-size w)), times-zero l t n,
-          among-once (recordCount t) n p (omega arith))
+        omega (
+          arith,
+          once l t w 0 n (held .in-scope) p (held .records) (held .fitting),
+          ap (λ (y : ℕ). timesChild l t y n) e,
+          ap (λ (y : ℕ). among y n) e,
+          among-above 0 n p,
+          same-no (rootNumber w 0) n (omega (arith, root-size w)),
+          times-zero l t n,
+          among-once (recordCount t) n p (omega arith),
+        )
+
     last : 1 ≤ recordCount t → sortOf l (kindOf t (recordCount t)) ≡ sortNumber statement
     last p =
         ap (λ (y : ℕ). sortOf l (kindOf t y)) (count ∙ sym (root-size w))
         ∙ ap (sortOf l) (root-kind t w 0 (held .records) (omega (arith, root-size w))) ∙ sort
+
     go : (n : ℕ) → 1 ≤ n → n ≤ recordCount t → Dec (n < recordCount t) → shapeFault l t n ≡ false
     go n p q (yes h) = other-shape l t n (omega arith) (counted n p h)
     go n p q (no h) = last-shape l t (last (omega arith)) n (omega arith)

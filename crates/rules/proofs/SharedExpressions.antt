@@ -68,16 +68,16 @@ form-made l t n f p q o m a b c z =
     let w = field-passes l t n (f .c) (childC t n) c in
     let v = literal-passes (f .literal) (literalOf t n) z in
     let h : fieldsFit f (recordAt t n) ≡ true =
-      and-join _ _ (and-join _ _ (and-join _ _ (and-join _ _ m x) y) w) v in
+    and-join _ _ (and-join _ _ (and-join _ _ (and-join _ _ m x) y) w) v in
     let g : childrenFit l t n f (recordAt t n) ≡ true =
-      and-join _ _ (and-join _ _ (child-passes l t n (f .a) (childA t n) a) (child-passes l t n (f .b) (childB t n) b))
-      (child-passes l t n (f .c) (childC t n) c) in
+    and-join _ _ (and-join _ _ (child-passes l t n (f .a) (childA t n) a) (child-passes l t n (f .b) (childB t n) b))
+    (child-passes l t n (f .c) (childC t n) c) in
     let k : nodesUnder l t n (some f) ≡ true =
-      and-join _ _ (and-join _ _ (node-passes l t n (f .a) (childA t n) a) (node-passes l t n (f .b) (childB t n) b))
-      (node-passes l t n (f .c) (childC t n) c) in
+    and-join _ _ (and-join _ _ (node-passes l t n (f .a) (childA t n) a) (node-passes l t n (f .b) (childB t n) b))
+    (node-passes l t n (f .c) (childC t n) c) in
     let e : recordFault l t n ≡ 0 =
-      ap (faultOf l t n) o
-      ∙ ap₂ (λ (u v : Bool). cond u (cond v 0 5) 4) h g in
+    ap (faultOf l t n) o
+    ∙ ap₂ (λ (u v : Bool). cond u (cond v 0 5) 4) h g in
     node-built l t n f p q e o h k
 
 -- the node of an expression or a place as one of a target table
@@ -121,13 +121,15 @@ Shared t n = nodeAt target t n ≡ embedNode (nodeAt source t n)
 -- one record, those before it being shared
 module _ (t : List ℕ) (n : ℕ)
     (before : (s : Sort) (x : ℕ) → x < n → sortNumber s ≤ 2 → nodeSort (nodeAt source t x) ≡ sortNumber s
-      → Shared t x) where
+    → Shared t x) where
   shared-child : (s : Sort) (x : ℕ) → sortNumber s ≤ 2 → FieldHolds source t n (child s) x
       → FieldHolds target t n (child s) x
-  shared-child s x b h =
-      (h .0, h .1,
-      ap nodeSort (before s x (h .1) b (h .2))
-      ∙ embed-sort (nodeAt source t x) (omega (arith, h .2)) ∙ h .2)
+  shared-child s x b h = (
+    h .0,
+    h .1,
+    ap nodeSort (before s x (h .1) b (h .2))
+        ∙ embed-sort (nodeAt source t x) (omega (arith, h .2)) ∙ h .2,
+  )
 
   expression-under : (x : ℕ) → FieldHolds source t n (child expression) x
       → asExpression (nodeAt target t x) ≡ embed (asExpression (nodeAt source t x))
@@ -145,37 +147,37 @@ module _ (t : List ℕ) (n : ℕ)
     unfolding formOf lookUp embed
     expression-shared literal e h =
         form-made target t n (formAt target 1) p q (ap (formOf target) e) (eq-eqb _ 0 (h .mark)) (h .a) (h .b) (h .c)
-          (h .literal) .node
+        (h .literal) .node
     expression-shared read e h =
         form-made target t n (formAt target 2) p q (ap (formOf target) e) (eq-eqb _ 0 (h .mark))
-          (shared-child place (childA t n) (omega arith) (h .a)) (h .b) (h .c) (h .literal) .node
+        (shared-child place (childA t n) (omega arith) (h .a)) (h .b) (h .c) (h .literal) .node
         ∙ ap (λ (x : Place ℕ). expressionNode (tree.read x)) (place-under (childA t n) (h .a))
     expression-shared address e h =
         form-made target t n (formAt target 3) p q (ap (formOf target) e) (eq-eqb _ 0 (h .mark))
-          (shared-child place (childA t n) (omega arith) (h .a)) (h .b) (h .c) (h .literal) .node
+        (shared-child place (childA t n) (omega arith) (h .a)) (h .b) (h .c) (h .literal) .node
         ∙ ap (λ (x : Place ℕ). expressionNode (tree.address x)) (place-under (childA t n) (h .a))
     expression-shared operation e h =
         form-made target t n (formAt target 4) p q (ap (formOf target) e) (h .mark)
-          (shared-child expression (childA t n) (omega arith) (h .a))
-          (shared-child expression (childB t n) (omega arith) (h .b)) (h .c) (h .literal) .node
+        (shared-child expression (childA t n) (omega arith) (h .a))
+        (shared-child expression (childB t n) (omega arith) (h .b)) (h .c) (h .literal) .node
         ∙ ap₂ (λ (x y : Expression ℕ). expressionNode (tree.operation (operatorOf (markOf t n)) x y))
-          (expression-under (childA t n) (h .a)) (expression-under (childB t n) (h .b))
+        (expression-under (childA t n) (h .a)) (expression-under (childB t n) (h .b))
     expression-shared shifted e h =
         form-made target t n (formAt target 5) p q (ap (formOf target) e) (eq-eqb _ 0 (h .mark))
-          (shared-child expression (childA t n) (omega arith) (h .a))
-          (shared-child expression (childB t n) (omega arith) (h .b)) (h .c) (h .literal) .node
+        (shared-child expression (childA t n) (omega arith) (h .a))
+        (shared-child expression (childB t n) (omega arith) (h .b)) (h .c) (h .literal) .node
         ∙ ap₂ (λ (x y : Expression ℕ). expressionNode (tree.shifted x y))
-          (expression-under (childA t n) (h .a)) (expression-under (childB t n) (h .b))
+        (expression-under (childA t n) (h .a)) (expression-under (childB t n) (h .b))
 
     place-shared : {k : ℕ} → SourceKind place k → kindOf t n ≡ k → FormHolds source t n (formAt source k)
         → nodeAt target t n ≡ embedNode (nodeAs source (formAt source k .kind) t n)
     unfolding formOf lookUp embed
     place-shared variable e h =
         form-made target t n (formAt target 10) p q (ap (formOf target) e) (h .mark) (h .a) (h .b) (h .c)
-          (h .literal) .node
+        (h .literal) .node
     place-shared pointed e h =
         form-made target t n (formAt target 11) p q (ap (formOf target) e) (eq-eqb _ 0 (h .mark))
-          (shared-child expression (childA t n) (omega arith) (h .a)) (h .b) (h .c) (h .literal) .node
+        (shared-child expression (childA t n) (omega arith) (h .a)) (h .b) (h .c) (h .literal) .node
         ∙ ap (λ (x : Expression ℕ). placeNode (tree.pointed x)) (expression-under (childA t n) (h .a))
 
   shared-step : (s : Sort) → sortNumber s ≤ 2 → nodeSort (nodeAt source t n) ≡ sortNumber s → Shared t n
@@ -223,11 +225,11 @@ module _ (t : List ℕ) (n : ℕ) where
   pub evaluated-alike : (τ : Temporaries) (ρ : Variables) (m : Memory)
       → sortOfNode source (nodeAt source t n) ≡ sortNumber expression
       → evaluate (asExpression (nodeAt target t n)) (temporaryOf τ) ρ m
-        ≡ evaluateSource (asExpression (nodeAt source t n)) ρ m
+      ≡ evaluateSource (asExpression (nodeAt source t n)) ρ m
   evaluated-alike τ ρ m e =
       ap (λ (x : Expression ℕ). evaluate x (temporaryOf τ) ρ m)
-        (ap asExpression (shared-below t (suc n) expression n (omega arith) (omega arith) e)
-        ∙ embed-expression (nodeAt source t n))
+      (ap asExpression (shared-below t (suc n) expression n (omega arith) (omega arith) e)
+      ∙ embed-expression (nodeAt source t n))
       ∙ embed-is (asExpression (nodeAt source t n)) τ ρ m
 
   pub found-alike : (τ : Temporaries) (ρ : Variables) (m : Memory)
@@ -235,5 +237,5 @@ module _ (t : List ℕ) (n : ℕ) where
       → findPlace (asPlace (nodeAt target t n)) (temporaryOf τ) ρ m ≡ findSource (asPlace (nodeAt source t n)) ρ m
   found-alike τ ρ m e =
       ap (λ (x : Place ℕ). findPlace x (temporaryOf τ) ρ m)
-        (ap asPlace (shared-below t (suc n) place n (omega arith) (omega arith) e) ∙ embed-place (nodeAt source t n))
+      (ap asPlace (shared-below t (suc n) place n (omega arith) (omega arith) e) ∙ embed-place (nodeAt source t n))
       ∙ embedPlace-is (asPlace (nodeAt source t n)) τ ρ m

@@ -25,31 +25,31 @@ unfolding run watch translate evaluate
 simulates (skip s) σ ρ m τ f d y l = both-finish refl l
 simulates (assign s p e) σ ρ m τ f d y l =
     agree-assigned s m τ f (findSource p ρ m) (evaluateSource e ρ m)
-      (λ t m₁. findPlace (embedPlace p) (temporaryOf t) ρ m₁) (λ t m₁. evaluate (embed e) (temporaryOf t) ρ m₁)
-      (fair-source e ρ m) l (λ t. embedPlace-is p t ρ m) (λ t. embed-is e t ρ m)
+    (λ t m₁. findPlace (embedPlace p) (temporaryOf t) ρ m₁) (λ t m₁. evaluate (embed e) (temporaryOf t) ρ m₁)
+    (fair-source e ρ m) l (λ t. embedPlace-is p t ρ m) (λ t. embed-is e t ρ m)
 simulates (new s p e) σ ρ m τ f d y l =
     agree-allocated s m τ f (findSource p ρ m) (evaluateSource e ρ m)
-      (λ t m₁. findPlace (embedPlace p) (temporaryOf t) ρ m₁) (λ t m₁. evaluate (embed e) (temporaryOf t) ρ m₁)
-      y l (λ t. embedPlace-is p t ρ m) (λ t. embed-is e t ρ m)
+    (λ t m₁. findPlace (embedPlace p) (temporaryOf t) ρ m₁) (λ t m₁. evaluate (embed e) (temporaryOf t) ρ m₁)
+    y l (λ t. embedPlace-is p t ρ m) (λ t. embed-is e t ρ m)
 simulates (free s e) σ ρ m τ f d y l =
     agree-freed s m τ f (evaluateSource e ρ m) (λ t m₁. evaluate (embed e) (temporaryOf t) ρ m₁) l
-      (λ t. embed-is e t ρ m)
+    (λ t. embed-is e t ρ m)
 simulates (sequence s a b) σ ρ m τ f d y l =
     agree-next _ _ (simulates a σ ρ m τ f (d .1) y l) (plain-onward a ρ m f y .invariant)
-      (λ m₁ τ₁ f₁ y₁ l₁. simulates b σ ρ m₁ τ₁ f₁ (d .2) y₁ l₁)
+    (λ m₁ τ₁ f₁ y₁ l₁. simulates b σ ρ m₁ τ₁ f₁ (d .2) y₁ l₁)
 simulates (branch s e a b) σ ρ m τ f d y l =
     agree-decide s (condition (evaluateSource e ρ m)) (condition (evaluate (embed e) (temporaryOf τ) ρ m)) _ _ _ _
-      (ap condition (embed-is e τ ρ m))
-      (λ m₁ τ₁ f₁ y₁ l₁. simulates a σ ρ m₁ τ₁ f₁ (d .2) y₁ l₁)
-      (λ m₁ τ₁ f₁ y₁ l₁. simulates b σ ρ m₁ τ₁ f₁ (d .3) y₁ l₁) m τ f y l
+    (ap condition (embed-is e τ ρ m))
+    (λ m₁ τ₁ f₁ y₁ l₁. simulates a σ ρ m₁ τ₁ f₁ (d .2) y₁ l₁)
+    (λ m₁ τ₁ f₁ y₁ l₁. simulates b σ ρ m₁ τ₁ f₁ (d .3) y₁ l₁) m τ f y l
 simulates (while s e b) σ ρ m τ f d y l =
     agree-turns f s _ _ _ _ (λ τ₁ m₁. ap condition (embed-is e τ₁ ρ m₁))
-      (λ m₁ τ₁ f₁ y₁ l₁. simulates b σ ρ m₁ τ₁ f₁ (d .2) y₁ l₁)
-      (λ m₁ f₁ y₁. plain-onward b ρ m₁ f₁ y₁ .invariant) m τ f y l
+    (λ m₁ τ₁ f₁ y₁ l₁. simulates b σ ρ m₁ τ₁ f₁ (d .2) y₁ l₁)
+    (λ m₁ f₁ y₁. plain-onward b ρ m₁ f₁ y₁ .invariant) m τ f y l
 simulates (letIn s x b) σ ρ m τ f d y l =
     agree-let s m τ f (λ k. extend ρ x k x) (λ k m₁ f₁. run b (extend ρ x k) m₁ f₁)
-      (λ k m₁ o₁ τ₁ f₁. watch (translate b) (extend ρ x k) m₁ o₁ τ₁ f₁) (nextName m) (freeRun m 1) (room m 1) refl y l
-      (λ k. ap (λ c. cond c k (ρ x)) (eq-eqb x x refl))
-      (λ k m₁ τ₁ f₁ y₁ l₁. simulates b (adding σ x) (extend ρ x k) m₁ τ₁ f₁ (d .3) y₁ l₁)
-      (λ k m₁ f₁ y₁. plain-onward b (extend ρ x k) m₁ f₁ y₁)
+    (λ k m₁ o₁ τ₁ f₁. watch (translate b) (extend ρ x k) m₁ o₁ τ₁ f₁) (nextName m) (freeRun m 1) (room m 1) refl y l
+    (λ k. ap (λ c. cond c k (ρ x)) (eq-eqb x x refl))
+    (λ k m₁ τ₁ f₁ y₁ l₁. simulates b (adding σ x) (extend ρ x k) m₁ τ₁ f₁ (d .3) y₁ l₁)
+    (λ k m₁ f₁ y₁. plain-onward b (extend ρ x k) m₁ f₁ y₁)
 simulates (assert s p) σ ρ m τ f d y l = agree-assert (predicate-agrees p σ ρ m s 0 τ f (d .1) l) y

@@ -105,19 +105,24 @@ size-sum t a n p q =
     let f = w .form in
     let N = recordCount t in
     let r : Sized t n s (kindOf t n) f =
-      subst (Sized t n s (kindOf t n)) (sym (found-at source (kindOf t n) f (w .found))) (size-arm t n (w .kind)) in
+    subst (Sized t n s (kindOf t n)) (sym (found-at source (kindOf t n) f (w .found))) (size-arm t n (w .kind)) in
     let e : sizeOf t n ≡ sizeAs s (nodeAs source (kindOf t n) t n) =
-      size-of t n s w ∙ sym (ap (sizeAs s) (node-as source t n s w)) in
+    size-of t n s w ∙ sym (ap (sizeAs s) (node-as source t n s w)) in
     let x = timesIn (f .a) (childA t n) in
     let y = timesIn (f .b) (childB t n) in
     let z = timesIn (f .c) (childC t n) in
     let d : sum N (λ j. timesChildOf source t n j * sizeOf t j) ≡ sum N (λ j. (x j + y j + z j) * sizeOf t j) =
-      sum-equal N _ _ (λ j u v. ap (λ (i : ℕ). i * sizeOf t j) (times-by-fields source t n j f (w .found))) in
-    omega (arith, e, r, d,
+    sum-equal N _ _ (λ j u v. ap (λ (i : ℕ). i * sizeOf t j) (times-by-fields source t n j f (w .found))) in
+    omega (
+      arith,
+      e,
+      r,
+      d,
       three-sums N x y z (sizeOf t),
       field-sum t n (f .a) (childA t n) q (w .holds .a),
       field-sum t n (f .b) (childB t n) q (w .holds .b),
-      field-sum t n (f .c) (childC t n) q (w .holds .c))
+      field-sum t n (f .c) (childC t n) q (w .holds .c),
+    )
 
 -- the whole tree has one node for each record
 all-counted : (t : List ℕ) → Accepted source t → (d : ℕ) → recordCount t ≡ suc d → sizeOf t (suc d) ≡ suc d

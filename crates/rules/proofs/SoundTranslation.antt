@@ -11,6 +11,7 @@ use Rattle.rules.proofs.Sound.{Scope, adding, SoundExpression, SoundPla
 
 mutual
   unfolding embed
+
   pub sound-embed : (e : Expression ⊥) (ρ : Scope) → SoundExpression e NoName ρ → SoundExpression (embed e) Named ρ
   sound-embed (literal z) ρ h = h
   sound-embed (read p) ρ h = sound-place p ρ h
@@ -52,9 +53,23 @@ sound-translation (tree.assign s p e) ρ (d, hp, he) =
     (d, (d, omega arith, sound-place p ρ hp), (d, (d, sound-place p ρ hp, sound-embed e ρ he), (d, omega arith)))
 sound-translation (tree.new s p e) ρ (d, hp, he) =
     let size : SoundExpression (embed e) Named ρ = sound-embed e ρ he in
-    let at : SoundPlace (embedPlace p) Named ρ = sound-place p ρ hp in
-    (d, (d, omega arith, at), (d, (d, omega arith, size), (d, (d, at, size), (d, (d, omega arith, omega arith),
-      (d, (d, omega arith), (d, omega arith))))))
+    let at : SoundPlace (embedPlace p) Named ρ = sound-place p ρ hp in (
+      d,
+      (d, omega arith, at),
+      (
+        d,
+        (d, omega arith, size),
+        (
+          d,
+          (d, at, size),
+          (
+            d,
+            (d, omega arith, omega arith),
+            (d, (d, omega arith), (d, omega arith)),
+          ),
+        ),
+      ),
+    )
 sound-translation (tree.free s e) ρ (d, he) =
     (d, (d, omega arith, sound-embed e ρ he), (d, (d, sound-embed e ρ he), (d, omega arith)))
 sound-translation (tree.sequence s a b) ρ (d, ha, hb) = (d, sound-translation a ρ ha, sound-translation b ρ hb)
@@ -62,7 +77,22 @@ sound-translation (tree.branch s e a b) ρ (d, he, ha, hb) =
     (d, sound-embed e ρ he, sound-translation a ρ ha, sound-translation b ρ hb)
 sound-translation (tree.while s e b) ρ (d, he, hb) = (d, sound-embed e ρ he, sound-translation b ρ hb)
 sound-translation (tree.letIn s x b) ρ (d, hx, out, hb) =
-    let address : Numbered s × (0 < 64) × ((x < 64) × (adding ρ x x ≡ true)) = (d, omega arith, (hx, added ρ x)) in
-    (d, hx, out, (d, address, (d, (d, omega arith, refl), (d, (d, omega arith),
-      (d, sound-translation b (adding ρ x) hb, (d, address, (d, omega arith)))))))
+    let address : Numbered s × (0 < 64) × ((x < 64) × (adding ρ x x ≡ true)) = (d, omega arith, (hx, added ρ x)) in (
+      d,
+      hx,
+      out,
+      (
+        d,
+        address,
+        (
+          d,
+          (d, omega arith, refl),
+          (
+            d,
+            (d, omega arith),
+            (d, sound-translation b (adding ρ x) hb, (d, address, (d, omega arith))),
+          ),
+        ),
+      ),
+    )
 sound-translation (tree.assert s p) ρ (d, hp) = (d, sound-predicate p ρ s 0 d hp, (d, omega arith))

@@ -42,17 +42,27 @@ pub form-sort : (l : Language) (t : List ℕ) (n : ℕ) (f : Form) → formOf l 
 form-sort l t n f o h =
     ap (sortOfNode l) (h .node)
     ∙ eqb-true _ (sortNumber (f .sort))
-      (found-passes (sortFits l n t _ _ _) l (kindOf t n) f (each-sort l n t _ _ _) o)
+    (found-passes (sortFits l n t _ _ _) l (kindOf t n) f (each-sort l n t _ _ _) o)
 
 pub sort-by-number : (r s : Sort) → sortNumber r ≡ sortNumber s → r ≡ s
 sort-by-number r s e = sym (by-number-of r) ∙ ap by-number e ∙ by-number-of s
   where
     by-number : ℕ → Sort
     by-number n =
-        elim (eqb n 1) [ true ↦ expression | false ↦
-        elim (eqb n 2) [ true ↦ place | false ↦
-        elim (eqb n 3) [ true ↦ term | false ↦
-        elim (eqb n 4) [ true ↦ predicate | false ↦ statement ] ] ] ]
+        elim (eqb n 1) [
+          | true ↦ expression
+          | false ↦
+              elim (eqb n 2) [
+                | true ↦ place
+                | false ↦
+                    elim (eqb n 3) [
+                      | true ↦ term
+                      | false ↦
+                          elim (eqb n 4) [ true ↦ predicate | false ↦ statement ]
+                    ]
+              ]
+        ]
+
     by-number-of : (s : Sort) → by-number (sortNumber s) ≡ s
     by-number-of expression = refl
     by-number-of place = refl
@@ -65,7 +75,7 @@ pub stands : (l : Language) (t : List ℕ) (n : ℕ) (s : Sort) → sortOfNode l
     → Stands l t n s
 stands l t n s e =
     let g = not-guarded l (inTable l t n (formOf l (kindOf t n))) (nodeUnder l t n)
-      (omega (arith, some-sort s, e, ap (sortOfNode l) (node-law l t n))) in
+    (omega (arith, some-sort s, e, ap (sortOfNode l) (node-law l t n))) in
     let w = and-split _ (nodesUnder l t n (formOf l (kindOf t n))) g in
     let v = and-split _ (eqb (recordFault l t n) 0) (w .0) in
     let u = and-split (ltb 0 n) (leb n (recordCount t)) (v .0) in
@@ -82,7 +92,8 @@ stands l t n s e =
       found = f .found;
       sort = k;
       holds = h;
-      kind = subst (λ (r : Sort). KindOf l r (kindOf t n)) k (kind-view l (kindOf t n) (f .form) (f .found)) }
+      kind = subst (λ (r : Sort). KindOf l r (kindOf t n)) k (kind-view l (kindOf t n) (f .form) (f .found));
+    }
 
 -- the same by the kind's number: at a literal k the form computes, and so does the node
 pub stands-at : (l : Language) (t : List ℕ) (n k : ℕ) (s : Sort) → sortOfNode l (nodeAt l t n) ≡ sortNumber s

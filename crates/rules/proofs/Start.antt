@@ -63,27 +63,38 @@ unfolding startMemory
 start-cover is zero = omega (arith, unused-coverage 253 0)
 start-cover is (suc i) =
     go (covers (recorded.Live 0 1) (suc i)) refl (covering 0 1 (suc i))
-      (covers (recorded.Live 1 (length is)) (suc i)) refl (covering 1 (length is) (suc i))
+    (covers (recorded.Live 1 (length is)) (suc i)) refl (covering 1 (length is) (suc i))
   where
     go : (b : Bool) → covers (recorded.Live 0 1) (suc i) ≡ b → Covering 0 1 (suc i) b
         → (c : Bool) → covers (recorded.Live 1 (length is)) (suc i) ≡ c → Covering 1 (length is) (suc i) c
         → one (covers (recorded.Live 0 1) (suc i))
-            + (one (covers (recorded.Live 1 (length is)) (suc i))
-              + coverage (map recordedOf (replicate 253 block.Unused)) (suc i))
-          ≡ occupied (getD (inputCells is (1023 - length is)) i cell.Free)
+        + (one (covers (recorded.Live 1 (length is)) (suc i))
+        + coverage (map recordedOf (replicate 253 block.Unused)) (suc i))
+        ≡ occupied (getD (inputCells is (1023 - length is)) i cell.Free)
     go true e (inside p q) c g w = absurd (omega arith)
     go false e (below p) c g w = absurd (omega arith)
     go false e (above p) true g (inside u v) =
-        omega (arith, ap one e, ap one g, unused-coverage 253 (suc i),
-          input-occupied is (1023 - length is) i (omega arith))
+        omega (
+          arith,
+          ap one e,
+          ap one g,
+          unused-coverage 253 (suc i),
+          input-occupied is (1023 - length is) i (omega arith),
+        )
     go false e (above p) false g (below u) = absurd (omega arith)
     go false e (above p) false g (above u) =
-        omega (arith, ap one e, ap one g, unused-coverage 253 (suc i),
-          input-free is (1023 - length is) i (omega arith))
+        omega (
+          arith,
+          ap one e,
+          ap one g,
+          unused-coverage 253 (suc i),
+          input-free is (1023 - length is) i (omega arith),
+        )
 
 pub start-invariant : (is : List ℤ) → length is ≤ inputLimit → Invariant (startMemory is)
 start-invariant is h = record {
   names = start-names is;
   size = start-size is h;
   within = start-within is h;
-  cover = start-cover is }
+  cover = start-cover is;
+}

@@ -92,7 +92,7 @@ mark-next (suc j) r = ap (λ l. true ∷ l) (mark-next j r)
 
 marked : (n j : ℕ) → j ≤ n → n ≤ inputLimit
     → markAll (second n (true ∷ replicate 1023 false)) 2 j
-      ≡ second n (true ∷ (replicate j true ++ replicate (1023 - j) false))
+    ≡ second n (true ∷ (replicate j true ++ replicate (1023 - j) false))
 unfolding markAll
 marked n zero h le = refl
 marked n (suc j) h le =
@@ -122,11 +122,12 @@ input-marks (z ∷ is) r = ap (λ l. true ∷ l) (input-marks is r)
 
 mirror-start : (is : List ℤ)
     → mirror (startMemory is)
-      ≡ second (length is) (true ∷ (replicate (length is) true ++ replicate (1023 - length is) false))
+    ≡ second (length is) (true ∷ (replicate (length is) true ++ replicate (1023 - length is) false))
 unfolding startMemory
 mirror-start is = λ i. record {
   blocks = recorded.Live 0 1 ∷ recorded.Live 1 (length is) ∷ map-replicate recordedOf 253 block.Unused i;
-  marks = true ∷ input-marks is (1023 - length is) i }
+  marks = true ∷ input-marks is (1023 - length is) i;
+}
 
 start-of : (n : ℕ) → 1 ≤ n → n ≤ inputLimit
     → startObservation n ≡ second n (true ∷ (replicate n true ++ replicate (1023 - n) false))

@@ -67,18 +67,18 @@ agree-turns zero s holds holds₁ k kw e h v m τ f i l = both-end (λ z. refl)
 agree-turns (suc g) s holds holds₁ k kw e h v m τ zero i l = both-end (λ z. refl)
 agree-turns (suc g) s holds holds₁ k kw e h v m τ (suc f) i l =
     agree-decide s (holds m) (holds₁ τ m) _ plain.finished _ finished (e τ m)
-      (λ m₁ τ₁ f₁ i₁ l₁. agree-next _ _ (h m₁ τ₁ f₁ i₁ l₁) (v m₁ f₁ i₁) (agree-turns g s holds holds₁ k kw e h v))
-      agree-finish m τ f i l
+    (λ m₁ τ₁ f₁ i₁ l₁. agree-next _ _ (h m₁ τ₁ f₁ i₁ l₁) (v m₁ f₁ i₁) (agree-turns g s holds holds₁ k kw e h v))
+    agree-finish m τ f i l
 
 -- the assertion
 pub agree-assert : {s : ℕ} {m : Memory} {τ : Temporaries} {f : ℕ} {r : Evaluated} {w : WatchedOutcome}
     → Gives 0 s τ m (mirror m) f r w → Invariant m
     → Agree (plain.asserted s m f (condition r))
-        (next w (λ m₁ o₁ τ₁ f₁.
-          decide s (condition (heldIn τ₁ 0)) finished (λ m₂ o₂ τ₂ f₂. ended 33 s m₂ o₂ τ₂ f₂) m₁ o₁ τ₁ f₁))
+    (next w (λ m₁ o₁ τ₁ f₁.
+    decide s (condition (heldIn τ₁ 0)) finished (λ m₂ o₂ τ₂ f₂. ended 33 s m₂ o₂ τ₂ f₂) m₁ o₁ τ₁ f₁))
 agree-assert {s} {m} {τ} {f} (gives {v} {τ₁} h l p) y =
     rw h (agree-decide s (tested v) (tested v) plain.finished _ finished _ refl
-      agree-finish (λ m₁ τ₂ f₁ i l₁. both-end (λ z. refl)) m τ₁ f y l)
+    agree-finish (λ m₁ τ₂ f₁ i l₁. both-end (λ z. refl)) m τ₁ f y l)
 agree-assert stops y = both-end (λ z. refl)
 
 -- a store: its cell is marked after it
@@ -99,15 +99,15 @@ pub agree-assigned : (s : ℕ) (m : Memory) (τ : Temporaries) (f : ℕ) (x : Fo
     (x₁ : Temporaries → Memory → Found) (r₁ : Temporaries → Memory → Evaluated) → FairEvaluated r → Full τ
     → ((t : Temporaries) → x₁ t m ≡ x) → ((t : Temporaries) → r₁ t m ≡ r)
     → Agree (plain.after s f (assigned m x r))
-        (next (taken s 0 (addressOf (x₁ τ m)) m (mirror m) τ f) (λ m₁ o₁ τ₁ f₁.
-          next (after s o₁ τ₁ f₁ (assigned m₁ (x₁ τ₁ m₁) (r₁ τ₁ m₁))) (markAfter s)))
+    (next (taken s 0 (addressOf (x₁ τ m)) m (mirror m) τ f) (λ m₁ o₁ τ₁ f₁.
+    next (after s o₁ τ₁ f₁ (assigned m₁ (x₁ τ₁ m₁) (r₁ τ₁ m₁))) (markAfter s)))
 agree-assigned s m τ f (found.Stopped c) r x₁ r₁ d l h g = rw (h τ) (both-end (λ z. refl))
 agree-assigned s m τ f (found.Place p) (evaluated.Stopped c) x₁ r₁ d l h g =
     rw (h τ, h (put τ 0 (value.Pointer p)), g (put τ 0 (value.Pointer p))) (both-end (λ z. refl))
 agree-assigned s m τ f (found.Place p) (evaluated.Value v) x₁ r₁ d l h g =
     rw (h τ, h (put τ 0 (value.Pointer p)), g (put τ 0 (value.Pointer p)))
-      (agree-stored s m (put τ 0 (value.Pointer p)) f p v (locate m p) d refl
-        (put-same τ 0 (value.Pointer p) l (omega arith)) (full-put τ 0 (value.Pointer p) l))
+    (agree-stored s m (put τ 0 (value.Pointer p)) f p v (locate m p) d refl
+    (put-same τ 0 (value.Pointer p) l (omega arith)) (full-put τ 0 (value.Pointer p) l))
 
 -- a free: its block is deleted after it
 abbrev deleteAfter : ℕ → Watching
@@ -125,7 +125,7 @@ agree-freeOf s m τ f k block.Dead e t l = both-end (λ z. refl)
 agree-freeAt : (s : ℕ) (m : Memory) (τ : Temporaries) (f k : ℕ) (z : ℤ)
     → temporaryOf τ 0 ≡ temporary.Holds (value.Pointer (record { name = k; offset = z })) → Full τ
     → let c = freed m (evaluated.Value (value.Pointer (record { name = k; offset = z }))) in
-      Agree (plain.after s f c) (next (after s (mirror m) τ f c) (deleteAfter s))
+    Agree (plain.after s f c) (next (after s (mirror m) τ f c) (deleteAfter s))
 agree-freeAt s m τ f k (pos zero) t l = agree-freeOf s m τ f k (blockOf m k) refl t l
 agree-freeAt s m τ f k (pos (suc i)) t l = both-end (λ z. refl)
 agree-freeAt s m τ f k (negsuc i) t l = both-end (λ z. refl)
@@ -134,16 +134,16 @@ pub agree-freed : (s : ℕ) (m : Memory) (τ : Temporaries) (f : ℕ) (r : Evalu
     (r₁ : Temporaries → Memory → Evaluated) → Full τ
     → ((t : Temporaries) → r₁ t m ≡ r)
     → Agree (plain.after s f (freed m r))
-        (next (taken s 0 (r₁ τ m) m (mirror m) τ f) (λ m₁ o₁ τ₁ f₁.
-          next (after s o₁ τ₁ f₁ (freed m₁ (r₁ τ₁ m₁))) (deleteAfter s)))
+    (next (taken s 0 (r₁ τ m) m (mirror m) τ f) (λ m₁ o₁ τ₁ f₁.
+    next (after s o₁ τ₁ f₁ (freed m₁ (r₁ τ₁ m₁))) (deleteAfter s)))
 agree-freed s m τ f (evaluated.Stopped c) r₁ l g = rw (g τ) (both-end (λ z. refl))
 agree-freed s m τ f (evaluated.Value v) r₁ l g = rw (g τ, g (put τ 0 v)) (go v)
   where
     go : (v : Value)
         → Agree (plain.after s f (freed m (evaluated.Value v)))
-            (next (after s (mirror m) (put τ 0 v) f (freed m (evaluated.Value v))) (deleteAfter s))
+        (next (after s (mirror m) (put τ 0 v) f (freed m (evaluated.Value v))) (deleteAfter s))
     go value.Undefined = both-end (λ z. refl)
     go (value.Integer z) = both-end (λ z. refl)
     go (value.Pointer p) =
         agree-freeAt s m (put τ 0 (value.Pointer p)) f (p .name) (p .offset)
-          (put-same τ 0 (value.Pointer p) l (omega arith)) (full-put τ 0 (value.Pointer p) l)
+        (put-same τ 0 (value.Pointer p) l (omega arith)) (full-put τ 0 (value.Pointer p) l)

@@ -31,6 +31,7 @@ whole-records rs h =
   where
     some-bytes : eqb (length (tableBytes rs)) 0 ≡ false
     some-bytes = ne-eqb (length (tableBytes rs)) 0 (omega (arith, table-length rs))
+
     sixteens : eqb (length (tableBytes rs) % 16) 0 ≡ true
     sixteens = eq-eqb (length (tableBytes rs) % 16) 0 (omega (arith, table-length rs))
 
@@ -49,10 +50,11 @@ keeps-rules w h s =
     let kept : Passed target t = passed target t (statementTree w) count held (statement-sort w) in
     record {
       length-kept = whole-records (emit (statementTree w) 0)
-        (omega (arith, length-emit (statementTree w) 0, some-record (statementTree w) (statement-sort w)));
+          (omega (arith, length-emit (statementTree w) 0, some-record (statementTree w) (statement-sort w)));
       count-kept = le-ltb 4096 (recordCount t) (omega arith);
       passed = kept;
-      scope-kept = scope-kept target t (statementTree w) kept count (held .records) fitting }
+      scope-kept = scope-kept target t (statementTree w) kept count (held .records) fitting;
+    }
 
 pub target-accepted : (w : TargetStatement) → SoundTarget w startScope → treeSize (statementTree w) ≤ 4096
     → check target (tableBytes (emit (statementTree w) 0)) ≡ checked.Accepted

@@ -104,7 +104,8 @@ fits {f} e s r l m fa fb fc q = record {
   field-b = fb;
   field-c = fc;
   literal = l;
-  scope = q }
+  scope = q;
+}
 
 -- one with a statement's number for its literal
 numbered : {k m s x : ℕ} {a b c : RecordTree} {ρ : Scope} {f : Form} → Numbered s → formOf target k ≡ some f
@@ -113,7 +114,7 @@ numbered : {k m s x : ℕ} {a b c : RecordTree} {ρ : Scope} {f : Form} → Numb
     → OwnScope k m ρ → Fits target k m (pos s) x a b c ρ
 numbered {s} d e l h m fa fb fc q =
     fits e h (lt-ltb s (2 ^ 63) (omega arith))
-      (rw l (both-true (leb 1 s) (leb s 256) (le-leb 1 s (d .0)) (le-leb s 256 (d .1)))) m fa fb fc q
+    (rw l (both-true (leb 1 s) (leb s 256) (le-leb 1 s (d .0)) (le-leb s 256 (d .1)))) m fa fb fc q
 
 up-to : (high m : ℕ) → m ≤ high → between 0 high m ≡ true
 up-to high m h = between-true 0 high m (omega arith) h
@@ -123,6 +124,7 @@ no-tree = (refl, refl)
 
 mutual
   unfolding expressionTree formOf lookUp
+
   pub expression-fits : (e : Expression ℕ) (ρ : Scope) → SoundExpression e Named ρ
       → Fitting target (expressionTree e) ρ
   expression-fits (literal z) ρ h = (fits refl (omega arith) h refl refl no-tree no-tree no-tree tt, tt, tt, tt)
@@ -130,12 +132,19 @@ mutual
       (fits refl (omega arith) refl refl refl (place-sort p) no-tree no-tree tt, place-fits p ρ h, tt, tt)
   expression-fits (address p) ρ h =
       (fits refl (omega arith) refl refl refl (place-sort p) no-tree no-tree tt, place-fits p ρ h, tt, tt)
-  expression-fits (operation o a b) ρ h =
-      (fits refl (omega (arith, operator-range o)) refl refl (plain-range o (h .0)) (expression-sort a)
-        (expression-sort b) no-tree tt, expression-fits a ρ (h .1), expression-fits b ρ (h .2), tt)
-  expression-fits (shifted a b) ρ h =
-      (fits refl (omega arith) refl refl refl (expression-sort a) (expression-sort b) no-tree tt,
-        expression-fits a ρ (h .0), expression-fits b ρ (h .1), tt)
+  expression-fits (operation o a b) ρ h = (
+    fits refl (omega (arith, operator-range o)) refl refl (plain-range o (h .0)) (expression-sort a)
+        (expression-sort b) no-tree tt,
+    expression-fits a ρ (h .1),
+    expression-fits b ρ (h .2),
+    tt,
+  )
+  expression-fits (shifted a b) ρ h = (
+    fits refl (omega arith) refl refl refl (expression-sort a) (expression-sort b) no-tree tt,
+    expression-fits a ρ (h .0),
+    expression-fits b ρ (h .1),
+    tt,
+  )
 
   pub place-fits : (p : Place ℕ) (ρ : Scope) → SoundPlace p Named ρ → Fitting target (placeTree p) ρ
   place-fits (variable x) ρ h =
@@ -148,43 +157,78 @@ mutual
 pub statement-fits : (w : TargetStatement) (ρ : Scope) → SoundTarget w ρ → Fitting target (statementTree w) ρ
 unfolding statementTree formOf lookUp
 statement-fits (skip s) ρ d = (numbered d refl refl (omega arith) refl no-tree no-tree no-tree tt, tt, tt, tt)
-statement-fits (assign s p e) ρ (d, hp, he) =
-    (numbered d refl refl (omega arith) refl (place-sort p) (expression-sort e) no-tree tt, place-fits p ρ hp,
-      expression-fits e ρ he, tt)
-statement-fits (new s p e) ρ (d, hp, he) =
-    (numbered d refl refl (omega arith) refl (place-sort p) (expression-sort e) no-tree tt, place-fits p ρ hp,
-      expression-fits e ρ he, tt)
+statement-fits (assign s p e) ρ (d, hp, he) = (
+  numbered d refl refl (omega arith) refl (place-sort p) (expression-sort e) no-tree tt,
+  place-fits p ρ hp,
+  expression-fits e ρ he,
+  tt,
+)
+statement-fits (new s p e) ρ (d, hp, he) = (
+  numbered d refl refl (omega arith) refl (place-sort p) (expression-sort e) no-tree tt,
+  place-fits p ρ hp,
+  expression-fits e ρ he,
+  tt,
+)
 statement-fits (free s e) ρ (d, he) =
     (numbered d refl refl (omega arith) refl (expression-sort e) no-tree no-tree tt, expression-fits e ρ he, tt, tt)
-statement-fits (sequence s a b) ρ (d, ha, hb) =
-    (numbered d refl refl (omega arith) refl (statement-sort a) (statement-sort b) no-tree tt, statement-fits a ρ ha,
-      statement-fits b ρ hb, tt)
-statement-fits (branch s e a b) ρ (d, he, ha, hb) =
-    (numbered d refl refl (omega arith) refl (expression-sort e) (statement-sort a) (statement-sort b) tt,
-      expression-fits e ρ he, statement-fits a ρ ha, statement-fits b ρ hb)
-statement-fits (while s e b) ρ (d, he, hb) =
-    (numbered d refl refl (omega arith) refl (expression-sort e) (statement-sort b) no-tree tt, expression-fits e ρ he,
-      statement-fits b ρ hb, tt)
-statement-fits (letIn s x b) ρ (d, hx, out, hb) =
-    (numbered d refl refl (omega arith) (up-to 63 x (omega arith)) (statement-sort b) no-tree no-tree out,
-      subst (Fitting target (statementTree b)) (below-let ρ x) (statement-fits b (adding ρ x) hb), tt, tt)
-statement-fits (takeAddress s n p) ρ (d, hn, hp) =
-    (numbered d refl refl (omega arith) (up-to 63 n (omega arith)) (place-sort p) no-tree no-tree tt,
-      place-fits p ρ hp, tt, tt)
-statement-fits (takeValue s n e) ρ (d, hn, he) =
-    (numbered d refl refl (omega arith) (up-to 63 n (omega arith)) (expression-sort e) no-tree no-tree tt,
-      expression-fits e ρ he, tt, tt)
-statement-fits (takeOperation s n o) ρ (d, hn) =
-    (numbered d refl refl (omega (arith, operator-range o)) (up-to 61 n (omega arith)) no-tree no-tree
-      (refl, between-true 1 8 (operatorNumber o) (operator-range o .0) (operator-range o .1)) tt, tt, tt, tt)
-statement-fits (takeQuery s n q) ρ (d, hn) =
-    (numbered d refl refl (omega (arith, query-range q)) (up-to 62 n (omega arith)) no-tree no-tree
-      (refl, between-true 1 5 (queryNumber q) (query-range q .0) (query-range q .1)) tt, tt, tt, tt)
+statement-fits (sequence s a b) ρ (d, ha, hb) = (
+  numbered d refl refl (omega arith) refl (statement-sort a) (statement-sort b) no-tree tt,
+  statement-fits a ρ ha,
+  statement-fits b ρ hb,
+  tt,
+)
+statement-fits (branch s e a b) ρ (d, he, ha, hb) = (
+  numbered d refl refl (omega arith) refl (expression-sort e) (statement-sort a) (statement-sort b) tt,
+  expression-fits e ρ he,
+  statement-fits a ρ ha,
+  statement-fits b ρ hb,
+)
+statement-fits (while s e b) ρ (d, he, hb) = (
+  numbered d refl refl (omega arith) refl (expression-sort e) (statement-sort b) no-tree tt,
+  expression-fits e ρ he,
+  statement-fits b ρ hb,
+  tt,
+)
+statement-fits (letIn s x b) ρ (d, hx, out, hb) = (
+  numbered d refl refl (omega arith) (up-to 63 x (omega arith)) (statement-sort b) no-tree no-tree out,
+  subst (Fitting target (statementTree b)) (below-let ρ x) (statement-fits b (adding ρ x) hb),
+  tt,
+  tt,
+)
+statement-fits (takeAddress s n p) ρ (d, hn, hp) = (
+  numbered d refl refl (omega arith) (up-to 63 n (omega arith)) (place-sort p) no-tree no-tree tt,
+  place-fits p ρ hp,
+  tt,
+  tt,
+)
+statement-fits (takeValue s n e) ρ (d, hn, he) = (
+  numbered d refl refl (omega arith) (up-to 63 n (omega arith)) (expression-sort e) no-tree no-tree tt,
+  expression-fits e ρ he,
+  tt,
+  tt,
+)
+statement-fits (takeOperation s n o) ρ (d, hn) = (
+  numbered d refl refl (omega (arith, operator-range o)) (up-to 61 n (omega arith)) no-tree no-tree
+      (refl, between-true 1 8 (operatorNumber o) (operator-range o .0) (operator-range o .1)) tt,
+  tt,
+  tt,
+  tt,
+)
+statement-fits (takeQuery s n q) ρ (d, hn) = (
+  numbered d refl refl (omega (arith, query-range q)) (up-to 62 n (omega arith)) no-tree no-tree
+      (refl, between-true 1 5 (queryNumber q) (query-range q .0) (query-range q .1)) tt,
+  tt,
+  tt,
+  tt,
+)
 statement-fits (takeNot s n) ρ (d, hn) =
     (numbered d refl refl (omega arith) (up-to 62 n (omega arith)) no-tree no-tree no-tree tt, tt, tt, tt)
-statement-fits (branchOn s n a b) ρ (d, hn, ha, hb) =
-    (numbered d refl refl (omega arith) (up-to 63 n (omega arith)) no-tree (statement-sort a) (statement-sort b) tt,
-      tt, statement-fits a ρ ha, statement-fits b ρ hb)
+statement-fits (branchOn s n a b) ρ (d, hn, ha, hb) = (
+  numbered d refl refl (omega arith) (up-to 63 n (omega arith)) no-tree (statement-sort a) (statement-sort b) tt,
+  tt,
+  statement-fits a ρ ha,
+  statement-fits b ρ hb,
+)
 statement-fits (assertOn s n) ρ (d, hn) =
     (numbered d refl refl (omega arith) (up-to 63 n (omega arith)) no-tree no-tree no-tree tt, tt, tt, tt)
 statement-fits (storeBlock s n) ρ (d, hn) =

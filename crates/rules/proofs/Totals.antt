@@ -95,8 +95,12 @@ sum-coverage : (N : ℕ) (l : List Recorded) → ((k s n : ℕ) → getD l k rec
     → sum N (λ i. coverage l i) ≡ liveLength l
 sum-coverage N [] h = sum-zero N
 sum-coverage N (b ∷ l) h =
-    omega (arith, sum-add N (λ i. one (covers b i)) (λ i. coverage l i), sum-covers N b (h 0),
-      sum-coverage N l (λ k. h (suc k)))
+    omega (
+      arith,
+      sum-add N (λ i. one (covers b i)) (λ i. coverage l i),
+      sum-covers N b (h 0),
+      sum-coverage N l (λ k. h (suc k)),
+    )
 
 sum-occupied : (l : List Cell) → countFree l + sum (length l) (λ i. occupied (getD l i cell.Free)) ≡ length l
 unfolding countFree

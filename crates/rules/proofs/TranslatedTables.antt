@@ -38,5 +38,5 @@ module _ (t : List ℕ) (sound : SoundStatement (sourceProgram t) startScope) (s
   unfolding translatedRecords
   translation-bytes =
       emitted-bytes target (statementTree (translate (sourceProgram t))) startScope
-        (statement-fits (translate (sourceProgram t)) startScope (sound-translation (sourceProgram t) startScope sound))
-        small
+      (statement-fits (translate (sourceProgram t)) startScope (sound-translation (sourceProgram t) startScope sound))
+      small

@@ -43,6 +43,7 @@ statementSize (assert n p) = suc (predicateSize p)
 
 mutual
   unfolding expressionSize embed expressionTree
+
   expression-size : (e : Expression ⊥) → treeSize (expressionTree (embed e)) ≡ expressionSize e
   expression-size (literal z) = refl
   expression-size (read p) = omega (arith, place-size p)

@@ -52,12 +52,12 @@ while-zero s e b ρ m = refl
 pub while-suc : (s : ℕ) (e : Expression ⊥) (b : Statement) (ρ : Variables) (m : Memory) (f : ℕ)
     → run (tree.while s e b) ρ m (suc f)
     ≡ plain.decide s (condition (evaluateSource e ρ m))
-        (λ m₁ f₁. plain.next (run b ρ m₁ f₁) (λ m₂ f₂. run (tree.while s e b) ρ m₂ f₂)) plain.finished m f
+    (λ m₁ f₁. plain.next (run b ρ m₁ f₁) (λ m₂ f₂. run (tree.while s e b) ρ m₂ f₂)) plain.finished m f
 unfolding run plain.turns
 while-suc s e b ρ m f =
     decide-same s (condition (evaluateSource e ρ m)) _ _ _ m f (next-same (run b ρ m f) _ _ f (run-fuel b ρ m f)
     (λ m₂ g l. turns-same s (λ m₁. condition (evaluateSource e ρ m₁)) (λ m₁ f₁. run b ρ m₁ f₁)
-      (λ m₁ f₁. run-fuel b ρ m₁ f₁) f g m₂ g l (omega arith)))
+    (λ m₁ f₁. run-fuel b ρ m₁ f₁) f g m₂ g l (omega arith)))
 
 -- the watched run
 watched-next-same : (x : WatchedOutcome) (k l : Watching) (f : ℕ) → watchedFuelOf x ≤ f
@@ -96,12 +96,12 @@ pub watched-while-suc : (s : ℕ) (e : Expression ℕ) (b : TargetStatement) (ρ
     (τ : Temporaries) (f : ℕ)
     → watch (target.while s e b) ρ m o τ (suc f)
     ≡ watched.decide s (condition (evaluate e (temporaryOf τ) ρ m))
-        (λ m₁ o₁ τ₁ f₁. watched.next (watch b ρ m₁ o₁ τ₁ f₁)
-          (λ m₂ o₂ τ₂ f₂. watch (target.while s e b) ρ m₂ o₂ τ₂ f₂)) watched.finished m o τ f
+    (λ m₁ o₁ τ₁ f₁. watched.next (watch b ρ m₁ o₁ τ₁ f₁)
+    (λ m₂ o₂ τ₂ f₂. watch (target.while s e b) ρ m₂ o₂ τ₂ f₂)) watched.finished m o τ f
 unfolding watch watched.turns
 watched-while-suc s e b ρ m o τ f =
     watched-decide-same s (condition (evaluate e (temporaryOf τ) ρ m)) _ _ _ m o τ f
-      (watched-next-same (watch b ρ m o τ f) _ _ f (watch-fuel b ρ m o τ f) (λ m₂ o₂ τ₂ g l.
-      watched-turns-same s (λ τ₁ m₁. condition (evaluate e (temporaryOf τ₁) ρ m₁))
-        (λ m₁ o₁ τ₁ f₁. watch b ρ m₁ o₁ τ₁ f₁) (λ m₁ o₁ τ₁ f₁. watch-fuel b ρ m₁ o₁ τ₁ f₁)
-        f g m₂ o₂ τ₂ g l (omega arith)))
+    (watched-next-same (watch b ρ m o τ f) _ _ f (watch-fuel b ρ m o τ f) (λ m₂ o₂ τ₂ g l.
+    watched-turns-same s (λ τ₁ m₁. condition (evaluate e (temporaryOf τ₁) ρ m₁))
+    (λ m₁ o₁ τ₁ f₁. watch b ρ m₁ o₁ τ₁ f₁) (λ m₁ o₁ τ₁ f₁. watch-fuel b ρ m₁ o₁ τ₁ f₁)
+    f g m₂ o₂ τ₂ g l (omega arith)))

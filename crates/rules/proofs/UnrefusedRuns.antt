@@ -22,9 +22,14 @@ pub plain-runs : (t i : List ℕ) (f : ℕ) (memory : List ℕ) → check source
 plain-runs t i f memory c e h =
     ap (λ x. plainBy x t i f memory) c
     ∙ (λ k.
-      elim (e k) as (λ q. PlainRun) [ true ↦ plainRefused 9 0 memory | false ↦
-      elim (right-length memory memoryLength h k) as (λ q. PlainRun) [
-        true ↦ plainRefused 21 0 memory | false ↦ plainEnded (plainOutcome t i f) ] ])
+    elim (e k) as (λ q. PlainRun) [
+      | true ↦ plainRefused 9 0 memory
+      | false ↦
+          elim (right-length memory memoryLength h k) as (λ q. PlainRun) [
+            | true ↦ plainRefused 21 0 memory
+            | false ↦ plainEnded (plainOutcome t i f)
+          ]
+    ])
 
 pub watched-runs : (t i : List ℕ) (f : ℕ) (memory observation : List ℕ) → check target t ≡ checked.Accepted
     → inputsFault i ≡ false → length memory ≡ memoryLength → length observation ≡ observationLength
@@ -32,8 +37,15 @@ pub watched-runs : (t i : List ℕ) (f : ℕ) (memory observation : List ℕ) �
 watched-runs t i f memory observation c e h k =
     ap (λ x. watchedBy x t i f memory observation) c
     ∙ (λ j.
-      elim (e j) as (λ q. WatchedRun) [ true ↦ watchedRefused 9 0 memory observation | false ↦
-      elim (right-length memory memoryLength h j) as (λ q. WatchedRun) [
-        true ↦ watchedRefused 21 0 memory observation | false ↦
-      elim (right-length observation observationLength k j) as (λ q. WatchedRun) [
-        true ↦ watchedRefused 22 0 memory observation | false ↦ watchedEnded (watchedOutcome t i f) ] ] ])
+    elim (e j) as (λ q. WatchedRun) [
+      | true ↦ watchedRefused 9 0 memory observation
+      | false ↦
+          elim (right-length memory memoryLength h j) as (λ q. WatchedRun) [
+            | true ↦ watchedRefused 21 0 memory observation
+            | false ↦
+                elim (right-length observation observationLength k j) as (λ q. WatchedRun) [
+                  | true ↦ watchedRefused 22 0 memory observation
+                  | false ↦ watchedEnded (watchedOutcome t i f)
+                ]
+          ]
+    ])

@@ -43,33 +43,33 @@ kept (assign s p e) ρ m o τ f v =
     let x = findPlace p (temporaryOf τ) ρ m in
     let r = evaluate e (temporaryOf τ) ρ m in
     watched-after (Onto m) AnyNumber (Onward m) s o τ f (assigned m x r)
-      (change-kept m (assigned m x r) (onward-assigned m x r v)) (λ m₁ j. j)
+    (change-kept m (assigned m x r) (onward-assigned m x r v)) (λ m₁ j. j)
 kept (new s p e) ρ m o τ f v =
     let x = findPlace p (temporaryOf τ) ρ m in
     let r = evaluate e (temporaryOf τ) ρ m in
     watched-after (Onto m) AnyNumber (Onward m) s o τ f (allocated m x r)
-      (change-kept m (allocated m x r) (onward-allocated m x r v)) (λ m₁ j. j)
+    (change-kept m (allocated m x r) (onward-allocated m x r v)) (λ m₁ j. j)
 kept (free s e) ρ m o τ f v =
     let r = evaluate e (temporaryOf τ) ρ m in
     watched-after (Onto m) AnyNumber (Onward m) s o τ f (freed m r) (change-kept m (freed m r) (onward-freed m r v))
-      (λ m₁ j. j)
+    (λ m₁ j. j)
 kept (sequence s a b) ρ m o τ f v =
     watched-next (Onto m) AnyNumber (watch a ρ m o τ f) _ (kept a ρ m o τ f v)
-      (λ m₁ o₁ τ₁ f₁ i. further i (watch b ρ m₁ o₁ τ₁ f₁) (kept b ρ m₁ o₁ τ₁ f₁ (i .invariant)))
+    (λ m₁ o₁ τ₁ f₁ i. further i (watch b ρ m₁ o₁ τ₁ f₁) (kept b ρ m₁ o₁ τ₁ f₁ (i .invariant)))
 kept (branch s e a b) ρ m o τ f v =
     watched-decide (Onto m) AnyNumber s (condition (evaluate e (temporaryOf τ) ρ m)) _ _ m o τ f
-      (any-test (condition (evaluate e (temporaryOf τ) ρ m))) (onward-itself v)
-      (kept a ρ m o τ f v) (kept b ρ m o τ f v)
+    (any-test (condition (evaluate e (temporaryOf τ) ρ m))) (onward-itself v)
+    (kept a ρ m o τ f v) (kept b ρ m o τ f v)
 kept (while s e b) ρ m o τ f v =
     watched-turns (Onto m) AnyNumber s _ _ tt (λ m₁ o₁ τ₁ f₁ i. i)
-      (λ m₁ o₁ τ₁ f₁ i. any-test (condition (evaluate e (temporaryOf τ₁) ρ m₁)))
-      (λ m₁ o₁ τ₁ f₁ i. further i (watch b ρ m₁ o₁ τ₁ f₁) (kept b ρ m₁ o₁ τ₁ f₁ (i .invariant))) f m o τ f
-      (onward-itself v)
+    (λ m₁ o₁ τ₁ f₁ i. any-test (condition (evaluate e (temporaryOf τ₁) ρ m₁)))
+    (λ m₁ o₁ τ₁ f₁ i. further i (watch b ρ m₁ o₁ τ₁ f₁) (kept b ρ m₁ o₁ τ₁ f₁ (i .invariant))) f m o τ f
+    (onward-itself v)
 kept (letIn s x b) ρ m o τ f v =
     watched-inLet (Onto m) AnyNumber (Given m) s (makeBlock m fixed 1) _ m o τ f (onward-itself v)
-      (onward-made m fixed 1 v)
-      (λ k m₁ u. further (u .1) (watch b (extend ρ x k) m₁ o τ f) (kept b (extend ρ x k) m₁ o τ f (u .1 .invariant)))
-      (λ k m₁ u m₂ o₂ τ₂ f₂ i. onward-end k (u .0) i)
+    (onward-made m fixed 1 v)
+    (λ k m₁ u. further (u .1) (watch b (extend ρ x k) m₁ o τ f) (kept b (extend ρ x k) m₁ o τ f (u .1 .invariant)))
+    (λ k m₁ u m₂ o₂ τ₂ f₂ i. onward-end k (u .0) i)
 kept (takeAddress s n p) ρ m o τ f v = keeps-taken s n (addressOf (findPlace p (temporaryOf τ) ρ m)) m o τ f v
 kept (takeValue s n e) ρ m o τ f v = keeps-taken s n (evaluate e (temporaryOf τ) ρ m) m o τ f v
 kept (takeOperation s n q) ρ m o τ f v =
@@ -79,10 +79,10 @@ kept (takeQuery s n q) ρ m o τ f v =
 kept (takeNot s n) ρ m o τ f v = keeps-taken s n (onValue (heldIn τ (suc n)) evaluated.Stopped opposite) m o τ f v
 kept (branchOn s n a b) ρ m o τ f v =
     watched-decide (Onto m) AnyNumber s (condition (heldIn τ n)) _ _ m o τ f (any-test (condition (heldIn τ n)))
-      (onward-itself v) (kept a ρ m o τ f v) (kept b ρ m o τ f v)
+    (onward-itself v) (kept a ρ m o τ f v) (kept b ρ m o τ f v)
 kept (assertOn s n) ρ m o τ f v =
     watched-decide (Onto m) AnyNumber s (condition (heldIn τ n)) _ _ m o τ f (any-test (condition (heldIn τ n)))
-      (onward-itself v) (onward-itself v) (tt, onward-itself v)
+    (onward-itself v) (onward-itself v) (tt, onward-itself v)
 kept (target.storeBlock s n) ρ m o τ f v =
     keeps-observed s (calledOnTwo (heldIn τ n) (heldIn τ (suc n)) (storeBlock o)) m o τ f v
 kept (target.deleteBlock s n) ρ m o τ f v = keeps-observed s (calledOn (heldIn τ n) (deleteBlock o)) m o τ f v

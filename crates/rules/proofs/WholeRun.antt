@@ -35,12 +35,21 @@ pub record Same (p : Outcome) (w : WatchedOutcome) : Type 0 where
 
 same-of : {p : Outcome} {w : WatchedOutcome} → Agree p w → PlainEnds p → Same p w
 same-of (both-finish e l) c = record {
-  same-ending = refl; same-memory = refl; mirrors = λ h. e; no-contradiction = (omega arith, omega arith) }
+  same-ending = refl;
+  same-memory = refl;
+  mirrors = λ h. e;
+  no-contradiction = (omega arith, omega arith);
+}
 same-of (both-end {c = n} {m = m} {o = o} h) c = record {
-  same-ending = refl; same-memory = refl; mirrors = go; no-contradiction = (omega (arith, late), omega (arith, late)) }
+  same-ending = refl;
+  same-memory = refl;
+  mirrors = go;
+  no-contradiction = (omega (arith, late), omega (arith, late));
+}
   where
     late : (30 ≤ n) × (n < 48)
     late = ⊎-elim (λ q. omega (arith, q)) (λ q. omega (arith, q)) c
+
     go : (n ≡ 0) ⊎ (n ≡ 33) → o ≡ mirror m
     go (inl z) = absurd (omega (arith, late))
     go (inr z) = h z
@@ -63,10 +72,10 @@ pub runs-same : (a : Statement) (σ : Scope) (is : List ℤ) (f : ℕ) → Sound
     → Same (plainFrom a is f) (watchedFrom (translate a) is f)
 runs-same a σ is f d h le =
     rw (start-mirrors is h le)
-      (same-of
-        (simulates a σ startVariables (startMemory is) startTemporaries f d (start-invariant is le)
-          (length-replicate 64 temporary.Empty))
-        (run-endings a startVariables (startMemory is) f))
+    (same-of
+    (simulates a σ startVariables (startMemory is) startTemporaries f d (start-invariant is le)
+    (length-replicate 64 temporary.Empty))
+    (run-endings a startVariables (startMemory is) f))
 
 -- what holds of the execution memory after a run, of the translation or of any other target statement
 pub plain-keeps : (a : Statement) (is : List ℤ) (f : ℕ) → length is ≤ inputLimit
@@ -77,4 +86,4 @@ pub watched-keeps : (a : TargetStatement) (is : List ℤ) (f : ℕ) → length i
     → Orderly (startMemory is) (watchedMemoryAfter (watchedFrom a is f))
 watched-keeps a is f le =
     watched-orderly a startVariables (startMemory is) (startObservation (length is)) startTemporaries f
-      (start-invariant is le)
+    (start-invariant is le)

@@ -46,7 +46,7 @@ unfolding digits
 digits-next n i v r k e h =
     let l : i < length (digits n v) = rw (length-digits n v) h in
     let both : getD (digits n v) i 0 ∷ drop (suc i) (digits n v) ≡ (r % 256) ∷ digits k (r / 256) =
-      sym (drop-cons (digits n v) i 0 l) ∙ e in
+    sym (drop-cons (digits n v) i 0 l) ∙ e in
     (ap (λ (t : List ℕ). getD t 0 0) both, ap (λ (t : List ℕ). drop 1 t) both)
 
 -- ---- lists of bytes
@@ -114,7 +114,7 @@ module _ (l bs : List ℕ) (at : ℕ) (room : at + length bs ≤ length l) where
   pub part-put-same : part (length bs) (put l at bs) at ≡ bs
   part-put-same =
       rw (append-assoc, drop-at (take at l) (bs ++ drop (at + length bs) l) at front)
-        (take-at bs (drop (at + length bs) l) (length bs) refl)
+      (take-at bs (drop (at + length bs) l) (length bs) refl)
 
   head-length : length (take at l ++ bs) ≡ at + length bs
   head-length = length-append (take at l) bs ∙ ap (λ (k : ℕ). k + length bs) front
@@ -136,8 +136,8 @@ module _ (l bs : List ℕ) (at : ℕ) (room : at + length bs ≤ length l) where
       let jl : j ≤ length p = omega (arith, front) in
       let ml : m ≤ length (drop j p) = simp length-drop (omega (arith, front)) in
       let whole : take m (drop j l) ≡ take m (drop j p) =
-        ap (λ (t : List ℕ). take m (drop j t)) (sym (take-append-drop at l))
-        ∙ ap (take m) (drop-append-le j p (drop at l) jl) ∙ take-append-le m (drop j p) (drop at l) ml in
+      ap (λ (t : List ℕ). take m (drop j t)) (sym (take-append-drop at l))
+      ∙ ap (take m) (drop-append-le j p (drop at l) jl) ∙ take-append-le m (drop j p) (drop at l) ml in
       rw append-assoc (ap (take m) (drop-append-le j p (bs ++ drop (at + length bs) l) jl)
       ∙ take-append-le m (drop j p) (bs ++ drop (at + length bs) l) ml ∙ sym whole)
 
@@ -147,8 +147,12 @@ module _ (l bs : List ℕ) (at : ℕ) (room : at + length bs ≤ length l) where
       let e : at + k ≡ length p + k = omega (arith, front) in
       let kl : k ≤ length bs = omega arith in
       let ml : m ≤ length (drop k bs) = simp length-drop (omega arith) in
-      rw (append-assoc, e, drop-append-add p (bs ++ drop (at + length bs) l) k,
-        drop-append-le k bs (drop (at + length bs) l) kl) (take-append-le m (drop k bs) (drop (at + length bs) l) ml)
+      rw (
+        append-assoc,
+        e,
+        drop-append-add p (bs ++ drop (at + length bs) l) k,
+        drop-append-le k bs (drop (at + length bs) l) kl,
+      ) (take-append-le m (drop k bs) (drop (at + length bs) l) ml)
 
   pub getD-put-before : (i : ℕ) → i < at → getD (put l at bs) i 0 ≡ getD l i 0
   getD-put-before i h =
@@ -181,7 +185,7 @@ module _ (l bs : List ℕ) (at : ℕ) (room : at + length bs ≤ length l) where
   unfolding wordAt
   word-put-apart a n k m r h =
       ⊎-elim (λ b. ap little (part-put-before m (a + k) (low b)))
-        (λ b. ap little (part-put-after m (a + k) (high b))) r
+      (λ b. ap little (part-put-after m (a + k) (high b))) r
     where
       low : a + n ≤ at → a + k + m ≤ at
       low b = omega arith
@@ -199,9 +203,9 @@ put-put l bs cs at room =
     let all : n + length cs ≡ at + length (bs ++ cs) = omega (arith, length-append bs cs) in
     let front-is : take n (put l at bs) ≡ take at l ++ bs = take-at (take at l ++ bs) (drop n l) n head in
     let back-is : drop (n + length cs) (put l at bs) ≡ drop (n + length cs) l =
-      drop-put l bs at r (n + length cs) (omega arith) in
+    drop-put l bs at r (n + length cs) (omega arith) in
     rw (front-is, back-is, all)
-      (ap (λ (t : List ℕ). t ++ drop (at + length (bs ++ cs)) l) (append-assoc (take at l) bs cs))
+    (ap (λ (t : List ℕ). t ++ drop (at + length (bs ++ cs)) l) (append-assoc (take at l) bs cs))
 
 -- ---- words
 module _ (l : List ℕ) (at n v : ℕ) (room : at + n ≤ length l) where
@@ -237,9 +241,10 @@ write-more l d at n v r i room h e f =
     let k : n - i ≡ suc (n - (i + 1)) = omega arith in
     let next = digits-next n i v r (n - (i + 1)) (rw k at f) h in
     let inside : at + i < length l = omega arith in
-    let there : i < length (digits n v) = rw (length-digits n v) h in
-    (rw (e, add-one i, ← next .0) (paste-suc l at (digits n v) i 0 inside there),
-    rw (add-one i) (rw (add-one i) at (next .1)))
+    let there : i < length (digits n v) = rw (length-digits n v) h in (
+      rw (e, add-one i, ← next .0) (paste-suc l at (digits n v) i 0 inside there),
+      rw (add-one i) (rw (add-one i) at (next .1)),
+    )
 
 pub read-more : (s : List ℕ) (at n i v : ℕ) → at + n ≤ length s → 0 < i → i ≤ n → v ≡ little (part (n - i) s (at + i))
     → v * 256 + getD s (at + (i - 1)) 0 ≡ little (part (n - (i - 1)) s (at + (i - 1)))

@@ -22,7 +22,7 @@ plainly rs = run (sourceProgram (tableBytes rs)) startVariables (startMemory (po
 unfoldable pub watchedly : List Record → WatchedOutcome
 watchedly rs =
     watch (translate (sourceProgram (tableBytes rs))) startVariables (startMemory (pos 7 ∷ pos 9 ∷ []))
-      (startObservation 2) startTemporaries 0
+    (startObservation 2) startTemporaries 0
 
 -- number and statement of an ending
 abbrev pub stop : Answer → List ℕ
