@@ -4,28 +4,27 @@ use rules::Block;
 use rules::Number;
 use rules::Pointer;
 
-fn print_integer(z: i64) {
+fn print_natural(n: u64) {
     io::write_all(1, b" ");
-    if z < 0 {
-        io::write_all(1, b"-");
-    }
-    io::print_decimal(1, magnitude(z));
+    io::print_decimal(1, n);
 }
 
-fn magnitude(z: i64) -> u64 {
-    if z < 0 {
-        ((-1 - z) as u64) + 1
+// A signed number, of its bits.
+fn print_integer(bits: u64) {
+    if bits < 9223372036854775808 {
+        print_natural(bits);
     } else {
-        z as u64
+        io::write_all(1, b" -");
+        io::print_decimal(1, 18446744073709551615 - bits + 1);
     }
 }
 
 // The number, or the ending of an overflow or a zero divisor.
 fn print_number(n: Number) {
     match n {
-        Number::Is(z) => print_integer(z),
-        Number::Overflow => print_integer(43),
-        Number::ZeroDivisor => print_integer(44),
+        Number::Is(z) => print_integer(numbers::to_bits(z)),
+        Number::Overflow => print_natural(43),
+        Number::ZeroDivisor => print_natural(44),
     }
 }
 
@@ -63,20 +62,20 @@ fn begin(mem: &mut [u8; 18424]) {
 fn print_new(mem: &mut [u8; 18424], n: usize) {
     match memory::make(mem, true, n) {
         Making::Name(k) => print_block(&*mem, k),
-        Making::Stopped(k) => print_integer(k as i64),
+        Making::Stopped(k) => print_natural(k as u64),
     }
 }
 
 fn print_block(mem: &[u8; 18424], name: u16) {
-    print_integer(name as i64);
+    print_natural(name as u64);
     match memory::block(mem, name) {
-        Block::Unused => print_integer(0),
-        Block::Fixed(_, _) => print_integer(1),
+        Block::Unused => print_natural(0),
+        Block::Fixed(_, _) => print_natural(1),
         Block::Freeable(first, n) => {
-            print_integer(first as i64);
-            print_integer(n as i64);
+            print_natural(first as u64);
+            print_natural(n as u64);
         }
-        Block::Dead => print_integer(3),
+        Block::Dead => print_natural(3),
     }
 }
 
@@ -95,7 +94,7 @@ fn print_p9() {
     io::write_all(1, b"P9");
     begin(&mut mem);
     print_new(&mut mem, 6);
-    print_integer(memory::free(&mut mem, Pointer { name: 4, offset: 0 }) as i64);
+    print_natural(memory::free(&mut mem, Pointer { name: 4, offset: 0 }) as u64);
     print_new(&mut mem, 6);
     print_block(&mem, 4);
     end_line();

@@ -1,5 +1,7 @@
 -- Facts about the definitions.
 
+-- Where people err: first, so that a wrong definition is named by what goes wrong.
+pub mod CommonErrors
 -- Tests, searches, bytes and lists.
 pub mod BooleanLaws
 pub mod SearchLaws
@@ -80,7 +82,7 @@ pub mod PredicateSimulation
 pub mod StatementSteps
 pub mod BlockSteps
 pub mod Simulation
--- The claim, from the start on; what is worked out on paper, and where people err.
+-- The claim, from the start on, and what is worked out on paper.
 pub mod Start
 pub mod StartObservation
 pub mod WholeRun
@@ -88,4 +90,3 @@ pub mod Inputs
 pub mod UnrefusedRuns
 pub mod Claim
 pub mod Cases
-pub mod CommonErrors

@@ -12,7 +12,7 @@ use Rattle.rules.specs.Watched.{WatchedOutcome, watch, startTemporaries}
 use Rattle.rules.specs.Translation.{translate}
 use Rattle.rules.specs.Layout.{blockBytes, recordedBytes}
 use Rattle.rules.specs.Answers.{endingOf, memoryAfter, watchedEndingOf, watchedMemoryAfter, observationAfter}
-use Rattle.rules.specs.Cases.{line, of, five, letFive}
+use Rattle.rules.specs.Cases.{line, of, five, letFive, p5, p6, p7, p9}
 use Rattle.rules.specs.declared.Answer.{Answer}
 
 -- a program's plain run, and the watched run of its translation
@@ -63,9 +63,15 @@ recordedStates o = take 1 (recordedBytes (recordOf o 3)) ++ take 1 (recordedByte
 abbrev pub watchedStates : WatchedOutcome → List ℕ
 watchedStates w = states (watchedMemoryAfter w) ++ recordedStates (observationAfter w)
 
+-- P5: the inputs are recorded; P6: valid is not initialised; P7: *p is marked where it was before the store; P9: a dead
+-- name is not given again
 unfoldable pub told : List (List ℕ)
 told =
-    stops undecided
+    stops (p5 (pos 0))
+    ∷ stops p6
+    ∷ stops p7
+    ∷ states (memoryAfter (plainly p9))
+    ∷ stops undecided
     ∷ stops later
     ∷ stops dangling
     ∷ (states (memoryAfter (plainly freedBlock)) ++ watchedStates (watchedly freedBlock))
@@ -73,7 +79,11 @@ told =
 
 unfoldable pub right : List (List ℕ)
 right =
-    (41 ∷ 7 ∷ 41 ∷ 7 ∷ [])
+    (0 ∷ 0 ∷ 0 ∷ 0 ∷ [])
+    ∷ (0 ∷ 0 ∷ 0 ∷ 0 ∷ [])
+    ∷ (0 ∷ 0 ∷ 0 ∷ 0 ∷ [])
+    ∷ (3 ∷ 3 ∷ [])
+    ∷ (41 ∷ 7 ∷ 41 ∷ 7 ∷ [])
     ∷ (33 ∷ 12 ∷ 33 ∷ 12 ∷ [])
     ∷ (42 ∷ 11 ∷ 42 ∷ 11 ∷ [])
     ∷ (3 ∷ 3 ∷ 3 ∷ 3 ∷ 2 ∷ 2 ∷ [])
