@@ -14,4 +14,8 @@ grep -qxE '[1-9][0-9]* passed, 0 failed' <<<"$verdict"
 export CARGO_TARGET_DIR="$PWD/build/cargo"
 cargo test --release --offline --manifest-path tests/reference/Cargo.toml
 
+# The compiled library against the second implementation.
+rt staticlib recorder
+cargo test --release --offline --manifest-path tests/compare/Cargo.toml
+
 echo "$verdict"

@@ -1,0 +1,13 @@
+pub mod CodeLaws
+pub mod FieldLaws
+pub mod FaultLaws
+pub mod NoteLaws
+pub mod Lowest
+pub mod CountLaws
+pub mod BitLaws
+pub mod ShapeLaws
+pub mod DescentLaws
+pub mod LevelLaws
+pub mod RightLaws
+pub mod Starts
+pub mod OrderLaws

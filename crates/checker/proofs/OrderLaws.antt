@@ -1,0 +1,108 @@
+-- A rule's answer from the record found, and the rules in their order.
+use Prim.Native.Nat.{ℕ, zero, suc, _/_, _%_, _<_, _≤_}
+use native.Mathlib.Omega.{arith}
+use mathlib.Core.Bool.{Bool, true, false, not, _||_}
+use mathlib.Core.List.{List}
+use mathlib.Core.Path.{_≡_, refl, sym, ap, _∙_}
+use borrow.Author.Tests.{eq-eqb, ne-eqb, lt-ltb, le-ltb}
+use lib.Dec.{eqb, ltb}
+use lib.ListN.{length}
+use Rattle.rules.specs.declared.Search.{Search}
+use Rattle.rules.specs.declared.Search.the-variants as search
+use Rattle.rules.specs.declared.Checked.{Checked}
+use Rattle.rules.specs.declared.Checked.the-variants as checked
+use Rattle.rules.specs.Records.{recordCount}
+use Rattle.rules.specs.Kinds.{Language, source, target, recordLimit}
+use Rattle.rules.specs.Checker.{lowestRecord, lengthFault, countFault, recordFault, shapeFault, scopeFault, levelFault, refuseAt, lastRule, check}
+use Rattle.checker.specs.Codes.{languageOf}
+use Rattle.checker.specs.Searches.{searchOf}
+use Rattle.checker.specs.Order.{orNext, fromScopes, fromShapes, fromRecords}
+
+pub next-none : (rule : ℕ → ℕ) (s : Search) (r : ℕ) (next : Checked) → s ≡ searchOf r → r ≡ 0 → next ≡ orNext rule s next
+next-none rule s r next e h = sym (ap (λ (x : Search). orNext rule x next) (e ∙ ap searchOf h))
+
+pub next-at : (rule : ℕ → ℕ) (s : Search) (r : ℕ) (next : Checked) → s ≡ searchOf r → (r ≡ 0 → ⊥)
+    → checked.Refused (rule r) r ≡ orNext rule s next
+next-at rule s zero next e h = absurd (h refl)
+next-at rule s (suc n) next e h = sym (ap (λ (x : Search). orNext rule x next) e)
+
+pub none-found : (s : Search) (r : ℕ) → s ≡ searchOf r → r ≡ 0 → s ≡ search.Nothing
+none-found s r e h = e ∙ ap searchOf h
+
+-- ---- rule 8
+pub last-target : (b : Bool) (t : List ℕ) → b ≡ true → checked.Accepted ≡ lastRule (languageOf b) t
+last-target b t e = sym (ap (λ (x : Bool). lastRule (languageOf x) t) e)
+
+pub last-none : (b : Bool) (t : List ℕ) (r : ℕ) → b ≡ false → lowestRecord t (levelFault t) ≡ searchOf r → r ≡ 0
+    → checked.Accepted ≡ lastRule (languageOf b) t
+last-none b t r e s h =
+    sym (ap (λ (x : Bool). lastRule (languageOf x) t) e ∙ ap (refuseAt 8) (s ∙ ap searchOf h))
+
+pub last-at : (b : Bool) (t : List ℕ) (r : ℕ) → b ≡ false → lowestRecord t (levelFault t) ≡ searchOf r → (r ≡ 0 → ⊥)
+    → checked.Refused 8 r ≡ lastRule (languageOf b) t
+last-at b t zero e s h = absurd (h refl)
+last-at b t (suc n) e s h = sym (ap (λ (x : Bool). lastRule (languageOf x) t) e ∙ ap (refuseAt 8) s)
+
+-- ---- the whole
+abbrev inOrder : Bool → Bool → Checked → Checked
+inOrder p q r = elim p [ true ↦ checked.Refused 1 0 | false ↦ elim q [ true ↦ checked.Refused 2 0 | false ↦ r ] ]
+
+check-as : (l : Language) (t : List ℕ) → check l t ≡ inOrder (lengthFault t) (countFault l t) (fromRecords l t)
+unfolding check fromRecords fromShapes fromScopes
+check-as l t = go (lengthFault t) (countFault l t) (lowestRecord t (λ n. ltb 0 (recordFault l t n)))
+    (lowestRecord t (shapeFault l t)) (lowestRecord t (scopeFault l t))
+  where
+    go : (p q : Bool) (s u v : Search)
+        → elim p as (λ x. Checked) [
+          | true ↦ checked.Refused 1 0
+          | false ↦
+              elim q as (λ x. Checked) [
+                | true ↦ checked.Refused 2 0
+                | false ↦
+                    elim s as (λ x. Checked) [
+                      | search.At n ↦ checked.Refused (recordFault l t n) n
+                      | search.Nothing ↦
+                          elim u as (λ x. Checked) [
+                            | search.At n ↦ checked.Refused 6 n
+                            | search.Nothing ↦
+                                elim v as (λ x. Checked) [ search.At n ↦ checked.Refused 7 n | search.Nothing ↦ lastRule l t ]
+                          ]
+                    ]
+              ]
+        ]
+        ≡ inOrder p q (orNext (recordFault l t) s (orNext (λ n. 6) u (orNext (λ n. 7) v (lastRule l t))))
+    go true q s u v = refl
+    go false true s u v = refl
+    go false false (search.At n) u v = refl
+    go false false search.Nothing (search.At n) v = refl
+    go false false search.Nothing search.Nothing (search.At n) = refl
+    go false false search.Nothing search.Nothing search.Nothing = refl
+
+pub check-empty : (l : Language) (t : List ℕ) → length t ≡ 0 → checked.Refused 1 0 ≡ check l t
+check-empty l t e =
+    sym (check-as l t
+    ∙ (λ i. inOrder (eq-eqb (length t) 0 e i || not (eqb (length t % 16) 0)) (countFault l t) (fromRecords l t)))
+
+pub check-uneven : (l : Language) (t : List ℕ) → (length t ≡ 0 → ⊥) → (length t % 16 ≡ 0 → ⊥)
+    → checked.Refused 1 0 ≡ check l t
+check-uneven l t d e =
+    sym (check-as l t
+    ∙ (λ i. inOrder (ne-eqb (length t) 0 d i || not (ne-eqb (length t % 16) 0 e i)) (countFault l t) (fromRecords l t)))
+
+pub check-many : (l : Language) (t : List ℕ) → (length t ≡ 0 → ⊥) → length t % 16 ≡ 0 → recordLimit l < recordCount t
+    → checked.Refused 2 0 ≡ check l t
+check-many l t d e h =
+    sym (check-as l t
+    ∙ (λ i. inOrder (ne-eqb (length t) 0 d i || not (eq-eqb (length t % 16) 0 e i))
+    (lt-ltb (recordLimit l) (recordCount t) h i) (fromRecords l t)))
+
+pub check-rest : (l : Language) (t : List ℕ) → (length t ≡ 0 → ⊥) → length t % 16 ≡ 0 → recordCount t ≤ recordLimit l
+    → fromRecords l t ≡ check l t
+check-rest l t d e h =
+    sym (check-as l t
+    ∙ (λ i. inOrder (ne-eqb (length t) 0 d i || not (eq-eqb (length t % 16) 0 e i))
+    (le-ltb (recordLimit l) (recordCount t) h i) (fromRecords l t)))
+
+pub limit-most : (b : Bool) → recordLimit (languageOf b) ≤ 4096
+limit-most true = omega arith
+limit-most false = omega arith

@@ -1,0 +1,42 @@
+-- Rule 6 at a record, and the counts to begin with.
+use Prim.Native.Nat.{ℕ, _/_, _<_}
+use native.Mathlib.Omega.{arith}
+use mathlib.Core.Bool.{Bool, true, false, not}
+use mathlib.Core.List.{List}
+use mathlib.Core.Path.{_≡_, refl, sym, ap, _∙_}
+use borrow.Author.Tests.{eq-eqb, ne-eqb}
+use lib.Dec.{eqb}
+use lib.ListN.{length, getD, replicate, length-replicate, getD-replicate}
+use Rattle.rules.specs.Records.{recordCount, kindOf}
+use Rattle.rules.specs.Kinds.{Language, statement, sortNumber}
+use Rattle.rules.specs.Checker.{sortOf, timesChild, shapeFault}
+use Rattle.rules.proofs.ParentLaws.{times-zero}
+use Rattle.checker.specs.Codes.{Coded}
+use Rattle.checker.specs.Searches.{Counted}
+
+abbrev pickShape : Bool → Bool → Bool → Bool
+pickShape b p q = elim b [ true ↦ p | false ↦ q ]
+
+shape-as : (l : Language) (t : List ℕ) (n : ℕ) → shapeFault l t n
+    ≡ pickShape (eqb n (recordCount t)) (not (eqb (sortOf l (kindOf t n)) 5)) (not (eqb (timesChild l t (recordCount t) n) 1))
+unfolding shapeFault
+shape-as l t n = refl
+
+pub shape-last : (l : Language) (t : List ℕ) (n x : ℕ) → n ≡ recordCount t → Coded l (kindOf t n) x
+    → not (eqb (x / 1048576) 5) ≡ shapeFault l t n
+shape-last l t n x e k =
+    sym (shape-as l t n
+    ∙ (λ i. pickShape (eq-eqb n (recordCount t) e i) (not (eqb (k .sort i) 5))
+    (not (eqb (timesChild l t (recordCount t) n) 1))))
+
+pub shape-other : (l : Language) (t : List ℕ) (n times : ℕ) → (n ≡ recordCount t → ⊥)
+    → times ≡ timesChild l t (recordCount t) n → not (eqb times 1) ≡ shapeFault l t n
+shape-other l t n times e h =
+    sym (shape-as l t n
+    ∙ (λ i. pickShape (ne-eqb n (recordCount t) e i) (not (eqb (sortOf l (kindOf t n)) 5)) (not (eqb (sym h i) 1))))
+
+pub counted-start : (l : Language) (t : List ℕ) (k : ℕ) → k ≡ 4097 → Counted l t 0 (replicate k 0)
+counted-start l t k e = record {
+  size = length-replicate k 0 ∙ e;
+  counts = λ j h. getD-replicate k j 0 0 (omega arith) ∙ sym (times-zero l t j);
+}

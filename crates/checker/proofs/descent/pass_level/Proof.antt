@@ -1,0 +1,81 @@
+-- `checker::descent::pass_level` meets its contract. Assumes nothing.
+use borrow.Author.Needs.{needs}
+use Prim.Native.Nat.{ℕ}
+use mathlib.Core.List.{List}
+use mathlib.Core.Path.{_≡_, sym, subst, _∙_}
+use lib.Dec.{eqb}
+use Rattle.rules.specs.Records.{kindOf, childA, childB, childC}
+use Rattle.rules.specs.Kinds.{source}
+use Rattle.rules.specs.Checker.{levelBelow}
+use Rattle.checker.specs.Codes.{Coded}
+use Rattle.checker.specs.Searches.{putThree}
+use Rattle.checker.specs.Scopes.{Given}
+use Rattle.checker.proofs.DescentLaws.{given-three}
+use Rattle.checker.proofs.descent.pass_level.Statement.{statement}
+use Rattle.checker.proofs.descent.pass_level.Tie as tie
+
+kind-requires : tie.Need-kind-requires
+kind-requires c κs = search needs
+
+child-a-requires : tie.Need-child-a-requires
+child-a-requires c κs = search needs
+
+child-b-requires : tie.Need-child-b-requires
+child-b-requires c κs = search needs
+
+child-c-requires : tie.Need-child-c-requires
+child-c-requires c κs = search needs
+
+level-below-requires : tie.Need-level-below-requires
+level-below-requires c κs = search needs
+
+level-below-requires-2 : tie.Need-level-below-requires-2
+level-below-requires-2 c κs = search needs
+
+level-below-requires-3 : tie.Need-level-below-requires-3
+level-below-requires-3 c κs = search needs
+
+form-of-requires : tie.Need-form-of-requires
+form-of-requires c κs = search needs
+
+put-children-requires : tie.Need-put-children-requires
+put-children-requires c κs = search needs
+
+returns : tie.Need-returns
+returns c =
+    let s = c .before .before .before .before .before .before .before .before .before .before .before in
+    let a = s .args in
+    let t = a .table .now in
+    let x = c .before .form-of .result in
+    let kind = c .before .before .before .before .before .before .before .before .before .kind .ensures in
+    let ea = c .before .before .before .before .before .before .before .before .child-a .ensures in
+    let eb = c .before .before .before .before .before .before .before .child-b .ensures in
+    let ec = c .before .before .before .before .before .before .child-c .ensures in
+    let u = c .before .before .before .before .before .level-below .result in
+    let v = c .before .before .before .before .level-below2 .result in
+    let w = c .before .before .before .level-below3 .result in
+    let f : ℕ → ℕ = λ j. levelBelow (kindOf t (a .n)) (eqb (childB t (a .n)) j) (a .level) in
+    let k : Coded source (kindOf t (a .n)) x = subst (λ (k : ℕ). Coded source k x) kind (c .before .form-of .ensures) in
+    let put : c .put-children .last .0
+    ≡ putThree x (childA t (a .n)) (childB t (a .n)) (childC t (a .n)) u v w (a .notes .now) =
+    c .put-children .ensures ∙ (λ i. putThree x (ea i) (eb i) (ec i) u v w (a .notes .now)) in
+    subst (λ (m : List ℕ). Given source t (a .n) f (a .notes .now) m) (sym put)
+    (given-three source t (a .n) x k u v w f (a .notes .now) (s .pre .1)
+    (c .before .before .before .before .before .level-below .ensures ∙ (λ i. levelBelow (kind i) (eqb (eb i) (ea i)) (a .level)))
+    (c .before .before .before .before .level-below2 .ensures ∙ (λ i. levelBelow (kind i) (eqb (eb i) (eb i)) (a .level)))
+    (c .before .before .before .level-below3 .ensures ∙ (λ i. levelBelow (kind i) (eqb (eb i) (ec i)) (a .level))))
+
+pub pass-level-spec : {M : Type 1} → statement M
+pass-level-spec =
+    tie.close
+    (tie.spec
+    kind-requires
+    child-a-requires
+    child-b-requires
+    child-c-requires
+    level-below-requires
+    level-below-requires-2
+    level-below-requires-3
+    form-of-requires
+    put-children-requires
+    returns)

@@ -1,0 +1,130 @@
+-- `checker::searches::lowest_too_deep` meets its contract. Assumes nothing.
+use Prim.Native.Nat.{ℕ, _≤_, _<_}
+use borrow.Author.Needs.{needs}
+use native.Mathlib.Omega.{arith}
+use mathlib.Core.Bool.{Bool, _&&_, _||_}
+use mathlib.Core.List.{List}
+use mathlib.Core.Path.{_≡_, refl, sym, ap, subst, _∙_}
+use lib.ListN.{length, getD, set, replicate, length-set, length-replicate, getD-replicate}
+use lib.Dec.{eqb}
+use lib.Seq.{getD-set-same}
+use Rattle.rules.specs.Records.{recordCount, kindOf, markOf, childB}
+use Rattle.rules.specs.Kinds.{source}
+use Rattle.rules.specs.Checker.{scopeFault, levelFault, recordFault, levelBelow, levelOf}
+use Rattle.checker.specs.Codes.{languageOf}
+use Rattle.checker.specs.Scopes.{bit, outOfScope, tooDeep, Kept}
+use Rattle.rules.proofs.ParentLaws.{Passed, IsParent}
+use Rattle.checker.proofs.DescentLaws.{passed-of, Known, known-start, known-here, known-down}
+use Rattle.checker.proofs.RightLaws.{Scoped, mark-used, mark-let, scoped-last, scoped-child, scoped-fault, Levelled, level-most, levelled-last, levelled-child, levelled-fault}
+use Rattle.checker.proofs.Starts.{scopes-start, levels-start}
+use Rattle.checker.proofs.Lowest.{Lowest, lowest-start, lowest-down, lowest-end}
+use Rattle.checker.proofs.searches.lowest_too_deep.Statement.{statement}
+use Rattle.checker.proofs.searches.lowest_too_deep.Tie as tie
+
+low-level : (t : List ℕ) (n v : ℕ) → Kept source t → Levelled t n v → v < 65535
+low-level t n v kept h = omega (arith, level-most t (recordCount t) n, kept .few)
+
+abbrev Inv-loop : tie.InvT-loop
+Inv-loop table notes₀ found₀ n₀ notes found n =
+    (n ≤ recordCount table) × Known (Levelled table) source table n notes
+    × Lowest (levelFault table) (recordCount table) n found
+
+abbrev μ-loop : tie.MeasureT-loop
+μ-loop table notes₀ found₀ n₀ notes found n = n
+
+loop-holds : tie.Need-loop-holds Inv-loop μ-loop
+loop-holds c =
+    let s = c .before in
+    let t = s .args .table .now in
+    (omega arith, levels-start t (s .pre) 4097 refl, lowest-start (levelFault t) (recordCount t))
+
+mul-level : tie.Need-mul-level Inv-loop μ-loop
+mul-level c =
+    omega (arith, c .before .before .before .pre .few, c .before .loop .inv .0)
+
+array-read-level : tie.Need-array-read-level Inv-loop μ-loop
+array-read-level c =
+    omega (arith, c .before .before .before .pre .few, c .before .loop .inv .0)
+
+kind-requires : tie.Need-kind-requires Inv-loop μ-loop
+kind-requires c κs =
+    omega arith
+
+is-too-deep-requires : tie.Need-is-too-deep-requires Inv-loop μ-loop
+is-too-deep-requires c κs =
+    let s = c .before .before .before .before in
+    let t = s .args .table .now in
+    let e = c .before .before .loop in
+    let taken : 0 < e .n = c .before .loop-test .taken in
+    let passed : Passed source t = passed-of source t (s .pre) in
+    let level = getD (e .notes) (e .n) 0 in
+    let here : Levelled t (e .n) level =
+    known-here (Levelled t) source t passed (e .n) (e .notes) taken (e .inv .0) (e .inv .1) in
+    low-level t (e .n) level (s .pre) here
+
+lower-requires : tie.Need-lower-requires Inv-loop μ-loop
+lower-requires c κs =
+    tt
+
+pass-level-requires : tie.Need-pass-level-requires Inv-loop μ-loop
+pass-level-requires c κs =
+    let s = c .before .before .before .before .before .before .before in
+    let t = s .args .table .now in
+    let e = c .before .before .before .before .before .loop in
+    let taken : 0 < e .n = c .before .before .before .before .loop-test .taken in
+    let passed : Passed source t = passed-of source t (s .pre) in
+    let level = getD (e .notes) (e .n) 0 in
+    let here : Levelled t (e .n) level =
+    known-here (Levelled t) source t passed (e .n) (e .notes) taken (e .inv .0) (e .inv .1) in
+    ((taken, e .inv .0), e .inv .1 .size, low-level t (e .n) level (s .pre) here)
+
+sub-n : tie.Need-sub-n Inv-loop μ-loop
+sub-n c = omega arith
+
+loop-less : tie.Need-loop-less Inv-loop μ-loop
+loop-less c = omega arith
+
+loop-again : tie.Need-loop-again Inv-loop μ-loop
+loop-again c =
+    let s = c .before .before .before .before .before .before .before .before in
+    let t = s .args .table .now in
+    let e = c .before .before .before .before .before .before .loop in
+    let taken : 0 < e .n = c .before .before .before .before .before .loop-test .taken in
+    let passed : Passed source t = passed-of source t (s .pre) in
+    let level = getD (e .notes) (e .n) 0 in
+    let here : Levelled t (e .n) level =
+    known-here (Levelled t) source t passed (e .n) (e .notes) taken (e .inv .0) (e .inv .1) in
+    let ek = c .before .before .before .before .kind .ensures in (
+      omega arith,
+      known-down (Levelled t) source t passed (s .pre .few) (e .n)
+          (λ j. levelBelow (kindOf t (e .n)) (eqb (childB t (e .n)) j) level) (e .notes) (c .pass-level .last .1 .1 .1 .0)
+          taken (e .inv .0) (c .pass-level .ensures) (λ j p. levelled-child t passed (e .n) j level p here) (e .inv .1),
+      lowest-down (levelFault t) (recordCount t) (e .n) (e .found) (c .before .before .lower .result) (c .before .before .before .is-too-deep .result)
+          taken (e .inv .0)
+          (c .before .before .before .is-too-deep .ensures ∙ ap (λ (k : ℕ). tooDeep k level) ek ∙ levelled-fault t (e .n) level here)
+          (c .before .before .lower .ensures) (e .inv .2),
+    )
+
+returns : tie.Need-returns Inv-loop μ-loop
+returns c =
+    let t = c .before .before .before .args .table .now in
+    let e = c .before .loop in
+    lowest-end (levelFault t) (recordCount t) (e .n) (e .found) (omega arith) (e .inv .2)
+
+pub lowest-too-deep-spec : {M : Type 1} → statement M
+lowest-too-deep-spec =
+    tie.close
+    (tie.spec
+    Inv-loop
+    μ-loop
+    loop-holds
+    mul-level
+    array-read-level
+    kind-requires
+    is-too-deep-requires
+    lower-requires
+    pass-level-requires
+    sub-n
+    loop-less
+    loop-again
+    returns)

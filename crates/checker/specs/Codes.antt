@@ -1,0 +1,69 @@
+-- A form as a number of six hexadecimal digits: sort, mark, A, B, C, literal; 0 where the language has no such kind.
+use Prim.Native.Nat.{ℕ, zero, suc, _/_, _%_}
+use mathlib.Core.Bool.{Bool, true, false, _&&_, _||_}
+use mathlib.Core.List.{List, [], _∷_}
+use mathlib.Core.Option.{Option, none, some}
+use mathlib.Core.Path.{_≡_}
+use lib.Dec.{ltb, eqb}
+use lib.ListN.{getD}
+use Rattle.rules.specs.Kinds.{Language, source, target, Sort, expression, place, term, predicate, statement, Field, unnamed, child, number, between, Literal, zeroLiteral, anyLiteral, statementLiteral, Form, form, formOf}
+use Rattle.rules.specs.Checker.{fieldFits, sortOf}
+
+abbrev pub languageOf : Bool → Language
+languageOf true = target
+languageOf false = source
+
+-- a sort by its number
+unfoldable pub sortFrom : ℕ → Sort
+sortFrom zero = statement
+sortFrom (suc zero) = expression
+sortFrom (suc (suc zero)) = place
+sortFrom (suc (suc (suc zero))) = term
+sortFrom (suc (suc (suc (suc zero)))) = predicate
+sortFrom (suc (suc (suc (suc (suc n))))) = statement
+
+-- the numbers that a field with digit 6, 7, .. takes, from the lowest to the highest; 8 is apart
+abbrev pub lows : List ℕ
+lows = 0 ∷ 0 ∷ 0 ∷ 0 ∷ 0 ∷ 0 ∷ 1 ∷ 0 ∷ 0 ∷ 6 ∷ 0 ∷ 0 ∷ 1 ∷ 1 ∷ 0 ∷ 0 ∷ []
+
+abbrev pub highs : List ℕ
+highs = 0 ∷ 0 ∷ 0 ∷ 0 ∷ 0 ∷ 0 ∷ 7 ∷ 63 ∷ 0 ∷ 7 ∷ 61 ∷ 62 ∷ 8 ∷ 5 ∷ 0 ∷ 0 ∷ []
+
+unfoldable pub testFrom : ℕ → ℕ → Bool
+testFrom d =
+    elim (eqb d 8) [
+      | true ↦ (λ o. between 1 5 o || eqb o 8)
+      | false ↦ (λ o. between (getD lows d 0) (getD highs d 0) o)
+    ]
+
+-- 0 is no field, 1 to 5 a child of that sort, 6 on a number
+unfoldable pub fieldFrom : ℕ → Field
+fieldFrom d =
+    elim (eqb d 0) [
+      | true ↦ unnamed
+      | false ↦ elim (ltb d 6) [ true ↦ child (sortFrom d) | false ↦ number (testFrom d) ]
+    ]
+
+unfoldable pub literalFrom : ℕ → Literal
+literalFrom zero = zeroLiteral
+literalFrom (suc zero) = anyLiteral
+literalFrom (suc (suc n)) = statementLiteral
+
+abbrev pub entry : ℕ → ℕ → Form
+entry k x =
+    form k (sortFrom (x / 1048576)) (fieldFrom (x / 65536 % 16)) (fieldFrom (x / 4096 % 16)) (fieldFrom (x / 256 % 16))
+    (fieldFrom (x / 16 % 16)) (literalFrom (x % 16))
+
+unfoldable pub decoded : ℕ → ℕ → Option Form
+decoded k x = elim (eqb x 0) [ true ↦ none | false ↦ some (entry k x) ]
+
+-- x is what kind k asks in a language
+pub record Coded (l : Language) (k x : ℕ) : Type 0 where
+  pub asks : formOf l k ≡ decoded k x
+  pub sort : sortOf l k ≡ x / 1048576
+
+-- A, B and C are what x asks
+unfoldable pub fieldsThere : ℕ → ℕ → ℕ → ℕ → Bool
+fieldsThere x a b c =
+    fieldFits (fieldFrom (x / 4096 % 16)) a && fieldFits (fieldFrom (x / 256 % 16)) b
+    && fieldFits (fieldFrom (x / 16 % 16)) c

@@ -1,0 +1,4 @@
+pub mod Codes
+pub mod Searches
+pub mod Scopes
+pub mod Order

@@ -1,0 +1,30 @@
+//! Safe wrappers over the library's C functions, as `include/recorder.h` declares them.
+
+use reference::Answer;
+
+#[repr(C)]
+#[derive(Clone, Copy)]
+struct Returned {
+    number: u32,
+    record: u32,
+    fuel: u32,
+    free_cells: u32,
+}
+
+extern "C" {
+    fn recorder_check_source(table: *const u8, table_len: usize) -> Returned;
+    fn recorder_check_target(table: *const u8, table_len: usize) -> Returned;
+}
+
+fn answer(returned: Returned) -> Answer {
+    Answer::ending(returned.number, returned.record, returned.fuel, returned.free_cells)
+}
+
+pub fn check_source(table: &[u8]) -> Answer {
+    // The function reads the slice and keeps no reference to it.
+    answer(unsafe { recorder_check_source(table.as_ptr(), table.len()) })
+}
+
+pub fn check_target(table: &[u8]) -> Answer {
+    answer(unsafe { recorder_check_target(table.as_ptr(), table.len()) })
+}
