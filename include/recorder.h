@@ -1,4 +1,4 @@
-/* The watched recorder's checker, for a C host. The library is librecorder.a (`rt staticlib recorder`).
+/* The watched recorder's checker and translator, for a C host. The library is librecorder.a (`rt staticlib recorder`).
  *
  * A table is records of 16 bytes without a header, numbered from 1: kind, mark, children A, B, C in two bytes each,
  * and a signed 64-bit literal, all little-endian. docs/FORMATS.md lists the kinds.
@@ -12,7 +12,7 @@
 /* What every function returns, by value. */
 typedef struct recorder_answer {
     uint32_t number;     /* 0, or the number of a refusal */
-    uint32_t record;     /* the refused record, 0 where there is none */
+    uint32_t record;     /* the refused record, 0 where there is none; or a translation's record count */
     uint32_t fuel;       /* 0 here */
     uint32_t free_cells; /* 0 here */
 } recorder_answer;
@@ -31,5 +31,13 @@ typedef struct recorder_answer {
  */
 recorder_answer recorder_check_source(const uint8_t *table, size_t table_len);
 recorder_answer recorder_check_target(const uint8_t *table, size_t table_len);
+
+/* Translates a source table into the lent output: 16 bytes a record, child-first. The answer is 0 and the record count;
+ * bytes past the translation stay. At most 14 target records come from each source record, so 57,344 bytes hold any
+ * translation. Refusals: 1 to 8 as above, then
+ *   20 output shorter than the translation
+ * A refused call writes no byte of the output. The table and the output must not overlap.
+ */
+recorder_answer recorder_translate(const uint8_t *table, size_t table_len, uint8_t *out, size_t out_len);
 
 #endif

@@ -2,25 +2,26 @@
 use rules::Answer;
 use rules::Checked;
 ghost use mathlib.Core.Path.{_≡_};
-ghost use Rattle.rules.specs.Answers.{checkedAnswer, checkSource, checkTarget};
+ghost use Rattle.rules.specs.Answers.{answer, checkedAnswer, checkSource, checkTarget, translateSource};
+
+fn answer_with(number: u32, record: u32) -> Answer
+    ensures { λ r. ⌜ r ≡ answer number «record» 0 0 ⌝ }
+{
+    Answer {
+        number,
+        record,
+        fuel: 0,
+        free_cells: 0,
+    }
+}
 
 // A checker's word as an answer: 0 and record 0, or the refusal's number and record.
 fn answer_of(c: Checked) -> Answer
     ensures { λ r. ⌜ r ≡ checkedAnswer c ⌝ }
 {
     match c {
-        Checked::Accepted => Answer {
-            number: 0,
-            record: 0,
-            fuel: 0,
-            free_cells: 0,
-        },
-        Checked::Refused(number, record) => Answer {
-            number,
-            record,
-            fuel: 0,
-            free_cells: 0,
-        },
+        Checked::Accepted => answer_with(0, 0),
+        Checked::Refused(number, record) => answer_with(number, record),
     }
 }
 
@@ -36,4 +37,15 @@ pub extern "C" fn recorder_check_target(table: &[u8]) -> Answer
     ensures { λ r. ⌜ r ≡ checkTarget (now (table .entry)) ⌝ }
 {
     answer_of(checker::check_target(table))
+}
+
+#[no_mangle]
+pub extern "C" fn recorder_translate(table: &[u8], out: &mut [u8]) -> Answer
+    ensures answer { λ r. ⌜ r ≡ translateSource (now (table .entry)) (now (out .entry)) .answer ⌝ }
+    ensures output { λ _. ⌜ now (out .exit) ≡ translateSource (now (table .entry)) (now (out .entry)) .out ⌝ }
+{
+    match checker::check_source(table) {
+        Checked::Accepted => translation::translate_accepted(table, out),
+        Checked::Refused(number, record) => answer_with(number, record),
+    }
 }

@@ -14,6 +14,7 @@ struct Returned {
 extern "C" {
     fn recorder_check_source(table: *const u8, table_len: usize) -> Returned;
     fn recorder_check_target(table: *const u8, table_len: usize) -> Returned;
+    fn recorder_translate(table: *const u8, table_len: usize, out: *mut u8, out_len: usize) -> Returned;
 }
 
 fn answer(returned: Returned) -> Answer {
@@ -27,4 +28,11 @@ pub fn check_source(table: &[u8]) -> Answer {
 
 pub fn check_target(table: &[u8]) -> Answer {
     answer(unsafe { recorder_check_target(table.as_ptr(), table.len()) })
+}
+
+pub fn translate(table: &[u8], out: &mut [u8]) -> Answer {
+    // The two slices do not overlap, as a shared and an exclusive reference.
+    answer(unsafe {
+        recorder_translate(table.as_ptr(), table.len(), out.as_mut_ptr(), out.len())
+    })
 }

@@ -1,6 +1,6 @@
 -- By the two cases of the checker's word.
 use borrow.Author.Needs.{needs}
-use mathlib.Core.Path.{_≡_, sym, ap}
+use mathlib.Core.Path.{_≡_, sym, ap, _∙_}
 use Rattle.rules.specs.Answers.{checkedAnswer}
 use Rattle.recorder.proofs.answer_of.Statement.{statement}
 use Rattle.recorder.proofs.answer_of.Tie as tie
@@ -8,14 +8,21 @@ use Rattle.recorder.proofs.answer_of.Tie as tie
 enum-told : tie.Need-enum-told
 enum-told c = search needs
 
+answer-with-requires : tie.Need-answer-with-requires
+answer-with-requires c κs = search needs
+
 enum-known-c : tie.Need-enum-known-c
 enum-known-c c = search needs
 
+answer-with-requires-2 : tie.Need-answer-with-requires-2
+answer-with-requires-2 c κs = search needs
+
 returns : tie.Need-returns
-returns c = sym (ap checkedAnswer (c .enum-told .given .1))
+returns c = c .answer-with .ensures ∙ sym (ap checkedAnswer (c .before .enum-told .given .1))
 
 returns-2 : tie.Need-returns-2
-returns-2 c = sym (ap checkedAnswer (c .before .c .given .1))
+returns-2 c = c .answer-with2 .ensures ∙ sym (ap checkedAnswer (c .before .before .c .given .1))
 
 pub answer-of-spec : {M : Type 1} → statement M
-answer-of-spec = tie.close (tie.spec enum-told enum-known-c returns returns-2)
+answer-of-spec =
+    tie.close (tie.spec enum-told answer-with-requires enum-known-c answer-with-requires-2 returns returns-2)

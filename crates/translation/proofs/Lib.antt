@@ -1,0 +1,10 @@
+pub mod Puts
+pub mod Emitting
+pub mod Copying
+pub mod Parts
+pub mod Sizes
+pub mod SizeSteps
+pub mod Tests
+pub mod TestSteps
+pub mod Statements
+pub mod Accepting
