@@ -1,4 +1,4 @@
-/* The watched recorder's checker and translator, for a C host. The library is librecorder.a (`rt staticlib recorder`).
+/* The watched recorder's checker, translator and plain run, for a C host. The library is librecorder.a (`rt staticlib recorder`).
  *
  * A table is records of 16 bytes without a header, numbered from 1: kind, mark, children A, B, C in two bytes each,
  * and a signed 64-bit literal, all little-endian. docs/FORMATS.md lists the kinds.
@@ -11,10 +11,11 @@
 
 /* What every function returns, by value. */
 typedef struct recorder_answer {
-    uint32_t number;     /* 0, or the number of a refusal */
-    uint32_t record;     /* the refused record, 0 where there is none; or a translation's record count */
-    uint32_t fuel;       /* 0 here */
-    uint32_t free_cells; /* 0 here */
+    uint32_t number;     /* 0, or the number of a refusal or an ending */
+    uint32_t record;     /* the refused record, 0 where there is none; a translation's record count; or the source
+                          * statement at which a run ended, 0 where it finished */
+    uint32_t fuel;       /* a run's fuel left, else 0 */
+    uint32_t free_cells; /* a run's free cells, else 0 */
 } recorder_answer;
 
 /* Checks a table of any bytes and any length; nothing is written and nothing is kept. An accepted table is answered 0
@@ -39,5 +40,23 @@ recorder_answer recorder_check_target(const uint8_t *table, size_t table_len);
  * A refused call writes no byte of the output. The table and the output must not overlap.
  */
 recorder_answer recorder_translate(const uint8_t *table, size_t table_len, uint8_t *out, size_t out_len);
+
+/* Runs a source table on 1 to 256 inputs of 8 bytes each, with fuel for its while tests. The memory is 18,424 bytes,
+ * laid out as docs/FORMATS.md says; a run clears it first, and what it held counts for nothing.
+ * Refusals: 1 to 8 as above, then
+ *   9  inputs no multiple of 8 bytes, none, or over 256
+ *   21 memory not 18,424 bytes
+ * A refused call writes no byte of the memory. Endings:
+ *   0  finished (statement 0)             41 undefined cell read
+ *   30 no run of free cells long enough   42 cell in a dead block or outside
+ *   31 all names given                    43 overflow
+ *   32 fuel is 0 at a while test          44 zero divisor
+ *   33 assertion false                    45 size below 1
+ *   40 wrong sort of value                46 free of anything but a freeable block's first cell
+ *                                         47 base, offset or length of a block not live
+ * The buffers must not overlap. The call's own frames hold some 84 KiB; the descent of the table adds to that.
+ */
+recorder_answer recorder_run_plain(const uint8_t *table, size_t table_len, const uint8_t *inputs, size_t inputs_len,
+                                   uint32_t fuel, uint8_t *memory, size_t memory_len);
 
 #endif

@@ -2,7 +2,7 @@
 use rules::Answer;
 use rules::Checked;
 ghost use mathlib.Core.Path.{_≡_};
-ghost use Rattle.rules.specs.Answers.{answer, checkedAnswer, checkSource, checkTarget, translateSource};
+ghost use Rattle.rules.specs.Answers.{answer, checkedAnswer, checkSource, checkTarget, translateSource, runPlain};
 
 fn answer_with(number: u32, record: u32) -> Answer
     ensures { λ r. ⌜ r ≡ answer number «record» 0 0 ⌝ }
@@ -46,6 +46,19 @@ pub extern "C" fn recorder_translate(table: &[u8], out: &mut [u8]) -> Answer
 {
     match checker::check_source(table) {
         Checked::Accepted => translation::translate_accepted(table, out),
-        Checked::Refused(number, record) => answer_with(number, record),
+        Checked::Refused(rule, record) => answer_with(rule, record),
     }
+}
+
+#[no_mangle]
+pub extern "C" fn recorder_run_plain(
+    table: &[u8],
+    inputs: &[u8],
+    fuel: u32,
+    memory: &mut [u8],
+) -> Answer
+    ensures answer { λ r. ⌜ r ≡ runPlain (now (table .entry)) (now (inputs .entry)) fuel (now (memory .entry)) .answer ⌝ }
+    ensures memory { λ _. ⌜ now (memory .exit) ≡ runPlain (now (table .entry)) (now (inputs .entry)) fuel (now (memory .entry)) .memory ⌝ }
+{
+    plain::run_plain(table, inputs, fuel, memory)
 }

@@ -14,6 +14,15 @@ struct Returned {
 extern "C" {
     fn recorder_check_source(table: *const u8, table_len: usize) -> Returned;
     fn recorder_check_target(table: *const u8, table_len: usize) -> Returned;
+    fn recorder_run_plain(
+        table: *const u8,
+        table_len: usize,
+        inputs: *const u8,
+        inputs_len: usize,
+        fuel: u32,
+        memory: *mut u8,
+        memory_len: usize,
+    ) -> Returned;
     fn recorder_translate(table: *const u8, table_len: usize, out: *mut u8, out_len: usize) -> Returned;
 }
 
@@ -34,5 +43,19 @@ pub fn translate(table: &[u8], out: &mut [u8]) -> Answer {
     // The two slices do not overlap, as a shared and an exclusive reference.
     answer(unsafe {
         recorder_translate(table.as_ptr(), table.len(), out.as_mut_ptr(), out.len())
+    })
+}
+
+pub fn run_plain(table: &[u8], inputs: &[u8], fuel: u32, memory: &mut [u8]) -> Answer {
+    answer(unsafe {
+        recorder_run_plain(
+            table.as_ptr(),
+            table.len(),
+            inputs.as_ptr(),
+            inputs.len(),
+            fuel,
+            memory.as_mut_ptr(),
+            memory.len(),
+        )
     })
 }

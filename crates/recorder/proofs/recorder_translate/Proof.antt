@@ -18,8 +18,8 @@ translate-accepted-requires c κs =
     let e = c .before in
     sym (e .before .before .check-source .ensures) ∙ e .enum-told .given .1
 
-enum-known-number : tie.Need-enum-known-number
-enum-known-number c = search needs
+enum-known-rule : tie.Need-enum-known-rule
+enum-known-rule c = search needs
 
 answer-with-requires : tie.Need-answer-with-requires
 answer-with-requires c κs = search needs
@@ -43,7 +43,7 @@ returns-2 c =
     let n = c .before .before in
     let k = n .before .before in
     let s = k .before .before .before in
-    let d = sym (sym (k .check-source .ensures) ∙ n .number .given .1) in (
+    let d = sym (sym (k .check-source .ensures) ∙ n .rule .given .1) in (
       c .answer-with .ensures ∙ ap (λ x. translatedBy x (now (s .args .table)) (now (s .args .out)) .answer) d,
       ap (λ x. translatedBy x (now (s .args .table)) (now (s .args .out)) .out) d,
     )
@@ -51,5 +51,5 @@ returns-2 c =
 pub recorder-translate-spec : {M : Type 1} → statement M
 recorder-translate-spec =
     tie.close
-    (tie.spec check-source-requires enum-told translate-accepted-requires enum-known-number answer-with-requires same-length
+    (tie.spec check-source-requires enum-told translate-accepted-requires enum-known-rule answer-with-requires same-length
     returns returns-2)

@@ -1,0 +1,54 @@
+use native.Mathlib.Omega.{arith}
+use mathlib.Core.Path.{_≡_, sym, ap, ap₂, _∙_, subst}
+use Rattle.rules.specs.Plain.{after, asserted}
+use Rattle.rules.specs.Layout.{memoryOf}
+use Rattle.evaluation.specs.State.{variablesOf}
+use Rattle.rules.specs.Memory.{assigned}
+use Rattle.rules.proofs.PlainArms.{statementAt, assign-children, run-assign}
+use Rattle.plain.proofs.Laws.{ran-does}
+use Rattle.plain.proofs.ReadyLaws.{ready-within, ready-number, assign-fits}
+use Rattle.plain.proofs.assign.Statement.{statement}
+use Rattle.plain.proofs.assign.Tie as tie
+
+find-a-requires : tie.Need-find-a-requires
+find-a-requires c κs =
+    let s = c .before in
+    let T = s .args .table .now in
+    (ready-within T (s .args .n) _ _ (s .pre .0), assign-children T (s .args .n) (s .pre .0 .is) (s .pre .1) .0 .2)
+
+evaluate-b-requires : tie.Need-evaluate-b-requires
+evaluate-b-requires c κs =
+    let s = c .before .before .before in
+    let T = s .args .table .now in
+    (ready-within T (s .args .n) _ _ (s .pre .0), assign-children T (s .args .n) (s .pre .0 .is) (s .pre .1) .1 .2)
+
+store-at-requires : tie.Need-store-at-requires
+store-at-requires c κs =
+    let s = c .before .before .before .before .before in
+    let T = s .args .table .now in
+    rw (c .before .evaluate-b .ensures)
+    (assign-fits T (s .args .n) (variablesOf (s .args .variables .now)) (memoryOf (s .args .mem .now)) (s .pre .0) (s .pre .1))
+
+cast-conclude : tie.Need-cast-conclude
+cast-conclude c =
+    let s = c .before .before .before .before .before .before in
+    ready-number (s .args .table .now) (s .args .n) _ _ (s .pre .0)
+
+conclude-requires : tie.Need-conclude-requires
+conclude-requires c κs = tt
+
+returns : tie.Need-returns
+returns c =
+    let s = c .before .before .before .before .before .before .before in
+    let T = s .args .table .now in
+    let n = s .args .n in
+    let ρ = variablesOf (s .args .variables .now) in
+    let l = s .args .mem .now in
+    ran-does (statementAt T n) ρ (s .args .fuel) n (assigned (memoryOf l) (c .before .before .before .before .before .find-a .result) (c .before .before .before .evaluate-b .result))
+    (c .before .store-at .result) (c .conclude .result) l (c .before .store-at .last .0)
+    (run-assign T n (s .pre .0 .is) ρ (memoryOf l) (s .args .fuel) (s .pre .1)
+    ∙ sym (ap (after n (s .args .fuel)) (ap₂ (assigned (memoryOf l)) (c .before .before .before .before .before .find-a .ensures) (c .before .before .before .evaluate-b .ensures))))
+    (c .before .store-at .ensures) (c .conclude .ensures)
+
+pub assign-spec : {M : Type 1} → statement M
+assign-spec = tie.close (tie.spec find-a-requires evaluate-b-requires store-at-requires cast-conclude conclude-requires returns)

@@ -1,0 +1,14 @@
+use Rattle.plain.proofs.run_from_start.Statement.{statement}
+use Rattle.plain.proofs.run_from_start.Tie as tie
+
+start-variables-requires : tie.Need-start-variables-requires
+start-variables-requires c κs = tt
+
+run-requires : tie.Need-run-requires
+run-requires c κs = rw (c .before .before .before .start-variables .ensures) (c .before .before .before .before .pre)
+
+returns : tie.Need-returns
+returns c = rw (c .before .before .before .before .start-variables .ensures) at (c .run .ensures)
+
+pub run-from-start-spec : {M : Type 1} → statement M
+run-from-start-spec = tie.close (tie.spec start-variables-requires run-requires returns)

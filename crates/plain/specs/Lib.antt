@@ -1,0 +1,2 @@
+-- What the code of the plain run is held to.
+pub mod Running
