@@ -1,5 +1,5 @@
 // Cases of document 01 through the compiled leaves: what it prints is held to the file `stdout`.
-use memory::Making;
+use blocks::Making;
 use rules::Block;
 use rules::Number;
 use rules::Pointer;
@@ -55,12 +55,12 @@ fn print_p3_p4() {
 fn begin(mem: &mut [u8; 18424]) {
     let inputs = [7u8, 0, 0, 0, 0, 0, 0, 0, 9, 0, 0, 0, 0, 0, 0, 0];
     memory::start(mem, &inputs);
-    memory::make(mem, false, 1);
+    blocks::make(mem, false, 1);
 }
 
 // Name, first cell and length of a new block, or its ending.
 fn print_new(mem: &mut [u8; 18424], n: usize) {
-    match memory::make(mem, true, n) {
+    match blocks::make(mem, true, n) {
         Making::Name(k) => print_block(&*mem, k),
         Making::Stopped(k) => print_natural(k as u64),
     }
@@ -68,7 +68,7 @@ fn print_new(mem: &mut [u8; 18424], n: usize) {
 
 fn print_block(mem: &[u8; 18424], name: u16) {
     print_natural(name as u64);
-    match memory::block(mem, name) {
+    match cells::block(mem, name) {
         Block::Unused => print_natural(0),
         Block::Fixed(_, _) => print_natural(1),
         Block::Freeable(first, n) => {
@@ -94,7 +94,7 @@ fn print_p9() {
     io::write_all(1, b"P9");
     begin(&mut mem);
     print_new(&mut mem, 6);
-    print_natural(memory::free(&mut mem, Pointer { name: 4, offset: 0 }) as u64);
+    print_natural(blocks::free(&mut mem, Pointer { name: 4, offset: 0 }) as u64);
     print_new(&mut mem, 6);
     print_block(&mem, 4);
     end_line();

@@ -11,7 +11,7 @@ use Rattle.rules.specs.Layout.{cellFrom}
 use Rattle.rules.specs.Evaluation.{held}
 use Rattle.rules.specs.Watched.{temporaryOf, heldIn}
 use Rattle.rules.proofs.Rows.{getD-table}
-use Rattle.memory.proofs.Reading.{other-cell}
+use Rattle.cells.proofs.Reading.{other-cell}
 use Rattle.evaluation.specs.State.{temporaryIn, temporaryPlace, temporaryAt, temporariesOf}
 use Rattle.rules.specs.declared.Cell.{Cell}
 use Rattle.rules.specs.declared.Value.the-variants as value

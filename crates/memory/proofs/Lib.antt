@@ -1,8 +1,4 @@
--- Facts about the execution memory's bytes.
-pub mod Reading
-pub mod Writing
-pub mod Parts
-pub mod Runs
-pub mod Steps
+-- Facts about pointers into the execution memory, and about its start.
+pub mod Names
 pub mod Starting
 pub mod Queries

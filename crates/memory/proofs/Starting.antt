@@ -1,47 +1,25 @@
 -- The memory that a run starts with, made step by step from cleared bytes.
-use Prim.Native.Nat.{ℕ, zero, suc, _+_, _-_, _*_, _/_, _<_, _≤_}
+use Prim.Native.Nat.{ℕ, zero, suc, _+_, _-_, _*_, _/_, _≤_}
 use native.Mathlib.Omega.{arith}
 use native.Mathlib.Numerals.{add-one}
-use mathlib.Core.Path.{_≡_, refl, sym, ap, ap₂, _∙_, subst}
-use mathlib.Core.List.{List, [], _∷_, _++_, map, append-assoc}
+use mathlib.Core.Path.{_≡_, refl, sym, ap, _∙_}
+use mathlib.Core.List.{List, [], _∷_, _++_, map}
 use lib.IntN.{ℤ, pos}
-use lib.ListN.{length, set, replicate, take, drop, length-replicate, replicate-append-replicate}
+use lib.ListN.{length, set, replicate, take, drop}
 use lib.Seq.{drop-drop}
 use mir.Syntax.{w64}
 use mir.Val.{toZ}
-use Rattle.rules.specs.Words.{little, digits, wordAt, integerAt}
+use Rattle.rules.specs.Words.{little, wordAt, integerAt}
 use Rattle.rules.specs.Memory.{Memory, setCell, startMemory}
 use Rattle.rules.specs.Answers.{numbersIn, inputsOf}
-use Rattle.rules.specs.Layout.{memoryOf, memoryImage, blockBytes, cellBytes}
-use Rattle.rules.proofs.Rows.{flat-all}
-use Rattle.rules.proofs.Lists.{all-replicate}
-use Rattle.rules.proofs.Fits.{FitsMemory}
-use Rattle.rules.proofs.LayoutLaws.{memory-back}
-use Rattle.rules.specs.declared.Block.{Block}
+use Rattle.rules.specs.Layout.{memoryOf, memoryImage}
 use Rattle.rules.specs.declared.Block.the-variants as block
 use Rattle.rules.specs.declared.Cell.{Cell}
 use Rattle.rules.specs.declared.Cell.the-variants as cell
 use Rattle.rules.specs.declared.Value.the-variants as value
-use Rattle.memory.specs.Changes.{Exact, Becomes, emptyMemory, withStart, withInputs}
-
--- ---- cleared bytes
-pub empty-image : replicate 18424 0 ≡ memoryImage emptyMemory
-unfolding memoryImage blockBytes cellBytes digits
-empty-image =
-    sym (ap₂ (λ (x y : List ℕ). x ++ y) (flat-all blockBytes block.Unused 8 255 refl)
-    (flat-all cellBytes cell.Free 16 1024 refl)
-    ∙ replicate-append-replicate 2040 16384 0)
-
-empty-fits : FitsMemory emptyMemory
-empty-fits = record {
-  block-count = length-replicate 255 block.Unused;
-  cell-count = length-replicate 1024 cell.Free;
-  blocks-fit = all-replicate 255 block.Unused tt;
-  cells-fit = all-replicate 1024 cell.Free tt;
-}
-
-empty-view : memoryOf (memoryImage emptyMemory) ≡ emptyMemory
-empty-view = memory-back emptyMemory empty-fits
+use Rattle.cells.specs.Changes.{Exact, Becomes, emptyMemory}
+use Rattle.cells.proofs.Clearing.{empty-view}
+use Rattle.memory.specs.Starting.{withStart, withInputs}
 
 -- ---- the inputs, one after the other
 abbrev input-cell : ℤ → Cell

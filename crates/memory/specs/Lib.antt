@@ -1,2 +1,3 @@
 -- What the code of the execution memory is held to.
-pub mod Changes
+pub mod Starting
+pub mod Queries

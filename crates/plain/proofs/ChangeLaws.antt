@@ -19,9 +19,10 @@ use Rattle.rules.proofs.Keeping.{AnyNumber, AnyValue, AnyPlace, AnyMemory, Made
 use Rattle.rules.proofs.Fits.{FitsName, FitsValue}
 use Rattle.rules.proofs.FitsLaws.{nextName-fits}
 use Rattle.rules.proofs.FittingValues as ranged
-use Rattle.memory.specs.Changes.{Becomes, makingOf, madeMemory, NamesFit, EvaluatedFits}
-use Rattle.memory.specs.declared.Making.{Making}
-use Rattle.memory.specs.declared.Making.the-variants as making
+use Rattle.cells.specs.Changes.{Becomes, NamesFit, EvaluatedFits}
+use Rattle.blocks.specs.Blocks.{makingOf, madeMemory}
+use Rattle.blocks.specs.declared.Making.{Making}
+use Rattle.blocks.specs.declared.Making.the-variants as making
 use Rattle.plain.specs.Running.{Does}
 use Rattle.plain.proofs.Laws.{becomes-same, becomes-is, becomes-then}
 

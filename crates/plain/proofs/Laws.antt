@@ -17,7 +17,7 @@ use Rattle.rules.specs.declared.Test.{Test}
 use Rattle.rules.specs.declared.Test.the-variants as test
 use Rattle.rules.proofs.Keeping.{Ending}
 use Rattle.rules.proofs.Endings.{PlainEnds, run-endings}
-use Rattle.memory.specs.Changes.{Becomes}
+use Rattle.cells.specs.Changes.{Becomes}
 use Rattle.plain.specs.declared.Ended.{Ended}
 use Rattle.plain.specs.Running.{result, resultOf, concluded, assertNumber, Does, Ran}
 

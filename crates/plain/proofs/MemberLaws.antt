@@ -22,8 +22,9 @@ use Rattle.rules.specs.declared.Test.the-variants as test
 use Rattle.rules.proofs.Fits.{FitsMemory}
 use Rattle.rules.proofs.Fuel.{fuelOf, run-fuel}
 use Rattle.rules.proofs.PlainArms.{HasSort, expressionAt, statementAt, run-branch, run-while-zero, run-while-suc, run-let, let-child, sound-let}
-use Rattle.memory.specs.Changes.{Becomes, makingOf, madeMemory}
-use Rattle.memory.specs.declared.Making.the-variants as making
+use Rattle.cells.specs.Changes.{Becomes}
+use Rattle.blocks.specs.Blocks.{makingOf, madeMemory}
+use Rattle.blocks.specs.declared.Making.the-variants as making
 use Rattle.evaluation.specs.State.{variablesOf}
 use Rattle.plain.specs.declared.Ended.{Ended}
 use Rattle.plain.specs.Running.{Ready, Inside, enclosed, result, resultOf, Ran}

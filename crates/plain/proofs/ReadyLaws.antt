@@ -25,7 +25,7 @@ use Rattle.rules.proofs.Reachable.{extend-fits}
 use Rattle.rules.proofs.ReachableRoundTrip.{run-fits}
 use Rattle.rules.proofs.PlainArms.{HasSort, Under, expressionAt, statementAt, statement-within, sequence-children, branch-children, while-children, let-child, sound-assign, sound-sequence, sound-branch, sound-while, sound-let}
 use Rattle.tables.specs.Within.{Within}
-use Rattle.memory.specs.Changes.{EvaluatedFits}
+use Rattle.cells.specs.Changes.{EvaluatedFits}
 use Rattle.plain.specs.Running.{Ready}
 use Rattle.plain.proofs.ChangeLaws.{names-fit}
 

@@ -18,7 +18,7 @@ use Rattle.rules.proofs.Fits.{FitsMemory}
 use Rattle.rules.proofs.Reachable.{NamesFit}
 use Rattle.rules.proofs.PlainArms.{HasSort, statementAt}
 use Rattle.tables.specs.Within.{Within}
-use Rattle.memory.specs.Changes.{Becomes, changeNumber, changeMemory}
+use Rattle.cells.specs.Changes.{Becomes, changeNumber, changeMemory}
 use Rattle.plain.specs.declared.Ended.{Ended}
 
 -- statement n may run: its numbers and names fit, and so do those that it finds

@@ -17,10 +17,10 @@ ghost use Rattle.rules.specs.Plain.{run, startVariables};
 ghost use Rattle.rules.specs.Layout.{memoryOf};
 ghost use Rattle.rules.proofs.PlainArms.{HasSort, expressionAt, placeAt, predicateAt, statementAt};
 ghost use Rattle.tables.specs.Within.{Within};
-ghost use Rattle.memory.specs.Changes.{EvaluatedFits};
+ghost use Rattle.cells.specs.Changes.{EvaluatedFits};
 ghost use Rattle.evaluation.specs.State.{variablesOf};
 ghost use Rattle.plain.specs.Running.{concluded, assertNumber, Does, Ready, Inside, enclosed, Ran, AnsweredBy};
-use memory::Making;
+use blocks::Making;
 use rules::Answer;
 use rules::Checked;
 use rules::Evaluated;
@@ -84,7 +84,7 @@ fn store_at(mem: &mut [u8; 18424], f: Found, e: Evaluated) -> u32
 fn store_new(mem: &mut [u8; 18424], p: Pointer, n: usize) -> u32
     ensures { λ r. ⌜ Does (storeNew (memoryOf (now (mem .entry))) p (makeBlock (memoryOf (now (mem .entry))) freeable n)) r (now (mem .entry)) (now (mem .exit)) ⌝ }
 {
-    match memory::make(mem, true, n) {
+    match blocks::make(mem, true, n) {
         Making::Name(k) => memory::store(mem, p, Value::Pointer(Pointer { name: k, offset: 0 })),
         Making::Stopped(c) => c,
     }
@@ -125,7 +125,7 @@ fn free_at(mem: &mut [u8; 18424], e: Evaluated) -> u32
         Evaluated::Value(v) => match v {
             Value::Undefined => 40,
             Value::Integer(_) => 40,
-            Value::Pointer(p) => memory::free(mem, p),
+            Value::Pointer(p) => blocks::free(mem, p),
         },
         Evaluated::Stopped(k) => k,
     }
@@ -454,7 +454,7 @@ fn enclose(
     requires { ⌜ Ready (now table) n (variablesOf (now variables)) (memoryOf (now mem)) × (kindOf (now table) n ≡ 47) ⌝ }
     ensures { λ r. ⌜ Ran (run (statementAt (now (table .entry)) n) (variablesOf (now (variables .entry))) (memoryOf (now (mem .entry))) fuel) r (now (mem .entry)) (now (mem .exit)) ⌝ }
 {
-    match memory::make(mem, false, 1) {
+    match blocks::make(mem, false, 1) {
         Making::Name(k) => run_inside(table, n, variables, temporaries, mem, fuel, k),
         Making::Stopped(c) => Ended {
             number: c,
@@ -487,7 +487,7 @@ fn run_inside(
         fuel,
     );
     if r.number == 0 {
-        memory::end(mem, k);
+        blocks::end(mem, k);
     }
     r
 }
@@ -554,7 +554,7 @@ fn run_inputs(table: &[u8], inputs: &[u8], fuel: u32, memory: &mut [u8]) -> Answ
     let mut mem = [0u8; 18424];
     memory::start(&mut mem, inputs);
     let r = run_table(table, &mut mem, fuel);
-    let free_cells = memory::count_free(&mem);
+    let free_cells = blocks::count_free(&mem);
     copy(memory, &mem[..]);
     Answer {
         number: r.number,

@@ -6,7 +6,7 @@ use Rattle.memory.proofs.is_initialised.Statement.{statement}
 use Rattle.memory.proofs.is_initialised.Tie as tie
 use Rattle.memory.proofs.is_initialised.Reads as reads
 use Rattle.memory.proofs.is_initialised.Lts as lts
-use Rattle.memory.proofs.cell.Reads as cell-reads
+use Rattle.cells.proofs.cell.Reads as cell-reads
 use Rattle.memory.proofs.mark.Reads as mark-reads
 
 enum-known-l : tie.Need-enum-known-l

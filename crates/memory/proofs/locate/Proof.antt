@@ -8,7 +8,7 @@ use Rattle.memory.proofs.locate.Statement.{statement}
 use Rattle.memory.proofs.locate.Tie as tie
 use Rattle.memory.proofs.locate.Reads as reads
 use Rattle.memory.proofs.locate.Lts as lts
-use Rattle.memory.proofs.block.Reads as block-reads
+use Rattle.cells.proofs.block.Reads as block-reads
 use Rattle.memory.proofs.within.Reads as within-reads
 
 block-requires : tie.Need-block-requires

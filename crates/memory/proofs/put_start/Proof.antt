@@ -4,15 +4,15 @@ use Rattle.rules.specs.Memory.{Memory, setCell}
 use Rattle.rules.specs.declared.Block.the-variants as block
 use Rattle.rules.specs.declared.Cell.the-variants as cell
 use Rattle.rules.specs.declared.Value.the-variants as value
-use Rattle.memory.specs.Changes.{setBlock}
-use Rattle.memory.proofs.Writing.{becomes-then}
+use Rattle.cells.specs.Changes.{setBlock}
+use Rattle.cells.proofs.Writing.{becomes-then}
 use borrow.Author.Needs.{needs}
 use Rattle.memory.proofs.put_start.Statement.{statement}
 use Rattle.memory.proofs.put_start.Tie as tie
 use Rattle.memory.proofs.put_start.Reads as reads
 use Rattle.memory.proofs.put_start.Lts as lts
-use Rattle.memory.proofs.put_block.Reads as put-block-reads
-use Rattle.memory.proofs.put_cell.Reads as put-cell-reads
+use Rattle.cells.proofs.put_block.Reads as put-block-reads
+use Rattle.cells.proofs.put_cell.Reads as put-cell-reads
 
 put-block-requires : tie.Need-put-block-requires
 put-block-requires c κs = search needs

@@ -3,13 +3,13 @@ use mathlib.Core.Path.{_≡_, refl, sym, ap, _∙_, subst}
 use Rattle.rules.specs.Layout.{memoryOf}
 use Rattle.rules.specs.Memory.{blockOf, recordedOf}
 use Rattle.rules.specs.declared.Block.the-variants as block
-use Rattle.memory.proofs.Queries.{live-name}
+use Rattle.memory.proofs.Names.{live-name}
 use borrow.Author.Needs.{needs}
 use Rattle.memory.proofs.query_block.Statement.{statement}
 use Rattle.memory.proofs.query_block.Tie as tie
 use Rattle.memory.proofs.query_block.Reads as reads
 use Rattle.memory.proofs.query_block.Lts as lts
-use Rattle.memory.proofs.block.Reads as block-reads
+use Rattle.cells.proofs.block.Reads as block-reads
 use Rattle.memory.proofs.describe.Reads as describe-reads
 
 block-requires : tie.Need-block-requires

@@ -7,7 +7,7 @@ use Rattle.memory.proofs.read.Statement.{statement}
 use Rattle.memory.proofs.read.Tie as tie
 use Rattle.memory.proofs.read.Reads as reads
 use Rattle.memory.proofs.read.Lts as lts
-use Rattle.memory.proofs.cell.Reads as cell-reads
+use Rattle.cells.proofs.cell.Reads as cell-reads
 use Rattle.memory.proofs.define.Reads as define-reads
 use Rattle.memory.proofs.locate.Reads as locate-reads
 

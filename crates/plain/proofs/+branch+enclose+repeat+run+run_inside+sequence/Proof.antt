@@ -36,8 +36,8 @@ use Rattle.plain.proofs.+branch+enclose+repeat+run+run_inside+sequence.
 use Rattle.plain.proofs.sequence.Reads as sequence
 use Rattle.plain.proofs.sequence.Kinds as sequence-kinds
 use Rattle.plain.proofs.+branch+enclose+repeat+run+run_inside+sequence.Lts-sequence as sequence-lts
-use Rattle.memory.proofs.end.Reads as end-reads
-use Rattle.memory.proofs.make.Reads as make-reads
+use Rattle.blocks.proofs.end.Reads as end-reads
+use Rattle.blocks.proofs.make.Reads as make-reads
 use Rattle.plain.proofs.allocate.Reads as allocate-reads
 use Rattle.plain.proofs.assert.Reads as assert-reads
 use Rattle.plain.proofs.assign.Reads as assign-reads

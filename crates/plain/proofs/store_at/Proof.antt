@@ -2,7 +2,7 @@ use mathlib.Core.Path.{ap, ap₂, subst}
 use Rattle.rules.specs.Memory.{assigned}
 use Rattle.rules.specs.Layout.{memoryOf}
 use Rattle.rules.specs.declared.Found.{Found}
-use Rattle.memory.specs.Changes.{EvaluatedFits}
+use Rattle.cells.specs.Changes.{EvaluatedFits}
 use Rattle.plain.proofs.ChangeLaws.{does-is, does-stop}
 use borrow.Author.Needs.{needs}
 use Rattle.plain.proofs.store_at.Statement.{statement}

@@ -1,0 +1,3 @@
+-- Facts about runs of free cells, and about the steps of making and freeing a block.
+pub mod Runs
+pub mod Steps

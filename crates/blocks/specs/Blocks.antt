@@ -1,0 +1,24 @@
+-- What making a block answers, and cells that become others.
+use Prim.Native.Nat.{ℕ}
+use mathlib.Core.Bool.{Bool, true, false}
+use Rattle.rules.specs.Memory.{Memory, Made, made, unmade, Use, fixed, freeable, fill}
+use Rattle.rules.specs.declared.Cell.{Cell}
+use Rattle.blocks.specs.declared.Making.{Making}
+use Rattle.blocks.specs.declared.Making.the-variants as making
+
+-- what making a block answers, and the memory after it
+abbrev pub makingOf : Made → Making
+makingOf (made k m) = making.Name k
+makingOf (unmade c) = making.Stopped c
+
+abbrev pub madeMemory : Memory → Made → Memory
+madeMemory m (made k m₁) = m₁
+madeMemory m (unmade c) = m
+
+abbrev pub useOf : Bool → Use
+useOf true = freeable
+useOf false = fixed
+
+-- the n cells from s on are others
+abbrev pub fillCells : Memory → ℕ → ℕ → Cell → Memory
+fillCells m s n c = record { blocks = m .blocks; cells = fill (m .cells) s n c }

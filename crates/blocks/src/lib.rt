@@ -1,0 +1,193 @@
+// New blocks, freed blocks and free cells of the execution memory.
+ghost use mathlib.Core.Path.{_≡_};
+ghost use Prim.Native.Nat.{_+_, _*_, _<_};
+ghost use Rattle.rules.specs.Memory.{blockOf, cellOf, isFree, isUnused, freeRun, nextName, makeBlock, withBlock, endBlock, withoutCells, blockFor, freeOf, freeAt, countFree};
+ghost use Rattle.rules.specs.Layout.{memoryOf};
+ghost use Rattle.rules.specs.declared.Recorded.the-variants as recorded;
+ghost use Rattle.cells.specs.Changes.{Becomes, changeNumber, changeMemory, CellFits};
+ghost use Rattle.blocks.specs.Blocks.{makingOf, madeMemory, useOf, fillCells};
+use rules::Block;
+use rules::Cell;
+use rules::Pointer;
+use rules::Search;
+use rules::Value;
+
+// What making a block answers: its name, or the number of the ending.
+pub enum Making {
+    Name(u16),
+    Stopped(u32),
+}
+
+fn is_free(mem: &[u8; 18424], i: usize) -> bool
+    requires { ⌜ i < 1024 ⌝ }
+    ensures { λ r. ⌜ r ≡ isFree (cellOf (memoryOf (now (mem .entry))) i) ⌝ }
+{
+    mem[2040 + i * 16] == 0
+}
+
+pub fn count_free(mem: &[u8; 18424]) -> u32
+    ensures { λ r. ⌜ r ≡ countFree (memoryOf (now (mem .entry)) .cells) ⌝ }
+{
+    let mut n: u32 = 0;
+    let mut i: usize = 0;
+    while i < 1024 {
+        if is_free(mem, i) {
+            n += 1;
+        }
+        i += 1;
+    }
+    n
+}
+
+fn is_unused(mem: &[u8; 18424], name: usize) -> bool
+    requires { ⌜ (0 < name) × (name < 256) ⌝ }
+    ensures { λ r. ⌜ r ≡ isUnused (blockOf (memoryOf (now (mem .entry))) name) ⌝ }
+{
+    mem[(name - 1) * 8] == 0
+}
+
+// The lowest name that was never given.
+fn next_name(mem: &[u8; 18424]) -> Search
+    ensures { λ r. ⌜ r ≡ nextName (memoryOf (now (mem .entry))) ⌝ }
+{
+    let mut k: usize = 1;
+    while k < 256 {
+        if is_unused(mem, k) {
+            return Search::At(k);
+        }
+        k += 1;
+    }
+    Search::Nothing
+}
+
+// The lowest run of n free cells, n from 1 on.
+fn find_run(mem: &[u8; 18424], n: usize) -> Search
+    requires { ⌜ 0 < n ⌝ }
+    ensures { λ r. ⌜ r ≡ freeRun (memoryOf (now (mem .entry))) n ⌝ }
+{
+    let mut run: usize = 0;
+    let mut i: usize = 0;
+    while i < 1024 {
+        if is_free(mem, i) {
+            run += 1;
+            if run == n {
+                return Search::At(i + 1 - n);
+            }
+        } else {
+            run = 0;
+        }
+        i += 1;
+    }
+    Search::Nothing
+}
+
+fn free_run(mem: &[u8; 18424], n: usize) -> Search
+    ensures { λ r. ⌜ r ≡ freeRun (memoryOf (now (mem .entry))) n ⌝ }
+{
+    if n == 0 {
+        return Search::At(0);
+    }
+    find_run(mem, n)
+}
+
+// The n cells from first on, as far as there are such cells, become c.
+fn fill(mem: &mut [u8; 18424], first: u16, n: u16, c: Cell)
+    requires { ⌜ CellFits c ⌝ }
+    ensures { λ _. ⌜ Becomes (now (mem .entry)) (now (mem .exit))
+        (fillCells (memoryOf (now (mem .entry))) first n c) ⌝ }
+{
+    let mut i: usize = 0;
+    while i < n as usize {
+        cells::put_cell(mem, first as usize + i, c);
+        i += 1;
+    }
+}
+
+fn live(freeable: bool, first: u16, n: u16) -> Block
+    ensures { λ r. ⌜ r ≡ blockFor (useOf freeable) first n ⌝ }
+{
+    if freeable {
+        Block::Freeable(first, n)
+    } else {
+        Block::Fixed(first, n)
+    }
+}
+
+// Block k has the n cells from first on, undefined.
+fn place(mem: &mut [u8; 18424], freeable: bool, k: u16, first: u16, n: u16)
+    requires { ⌜ k < 256 ⌝ }
+    ensures { λ _. ⌜ Becomes (now (mem .entry)) (now (mem .exit))
+        (withBlock (memoryOf (now (mem .entry))) (useOf freeable) k first n) ⌝ }
+{
+    fill(mem, first, n, Cell::Holds(k, Value::Undefined));
+    cells::put_block(mem, k, live(freeable, first, n));
+}
+
+// A new block of n cells: 31 where all names are given, then 30 where no run of free cells is long enough.
+pub fn make(mem: &mut [u8; 18424], freeable: bool, n: usize) -> Making
+    ensures answer { λ r. ⌜ r ≡ makingOf (makeBlock (memoryOf (now (mem .entry))) (useOf freeable) n) ⌝ }
+    ensures memory { λ _. ⌜ Becomes (now (mem .entry)) (now (mem .exit))
+        (madeMemory (memoryOf (now (mem .entry))) (makeBlock (memoryOf (now (mem .entry))) (useOf freeable) n)) ⌝ }
+{
+    match next_name(&*mem) {
+        Search::Nothing => Making::Stopped(31),
+        Search::At(k) => match free_run(&*mem, n) {
+            Search::Nothing => Making::Stopped(30),
+            Search::At(first) => {
+                place(mem, freeable, k as u16, first as u16, n as u16);
+                Making::Name(k as u16)
+            }
+        },
+    }
+}
+
+// A block that has the n cells from first on is dead, and they are free.
+fn release(mem: &mut [u8; 18424], name: u16, first: u16, n: u16)
+    ensures { λ _. ⌜ Becomes (now (mem .entry)) (now (mem .exit))
+        (withoutCells (memoryOf (now (mem .entry))) name (recorded.Live first n)) ⌝ }
+{
+    fill(mem, first, n, Cell::Free);
+    cells::put_block(mem, name, Block::Dead);
+}
+
+fn free_block(mem: &mut [u8; 18424], name: u16) -> u32
+    ensures number { λ r. ⌜ r ≡ changeNumber (freeOf (memoryOf (now (mem .entry))) name
+        (blockOf (memoryOf (now (mem .entry))) name)) ⌝ }
+    ensures memory { λ _. ⌜ Becomes (now (mem .entry)) (now (mem .exit))
+        (changeMemory (freeOf (memoryOf (now (mem .entry))) name (blockOf (memoryOf (now (mem .entry))) name))) ⌝ }
+{
+    match cells::block(&*mem, name) {
+        Block::Unused => 46,
+        Block::Fixed(_, _) => 46,
+        Block::Freeable(first, n) => {
+            release(mem, name, first, n);
+            0
+        }
+        Block::Dead => 46,
+    }
+}
+
+// 46 where the pointer is not to the first cell of a live freeable block.
+pub fn free(mem: &mut [u8; 18424], p: Pointer) -> u32
+    ensures number { λ r. ⌜ r ≡ changeNumber (freeAt (memoryOf (now (mem .entry))) (p .name) (p .offset)) ⌝ }
+    ensures memory { λ _. ⌜ Becomes (now (mem .entry)) (now (mem .exit))
+        (changeMemory (freeAt (memoryOf (now (mem .entry))) (p .name) (p .offset))) ⌝ }
+{
+    if p.offset == 0 {
+        free_block(mem, p.name)
+    } else {
+        46
+    }
+}
+
+// The end of a block, if it is live.
+pub fn end(mem: &mut [u8; 18424], name: u16)
+    ensures { λ _. ⌜ Becomes (now (mem .entry)) (now (mem .exit)) (endBlock (memoryOf (now (mem .entry))) name) ⌝ }
+{
+    match cells::block(&*mem, name) {
+        Block::Unused => {}
+        Block::Fixed(first, n) => release(mem, name, first, n),
+        Block::Freeable(first, n) => release(mem, name, first, n),
+        Block::Dead => {}
+    }
+}

@@ -1,0 +1,45 @@
+-- The bytes of a record are those of one number, or of two one behind the other.
+use Prim.Native.Nat.{ℕ, _+_, _*_, _/_, _<_, _≤_}
+use native.Mathlib.Omega.{arith}
+use mathlib.Core.Path.{_≡_, ap, _∙_}
+use mathlib.Core.List.{List, [], _∷_, _++_}
+use lib.IntN.{ℤ}
+use lib.ListN.{length}
+use mir.Syntax.{w64}
+use mir.Val.{ofZ}
+use Rattle.rules.specs.Words.{digits, put, integerBytes}
+use Rattle.rules.specs.Layout.{blockRecord, cellRecord}
+use Rattle.rules.proofs.WordLaws.{put-put, length-digits}
+
+-- two lists of eight, element by element
+eight : {a b c d e f g h a′ b′ c′ d′ e′ f′ g′ h′ : ℕ} → a ≡ a′ → b ≡ b′ → c ≡ c′ → d ≡ d′ → e ≡ e′ → f ≡ f′ → g ≡ g′
+    → h ≡ h′ → _≡_ {A = List ℕ} (a ∷ b ∷ c ∷ d ∷ e ∷ f ∷ g ∷ h ∷ []) (a′ ∷ b′ ∷ c′ ∷ d′ ∷ e′ ∷ f′ ∷ g′ ∷ h′ ∷ [])
+eight p q r s t u v w = λ i. p i ∷ q i ∷ r i ∷ s i ∷ t i ∷ u i ∷ v i ∷ w i ∷ []
+
+head-digits : (k o n : ℕ) → k < 256 → o < 256 → n < 256
+    → digits 8 (k + o * 256 + n * 65536) ≡ k ∷ o ∷ n ∷ 0 ∷ 0 ∷ 0 ∷ 0 ∷ 0 ∷ []
+unfolding digits
+head-digits k o n hk ho hn =
+    eight (omega arith) (omega arith) (omega arith) (omega arith) (omega arith) (omega arith) (omega arith)
+    (omega arith)
+
+pub record-digits : (s f n : ℕ) → s < 256 → f < 65536 → n < 65536
+    → digits 8 (s + f * 65536 + n * 4294967296) ≡ blockRecord s f n
+unfolding digits
+record-digits s f n hs hf hn =
+    let x : ℕ = s + f * 65536 + n * 4294967296 in
+    let x₂ : x / 256 / 256 ≡ f + n * 65536 = omega arith in
+    let x₃ : x / 256 / 256 / 256 ≡ f / 256 + n * 256 = omega arith in
+    let x₄ : x / 256 / 256 / 256 / 256 ≡ n = omega arith in
+    eight (omega arith) (omega arith) (omega arith) (omega arith) (omega arith) (omega arith) (omega arith)
+    (omega arith)
+
+pub parts-put : (l : List ℕ) (at k o n : ℕ) (z : ℤ) → at + 16 ≤ length l → k < 256 → o < 256 → n < 256
+    → put (put l at (digits 8 (k + o * 256 + n * 65536))) (at + 8) (integerBytes z) ≡ put l at (cellRecord k o n z)
+parts-put l at k o n z room hk ho hn =
+    let v : ℕ = k + o * 256 + n * 65536 in
+    let w : List ℕ = digits 8 v in
+    let e : at + 8 ≡ at + length w = omega (arith, length-digits 8 v) in
+    ap (λ (j : ℕ). put (put l at w) j (integerBytes z)) e
+    ∙ put-put l w (integerBytes z) at (omega (arith, length-digits 8 v, length-digits 8 (ofZ w64 z)))
+    ∙ ap (λ (t : List ℕ). put l at (t ++ integerBytes z)) (head-digits k o n hk ho hn)

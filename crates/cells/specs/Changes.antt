@@ -1,0 +1,73 @@
+-- What a change of the execution memory is to its bytes, and what it answers.
+use Prim.Native.Nat.{ℕ, _<_}
+use mathlib.Core.Path.{_≡_}
+use mathlib.Core.List.{List}
+use lib.ListN.{replicate}
+use mir.Syntax.{w64}
+use mir.Val.{SFits}
+use Rattle.rules.specs.Sizes.{nameCount, cellCount}
+use Rattle.rules.specs.Memory.{Memory, Change, changed, stopped, rename}
+use Rattle.rules.specs.Layout.{memoryOf, memoryImage}
+use Rattle.rules.specs.declared.Value.{Value}
+use Rattle.rules.specs.declared.Value.the-variants as value
+use Rattle.rules.specs.declared.Evaluated.{Evaluated}
+use Rattle.rules.specs.declared.Evaluated.the-variants as evaluated
+use Rattle.rules.specs.declared.Block.{Block}
+use Rattle.rules.specs.declared.Block.the-variants as block
+use Rattle.rules.specs.declared.Cell.{Cell}
+use Rattle.rules.specs.declared.Cell.the-variants as cell
+
+-- bytes that are exactly those of what they stand for
+abbrev pub Exact : List ℕ → Type 0
+Exact l = l ≡ memoryImage (memoryOf l)
+
+-- the bytes now stand for m, and are exact if they were exact before
+pub record Becomes (entry exit : List ℕ) (m : Memory) : Type 0 where
+  pub view : memoryOf exit ≡ m
+  pub exact : Exact entry → Exact exit
+
+-- the number of a change, 0 where there is one, and the memory after it
+abbrev pub changeNumber : Change → ℕ
+changeNumber (changed m) = 0
+changeNumber (stopped k m) = k
+
+abbrev pub changeMemory : Change → Memory
+changeMemory (changed m) = m
+changeMemory (stopped k m) = m
+
+-- one block record of a memory is another
+abbrev pub setBlock : Memory → ℕ → Block → Memory
+setBlock m k b = record { blocks = rename (m .blocks) k b; cells = m .cells }
+
+abbrev pub emptyMemory : Memory
+emptyMemory = record { blocks = replicate nameCount block.Unused; cells = replicate cellCount cell.Free }
+
+-- names that one byte holds
+abbrev pub NamesFit : Value → Type 0
+NamesFit value.Undefined = Unit {0}
+NamesFit (value.Integer z) = Unit {0}
+NamesFit (value.Pointer p) = p .name < 256
+
+abbrev pub EvaluatedFits : Evaluated → Type 0
+EvaluatedFits (evaluated.Value v) = NamesFit v
+EvaluatedFits (evaluated.Stopped k) = Unit {0}
+
+abbrev pub CellFits : Cell → Type 0
+CellFits cell.Free = Unit {0}
+CellFits (cell.Holds o v) = (o < 256) × NamesFit v
+
+-- numbers that the code's types hold
+abbrev pub NumberHeld : Value → Type 0
+NumberHeld value.Undefined = Unit {0}
+NumberHeld (value.Integer z) = SFits w64 z
+NumberHeld (value.Pointer p) = SFits w64 (p .offset)
+
+abbrev pub CellHeld : Cell → Type 0
+CellHeld cell.Free = Unit {0}
+CellHeld (cell.Holds o v) = NumberHeld v
+
+abbrev pub BlockHeld : Block → Type 0
+BlockHeld block.Unused = Unit {0}
+BlockHeld (block.Fixed first n) = (first < 65536) × (n < 65536)
+BlockHeld (block.Freeable first n) = (first < 65536) × (n < 65536)
+BlockHeld block.Dead = Unit {0}

@@ -1,0 +1,2 @@
+-- What the code of cells and block records is held to.
+pub mod Changes
