@@ -1,5 +1,2 @@
-pub mod Operators
+-- Facts about the arms of evaluating and finding.
 pub mod Arms
-pub mod Temporaries
-pub mod TemporaryWrites
-pub mod TermArms

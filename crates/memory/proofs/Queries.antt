@@ -1,7 +1,7 @@
 -- The queries by their numbers.
 use Prim.Native.Nat.{ℕ, zero, suc}
-use mathlib.Core.Path.{_≡_, refl}
-use mathlib.Core.Bool.{Bool}
+use mathlib.Core.Path.{_≡_, refl, sym, subst}
+use mathlib.Core.Bool.{Bool, true, false}
 use lib.IntN.{pos}
 use Rattle.rules.specs.Trees.{valid, initialised}
 use Rattle.rules.specs.Memory.{Memory, recordedOf, blockOf, locate}
@@ -11,6 +11,8 @@ use Rattle.rules.specs.Nodes.{queryOf}
 use Rattle.rules.specs.declared.Pointer.{Pointer}
 use Rattle.rules.specs.declared.Recorded.{Recorded}
 use Rattle.rules.specs.declared.Value.the-variants as value
+use Rattle.rules.specs.declared.Evaluated.{Evaluated}
+use Rattle.cells.specs.Changes.{EvaluatedFits}
 use Rattle.memory.specs.Queries.{description}
 
 pub valid-law : (m : Memory) (f : ℕ → Bool) (p : Pointer)
@@ -41,3 +43,8 @@ other-description (suc (suc zero)) p n x y = refl
 other-description (suc (suc (suc zero))) p n x y = absurd (x refl)
 other-description (suc (suc (suc (suc zero)))) p n x y = absurd (y refl)
 other-description (suc (suc (suc (suc (suc q))))) p n x y = refl
+
+-- a truth value is an integer
+pub truth-fits : (b : Bool) (e : Evaluated) → e ≡ truthValue b → EvaluatedFits e
+truth-fits true e p = subst EvaluatedFits (sym p) tt
+truth-fits false e p = subst EvaluatedFits (sym p) tt

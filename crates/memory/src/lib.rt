@@ -4,7 +4,6 @@ ghost use Prim.Native.Nat.{_+_, _*_, _<_, _≤_};
 ghost use lib.ListN.{length};
 ghost use Rattle.rules.specs.Memory.{recordedOf, blockOf, cellOf, locatedIn, locate, defined, readCell, storeCell, startMemory};
 ghost use Rattle.rules.specs.Evaluation.{isInitialised, isValid, initialisedAt, ofLive, queried};
-ghost use Rattle.rules.specs.Numbers.{truthValue};
 ghost use Rattle.rules.specs.Nodes.{queryOf};
 ghost use Rattle.rules.specs.Answers.{inputsOf};
 ghost use Rattle.rules.specs.Layout.{memoryOf, memoryImage};
@@ -146,17 +145,6 @@ fn mark(c: Cell) -> bool
     }
 }
 
-fn truth(b: bool) -> Evaluated
-    ensures value { λ r. ⌜ r ≡ truthValue b ⌝ }
-    ensures names { λ r. ⌜ EvaluatedFits r ⌝ }
-{
-    if b {
-        Evaluated::Value(Value::Integer(1))
-    } else {
-        Evaluated::Value(Value::Integer(0))
-    }
-}
-
 fn is_valid(l: Located) -> bool
     ensures { λ r. ⌜ r ≡ isValid l ⌝ }
 {
@@ -214,8 +202,8 @@ pub fn query(mem: &[u8; 18424], q: u8, p: Pointer) -> Evaluated
     ensures names { λ r. ⌜ EvaluatedFits r ⌝ }
 {
     match q {
-        1 => truth(is_valid(locate(mem, p))),
-        2 => truth(is_initialised(mem, locate(mem, p))),
+        1 => values::truth(is_valid(locate(mem, p))),
+        2 => values::truth(is_initialised(mem, locate(mem, p))),
         _ => query_block(mem, q, p),
     }
 }

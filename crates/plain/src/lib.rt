@@ -201,7 +201,7 @@ fn test_a(
     requires { ⌜ Within (now table) n × HasSort expression (now table) (childA (now table) n) ⌝ }
     ensures { λ r. ⌜ r ≡ condition (evaluateSource (expressionAt (now (table .entry)) (childA (now (table .entry)) n)) (variablesOf (now (variables .entry))) (memoryOf (now (mem .entry)))) ⌝ }
 {
-    evaluation::test(evaluate_a(table, n, variables, temporaries, mem))
+    values::test(evaluate_a(table, n, variables, temporaries, mem))
 }
 
 // What predicate A says.
@@ -216,7 +216,7 @@ fn test_predicate(
     ensures { λ r. ⌜ r ≡ condition (evaluatePredicate (predicateAt (now (table .entry)) (childA (now (table .entry)) n)) (variablesOf (now (variables .entry))) (memoryOf (now (mem .entry)))) ⌝ }
 {
     let a = tables::child_a(&table[..], n);
-    evaluation::test(evaluation::evaluate_predicate(table, a, variables, temporaries, mem))
+    values::test(predicates::evaluate_predicate(table, a, variables, temporaries, mem))
 }
 
 // Place A takes expression B.

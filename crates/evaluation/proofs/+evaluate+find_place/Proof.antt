@@ -16,7 +16,8 @@ use Rattle.rules.specs.Evaluation.{Variables, Holding, operated}
 use Rattle.rules.specs.Watched.{temporaryOf}
 use Rattle.rules.specs.declared.Evaluated.{Evaluated}
 use Rattle.tables.specs.Within.{Within}
-use Rattle.evaluation.specs.State.{variablesOf, temporariesOf}
+use Rattle.evaluation.specs.State.{variablesOf}
+use Rattle.temporaries.specs.Bytes.{temporariesOf}
 use Rattle.evaluation.proofs.Arms.{within, read-below, address-below, pointer-below, variable-mark, is-temporary, temporary-mark, valueAt, literal-arm, read-arm, address-arm, Binary, binary, operation-arm, variable-arm, pointer-arm, temporary-arm}
 use Prim.Native.Nat.{ℕ, _<_}
 use borrow.Fn.Kinds.{In}
@@ -27,11 +28,11 @@ use Rattle.evaluation.proofs.+evaluate+find_place.Lts-evaluate as e-lts
 use Rattle.evaluation.proofs.find_place.Reads as find-place
 use Rattle.evaluation.proofs.find_place.Kinds as find-place-kinds
 use Rattle.evaluation.proofs.+evaluate+find_place.Lts-find_place as f-lts
-use Rattle.evaluation.proofs.address.Reads as address-reads
+use Rattle.values.proofs.address.Reads as address-reads
 use Rattle.evaluation.proofs.fetch.Reads as fetch-reads
-use Rattle.evaluation.proofs.operate.Reads as operate-reads
-use Rattle.evaluation.proofs.point.Reads as point-reads
-use Rattle.evaluation.proofs.read_temporary.Reads as read-temporary-reads
+use Rattle.values.proofs.operate.Reads as operate-reads
+use Rattle.values.proofs.point.Reads as point-reads
+use Rattle.temporaries.proofs.read_temporary.Reads as read-temporary-reads
 use Rattle.tables.proofs.child_a.Reads as child-a-reads
 use Rattle.tables.proofs.child_b.Reads as child-b-reads
 use Rattle.tables.proofs.kind.Reads as kind-reads

@@ -4,9 +4,9 @@ use Prim.Native.Nat.{ℕ, suc, _+_, _-_, _*_, _≤_, _<_}
 use mathlib.Core.Bool.{Bool, true, false}
 use Rattle.rules.specs.Layout.{memoryOf}
 use Rattle.rules.specs.Numbers.{truthValue}
-use Rattle.rules.specs.Memory.{blockOf, recordedOf, cellOf}
+use Rattle.rules.specs.Memory.{blockOf, recordedOf, cellOf, locate}
 use Rattle.rules.specs.Evaluation.{isInitialised, isValid, initialisedAt}
-use Rattle.memory.proofs.Queries.{valid-law, initialised-law, block-law}
+use Rattle.memory.proofs.Queries.{valid-law, initialised-law, block-law, truth-fits}
 use borrow.Author.Needs.{needs}
 use Rattle.memory.proofs.query.Statement.{statement}
 use Rattle.memory.proofs.query.Tie as tie
@@ -16,7 +16,7 @@ use Rattle.memory.proofs.is_initialised.Reads as is-initialised-reads
 use Rattle.memory.proofs.is_valid.Reads as is-valid-reads
 use Rattle.memory.proofs.locate.Reads as locate-reads
 use Rattle.memory.proofs.query_block.Reads as query-block-reads
-use Rattle.memory.proofs.truth.Reads as truth-reads
+use Rattle.values.proofs.truth.Reads as truth-reads
 
 locate-requires : tie.Need-locate-requires
 locate-requires c κs = search needs
@@ -43,24 +43,22 @@ returns : tie.Need-returns
 returns c =
     let s = c .before .before .before .before in
     let m = memoryOf (s .args .mem .now) in
-    let f : ℕ → Bool = λ (i : ℕ). isInitialised (cellOf m i) in (
-      rw (c .before .before .before .match .keys1) (c .truth .ensures .0
-          ∙ ap truthValue (c .before .is-valid .ensures ∙ ap isValid (c .before .before .locate .ensures))
-          ∙ valid-law m f (s .args .p)),
-      c .truth .ensures .1,
-    )
+    let f : ℕ → Bool = λ (i : ℕ). isInitialised (cellOf m i) in
+    let b : Bool = isValid (locate m (s .args .p)) in
+    let e = c .truth .ensures
+    ∙ ap truthValue (c .before .is-valid .ensures ∙ ap isValid (c .before .before .locate .ensures)) in
+    (rw (c .before .before .before .match .keys1) (e ∙ valid-law m f (s .args .p)), truth-fits b _ e)
 
 returns-2 : tie.Need-returns-2
 returns-2 c =
     let s = c .before .before .before .before in
     let m = memoryOf (s .args .mem .now) in
-    let f : ℕ → Bool = λ (i : ℕ). isInitialised (cellOf m i) in (
-      rw (c .before .before .before .match .keys2) (c .truth2 .ensures .0
-          ∙ ap truthValue (c .before .is-initialised .ensures
-          ∙ ap (initialisedAt f) (c .before .before .locate2 .ensures))
-          ∙ initialised-law m f (s .args .p)),
-      c .truth2 .ensures .1,
-    )
+    let f : ℕ → Bool = λ (i : ℕ). isInitialised (cellOf m i) in
+    let b : Bool = initialisedAt f (locate m (s .args .p)) in
+    let e = c .truth2 .ensures
+    ∙ ap truthValue (c .before .is-initialised .ensures
+    ∙ ap (initialisedAt f) (c .before .before .locate2 .ensures)) in
+    (rw (c .before .before .before .match .keys2) (e ∙ initialised-law m f (s .args .p)), truth-fits b _ e)
 
 returns-3 : tie.Need-returns-3
 returns-3 c =

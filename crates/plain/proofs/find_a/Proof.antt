@@ -7,7 +7,8 @@ use Rattle.rules.specs.Evaluation.{findPlace}
 use Rattle.rules.specs.Watched.{temporaryOf}
 use Rattle.rules.specs.Layout.{memoryOf}
 use Rattle.rules.proofs.SharedExpressions.{target-place, found-alike}
-use Rattle.evaluation.specs.State.{variablesOf, temporariesOf}
+use Rattle.evaluation.specs.State.{variablesOf}
+use Rattle.temporaries.specs.Bytes.{temporariesOf}
 use Rattle.plain.proofs.find_a.Statement.{statement}
 use Rattle.plain.proofs.find_a.Tie as tie
 

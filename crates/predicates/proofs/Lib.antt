@@ -1,0 +1,2 @@
+-- Facts about the arms of terms and predicates.
+pub mod Arms

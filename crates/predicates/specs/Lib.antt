@@ -1,0 +1,2 @@
+-- What the code of predicates is held to.
+pub mod Joints

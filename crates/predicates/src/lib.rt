@@ -1,0 +1,210 @@
+// Terms and predicates on the execution memory.
+ghost use mathlib.Core.Path.{_≡_};
+ghost use Rattle.rules.specs.Kinds.{source, sortNumber, term, predicate};
+ghost use Rattle.rules.specs.Nodes.{operatorOf, queryOf, asTerm, asPredicate, sortOfNode, nodeAt};
+ghost use Rattle.rules.specs.Memory.{onValue};
+ghost use Rattle.rules.specs.Layout.{memoryOf};
+ghost use Rattle.rules.specs.Evaluation.{operated, queryMemory, evaluateTerm, evaluatePredicate, opposite};
+ghost use Rattle.rules.specs.declared.Evaluated.the-variants as evaluated;
+ghost use Rattle.evaluation.specs.State.{variablesOf};
+ghost use Rattle.predicates.specs.Joints.{jointOf};
+use rules::Evaluated;
+use rules::Pointer;
+use rules::Value;
+
+// What A of an 'and' or an 'or' decides: the whole, or nothing, so that B does.
+pub enum Joint {
+    Decided(Evaluated),
+    Open,
+}
+
+// An operator on what A and B gave: the first stop stays.
+fn combine(k: u8, a: Evaluated, b: Evaluated) -> Evaluated
+    ensures { λ r. ⌜ r ≡ operated (operatorOf k) a b ⌝ }
+{
+    match a {
+        Evaluated::Value(x) => match b {
+            Evaluated::Value(y) => values::operate(k, x, y),
+            Evaluated::Stopped(s) => Evaluated::Stopped(s),
+        },
+        Evaluated::Stopped(s) => Evaluated::Stopped(s),
+    }
+}
+
+// A query of what a term gave: 40 where it is no pointer.
+fn ask(mem: &[u8; 18424], q: u8, e: Evaluated) -> Evaluated
+    ensures { λ r. ⌜ r ≡ onValue e evaluated.Stopped (queryMemory (queryOf q) (memoryOf (now (mem .entry)))) ⌝ }
+{
+    match e {
+        Evaluated::Value(v) => match v {
+            Value::Undefined => Evaluated::Stopped(40),
+            Value::Integer(_) => Evaluated::Stopped(40),
+            Value::Pointer(p) => memory::query(mem, q, p),
+        },
+        Evaluated::Stopped(k) => Evaluated::Stopped(k),
+    }
+}
+
+// 1 where a predicate gave 0, else 0.
+fn oppose(e: Evaluated) -> Evaluated
+    ensures { λ r. ⌜ r ≡ onValue e evaluated.Stopped opposite ⌝ }
+{
+    match e {
+        Evaluated::Value(v) => values::negate(v),
+        Evaluated::Stopped(k) => Evaluated::Stopped(k),
+    }
+}
+
+// Whether A decides an 'or', or else an 'and': where it is not 0, and where it is 0.
+fn join(either: bool, a: Evaluated) -> Joint
+    ensures { λ r. ⌜ r ≡ jointOf either a ⌝ }
+{
+    match a {
+        Evaluated::Value(v) => match v {
+            Value::Undefined => Joint::Decided(Evaluated::Stopped(40)),
+            Value::Integer(z) => {
+                if numbers::equal(z, 0) != either {
+                    Joint::Decided(Evaluated::Value(Value::Integer(z)))
+                } else {
+                    Joint::Open
+                }
+            }
+            Value::Pointer(_) => Joint::Decided(Evaluated::Stopped(40)),
+        },
+        Evaluated::Stopped(k) => Joint::Decided(Evaluated::Stopped(k)),
+    }
+}
+
+// The value of term n of a source table, on the execution memory. Its expressions name no temporary.
+pub fn evaluate_term(
+    table: &[u8; 65536],
+    n: usize,
+    variables: &[u16; 64],
+    temporaries: &[u8; 1024],
+    mem: &[u8; 18424],
+) -> Evaluated
+    requires { ⌜ sortOfNode source (nodeAt source (now table) n) ≡ sortNumber term ⌝ }
+    ensures { λ r. ⌜ r ≡ evaluateTerm (asTerm (nodeAt source (now (table .entry)) n))
+        (variablesOf (now (variables .entry))) (memoryOf (now (mem .entry))) ⌝ }
+{
+    let k = tables::kind(&table[..], n);
+    match k {
+        20 => evaluation::evaluate(
+            table,
+            tables::child_a(&table[..], n),
+            variables,
+            temporaries,
+            mem,
+        ),
+        24 => combine(
+            tables::mark(&table[..], n),
+            evaluate_term(
+                table,
+                tables::child_a(&table[..], n),
+                variables,
+                temporaries,
+                mem,
+            ),
+            evaluate_term(
+                table,
+                tables::child_b(&table[..], n),
+                variables,
+                temporaries,
+                mem,
+            ),
+        ),
+        _ => ask(
+            mem,
+            k - 18,
+            evaluate_term(
+                table,
+                tables::child_a(&table[..], n),
+                variables,
+                temporaries,
+                mem,
+            ),
+        ),
+    }
+}
+
+// What predicate n of a source table gives, on the execution memory.
+pub fn evaluate_predicate(
+    table: &[u8; 65536],
+    n: usize,
+    variables: &[u16; 64],
+    temporaries: &[u8; 1024],
+    mem: &[u8; 18424],
+) -> Evaluated
+    requires { ⌜ sortOfNode source (nodeAt source (now table) n) ≡ sortNumber predicate ⌝ }
+    ensures { λ r. ⌜ r ≡ evaluatePredicate (asPredicate (nodeAt source (now (table .entry)) n))
+        (variablesOf (now (variables .entry))) (memoryOf (now (mem .entry))) ⌝ }
+{
+    let k = tables::kind(&table[..], n);
+    match k {
+        30 => ask(
+            mem,
+            1,
+            evaluate_term(
+                table,
+                tables::child_a(&table[..], n),
+                variables,
+                temporaries,
+                mem,
+            ),
+        ),
+        31 => ask(
+            mem,
+            2,
+            evaluate_term(
+                table,
+                tables::child_a(&table[..], n),
+                variables,
+                temporaries,
+                mem,
+            ),
+        ),
+        32 => combine(
+            tables::mark(&table[..], n),
+            evaluate_term(
+                table,
+                tables::child_a(&table[..], n),
+                variables,
+                temporaries,
+                mem,
+            ),
+            evaluate_term(
+                table,
+                tables::child_b(&table[..], n),
+                variables,
+                temporaries,
+                mem,
+            ),
+        ),
+        33 => oppose(evaluate_predicate(
+            table,
+            tables::child_a(&table[..], n),
+            variables,
+            temporaries,
+            mem,
+        )),
+        _ => match join(
+            k == 35,
+            evaluate_predicate(
+                table,
+                tables::child_a(&table[..], n),
+                variables,
+                temporaries,
+                mem,
+            ),
+        ) {
+            Joint::Decided(e) => e,
+            Joint::Open => evaluate_predicate(
+                table,
+                tables::child_b(&table[..], n),
+                variables,
+                temporaries,
+                mem,
+            ),
+        },
+    }
+}

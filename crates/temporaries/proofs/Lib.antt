@@ -1,0 +1,3 @@
+-- Facts about the temporaries' bytes.
+pub mod Reading
+pub mod Writing

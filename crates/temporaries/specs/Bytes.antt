@@ -1,0 +1,30 @@
+-- What the bytes of the temporaries stand for.
+use Prim.Native.Nat.{ℕ, _+_, _*_}
+use mathlib.Core.List.{List}
+use lib.ListN.{getD}
+use Rattle.rules.specs.Sizes.{temporaryCount}
+use Rattle.rules.specs.Words.{wordAt, integerAt, table}
+use Rattle.rules.specs.Layout.{cellFrom}
+use Rattle.rules.specs.Watched.{Temporaries}
+use Rattle.rules.specs.declared.Cell.{Cell}
+use Rattle.rules.specs.declared.Cell.the-variants as cell
+use Rattle.rules.specs.declared.Temporary.{Temporary}
+use Rattle.rules.specs.declared.Temporary.the-variants as temporary
+
+-- a free cell is an empty temporary; an owner counts for nothing
+abbrev pub temporaryIn : Cell → Temporary
+temporaryIn cell.Free = temporary.Empty
+temporaryIn (cell.Holds o v) = temporary.Holds v
+
+-- 64 cells of 16 bytes, laid out as the memory's, the pointed-to name in two bytes
+abbrev pub temporaryPlace : ℕ → ℕ
+temporaryPlace n = n * 16
+
+unfoldable pub temporaryAt : List ℕ → ℕ → Temporary
+temporaryAt l n =
+    temporaryIn
+    (cellFrom (getD l (temporaryPlace n) 0) 0 (wordAt 2 l (temporaryPlace n + 2))
+    (integerAt l (temporaryPlace n + 8)))
+
+unfoldable pub temporariesOf : List ℕ → Temporaries
+temporariesOf l = table 0 temporaryCount (temporaryAt l)

@@ -1,0 +1,2 @@
+-- What the code of the temporaries is held to.
+pub mod Bytes
