@@ -22,9 +22,19 @@ use Rattle.rules.proofs.FittingValues as ranged
 use Rattle.memory.specs.Changes.{Becomes, makingOf, madeMemory, NamesFit, EvaluatedFits}
 use Rattle.memory.specs.declared.Making.{Making}
 use Rattle.memory.specs.declared.Making.the-variants as making
-use Rattle.plain.specs.Running.{Does}
-use Rattle.plain.proofs.Laws.{becomes-same, becomes-is, becomes-then}
+use Rattle.statements.specs.Ending.{Does}
 
+-- ---- changes of the bytes, one after the other
+pub becomes-same : {l : List ℕ} {m : Memory} → memoryOf l ≡ m → Becomes l l m
+becomes-same e = record { view = e; exact = λ x. x }
+
+pub becomes-is : {a b : List ℕ} {m m₁ : Memory} → m ≡ m₁ → Becomes a b m → Becomes a b m₁
+becomes-is e h = record { view = h .view ∙ e; exact = h .exact }
+
+pub becomes-then : {a b c : List ℕ} {m m₁ : Memory} → Becomes a b m → Becomes b c m₁ → Becomes a c m₁
+becomes-then p q = record { view = q .view; exact = λ x. q .exact (p .exact x) }
+
+-- ---- what a change does
 pub does-is : {x y : Change} {r : ℕ} {a b : List ℕ} → x ≡ y → Does y r a b → Does x r a b
 does-is {x} {y} {r} {a} {b} e h = subst (λ (z : Change). Does z r a b) (sym e) h
 

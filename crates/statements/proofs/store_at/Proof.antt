@@ -3,10 +3,10 @@ use Rattle.rules.specs.Memory.{assigned}
 use Rattle.rules.specs.Layout.{memoryOf}
 use Rattle.rules.specs.declared.Found.{Found}
 use Rattle.memory.specs.Changes.{EvaluatedFits}
-use Rattle.plain.proofs.ChangeLaws.{does-is, does-stop}
+use Rattle.statements.proofs.ChangeLaws.{does-is, does-stop}
 use borrow.Author.Needs.{needs}
-use Rattle.plain.proofs.store_at.Statement.{statement}
-use Rattle.plain.proofs.store_at.Tie as tie
+use Rattle.statements.proofs.store_at.Statement.{statement}
+use Rattle.statements.proofs.store_at.Tie as tie
 
 enum-known-f : tie.Need-enum-known-f
 enum-known-f c = search needs

@@ -1,10 +1,10 @@
 use native.Mathlib.Omega.{arith}
 use mathlib.Core.Path.{_≡_}
 use lib.ListN.{length}
-use Rattle.plain.proofs.MemberLaws.{variables-set}
+use Rattle.statements.proofs.EntryLaws.{variables-set}
 use borrow.Author.Needs.{needs}
-use Rattle.plain.proofs.name_variable.Statement.{statement}
-use Rattle.plain.proofs.name_variable.Tie as tie
+use Rattle.statements.proofs.name_variable.Statement.{statement}
+use Rattle.statements.proofs.name_variable.Tie as tie
 
 mul-inner : tie.Need-mul-inner
 mul-inner c = search needs

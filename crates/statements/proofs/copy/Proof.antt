@@ -1,4 +1,4 @@
--- `plain::copy` meets its contract: after i turns the first i bytes are in place. Assumes nothing.
+-- `statements::copy` meets its contract: after i turns the first i bytes are in place. Assumes nothing.
 use Prim.Native.Nat.{ℕ, suc, _+_, _-_, _≤_}
 use native.Mathlib.Omega.{arith}
 use borrow.Author.Needs.{needs}
@@ -6,9 +6,9 @@ use mathlib.Core.List.{List}
 use mathlib.Core.Path.{_≡_, refl, sym, ap, _∙_}
 use lib.ListN.{length, getD, set, length-set}
 use lib.Seq.{paste, paste-zero, paste-suc}
-use Rattle.plain.proofs.EntryLaws.{paste-put}
-use Rattle.plain.proofs.copy.Statement.{statement}
-use Rattle.plain.proofs.copy.Tie as tie
+use Rattle.statements.proofs.EntryLaws.{paste-put}
+use Rattle.statements.proofs.copy.Statement.{statement}
+use Rattle.statements.proofs.copy.Tie as tie
 
 abbrev Inv-loop : tie.InvT-loop
 Inv-loop to₀ from i₀ to i = (i ≤ length from) × (length to ≡ length to₀) × (to ≡ paste to₀ 0 from i)

@@ -2,10 +2,10 @@ use mathlib.Core.Path.{ap, _∙_}
 use Rattle.rules.specs.Memory.{freed}
 use Rattle.rules.specs.Layout.{memoryOf}
 use Rattle.rules.specs.declared.Evaluated.the-variants as evaluated
-use Rattle.plain.proofs.ChangeLaws.{does-is, does-stop}
+use Rattle.statements.proofs.ChangeLaws.{does-is, does-stop}
 use borrow.Author.Needs.{needs}
-use Rattle.plain.proofs.free_at.Statement.{statement}
-use Rattle.plain.proofs.free_at.Tie as tie
+use Rattle.statements.proofs.free_at.Statement.{statement}
+use Rattle.statements.proofs.free_at.Tie as tie
 
 enum-known-e : tie.Need-enum-known-e
 enum-known-e c = search needs

@@ -1,9 +1,9 @@
 use mathlib.Core.Bool.{Bool, cond}
 use mathlib.Core.Path.{sym, ap}
 use borrow.Author.Tests.{eq-eqb, ne-eqb}
-use Rattle.plain.specs.Running.{result}
-use Rattle.plain.proofs.conclude.Statement.{statement}
-use Rattle.plain.proofs.conclude.Tie as tie
+use Rattle.statements.specs.Ending.{result}
+use Rattle.statements.proofs.conclude.Statement.{statement}
+use Rattle.statements.proofs.conclude.Tie as tie
 
 returns : tie.Need-returns
 returns c =

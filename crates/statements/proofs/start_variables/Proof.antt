@@ -1,7 +1,7 @@
-use Rattle.plain.proofs.EntryLaws.{variables-start}
+use Rattle.statements.proofs.EntryLaws.{variables-start}
 use borrow.Author.Needs.{needs}
-use Rattle.plain.proofs.start_variables.Statement.{statement}
-use Rattle.plain.proofs.start_variables.Tie as tie
+use Rattle.statements.proofs.start_variables.Statement.{statement}
+use Rattle.statements.proofs.start_variables.Tie as tie
 
 array-write-variables : tie.Need-array-write-variables
 array-write-variables c = search needs

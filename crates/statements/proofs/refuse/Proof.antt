@@ -1,6 +1,6 @@
 use mathlib.Core.Path.{refl}
-use Rattle.plain.proofs.refuse.Statement.{statement}
-use Rattle.plain.proofs.refuse.Tie as tie
+use Rattle.statements.proofs.refuse.Statement.{statement}
+use Rattle.statements.proofs.refuse.Tie as tie
 
 returns : tie.Need-returns
 returns c = refl

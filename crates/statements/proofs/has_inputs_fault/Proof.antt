@@ -1,6 +1,6 @@
-use Rattle.plain.proofs.EntryLaws.{not-eights, no-inputs, some-inputs}
-use Rattle.plain.proofs.has_inputs_fault.Statement.{statement}
-use Rattle.plain.proofs.has_inputs_fault.Tie as tie
+use Rattle.statements.proofs.EntryLaws.{not-eights, no-inputs, some-inputs}
+use Rattle.statements.proofs.has_inputs_fault.Statement.{statement}
+use Rattle.statements.proofs.has_inputs_fault.Tie as tie
 
 returns : tie.Need-returns
 returns c = not-eights (c .before .args .inputs .now) (c .if1 .taken)
