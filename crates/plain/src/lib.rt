@@ -18,69 +18,8 @@ ghost use Rattle.plain.specs.Running.{Ready, Inside, enclosed, Ran, Answ
 use memory::Making;
 use rules::Answer;
 use rules::Checked;
-use rules::Evaluated;
-use rules::Found;
 use rules::Test;
 use statements::Ended;
-
-// The place that is child A.
-fn find_a(
-    table: &[u8; 65536],
-    n: usize,
-    variables: &[u16; 64],
-    temporaries: &[u8; 1024],
-    mem: &[u8; 18424],
-) -> Found
-    requires { ⌜ Within (now table) n × HasSort place (now table) (childA (now table) n) ⌝ }
-    ensures { λ r. ⌜ r ≡ findSource (placeAt (now (table .entry)) (childA (now (table .entry)) n)) (variablesOf (now (variables .entry))) (memoryOf (now (mem .entry))) ⌝ }
-{
-    evaluation::find_place(
-        table,
-        tables::child_a(&table[..], n),
-        variables,
-        temporaries,
-        mem,
-    )
-}
-
-// The value of child A, and of child B.
-fn evaluate_a(
-    table: &[u8; 65536],
-    n: usize,
-    variables: &[u16; 64],
-    temporaries: &[u8; 1024],
-    mem: &[u8; 18424],
-) -> Evaluated
-    requires { ⌜ Within (now table) n × HasSort expression (now table) (childA (now table) n) ⌝ }
-    ensures { λ r. ⌜ r ≡ evaluateSource (expressionAt (now (table .entry)) (childA (now (table .entry)) n)) (variablesOf (now (variables .entry))) (memoryOf (now (mem .entry))) ⌝ }
-{
-    evaluation::evaluate(
-        table,
-        tables::child_a(&table[..], n),
-        variables,
-        temporaries,
-        mem,
-    )
-}
-
-fn evaluate_b(
-    table: &[u8; 65536],
-    n: usize,
-    variables: &[u16; 64],
-    temporaries: &[u8; 1024],
-    mem: &[u8; 18424],
-) -> Evaluated
-    requires { ⌜ Within (now table) n × HasSort expression (now table) (childB (now table) n) ⌝ }
-    ensures { λ r. ⌜ r ≡ evaluateSource (expressionAt (now (table .entry)) (childB (now (table .entry)) n)) (variablesOf (now (variables .entry))) (memoryOf (now (mem .entry))) ⌝ }
-{
-    evaluation::evaluate(
-        table,
-        tables::child_b(&table[..], n),
-        variables,
-        temporaries,
-        mem,
-    )
-}
 
 // What condition A says.
 fn test_a(
@@ -93,7 +32,7 @@ fn test_a(
     requires { ⌜ Within (now table) n × HasSort expression (now table) (childA (now table) n) ⌝ }
     ensures { λ r. ⌜ r ≡ condition (evaluateSource (expressionAt (now (table .entry)) (childA (now (table .entry)) n)) (variablesOf (now (variables .entry))) (memoryOf (now (mem .entry)))) ⌝ }
 {
-    evaluation::test(evaluate_a(table, n, variables, temporaries, mem))
+    statements::test_a(table, n, variables, temporaries, mem)
 }
 
 // What predicate A says.
@@ -123,8 +62,8 @@ fn assign(
     requires { ⌜ Ready (now table) n (variablesOf (now variables)) (memoryOf (now mem)) × (kindOf (now table) n ≡ 41) ⌝ }
     ensures { λ r. ⌜ Ran (run (statementAt (now (table .entry)) n) (variablesOf (now (variables .entry))) (memoryOf (now (mem .entry))) fuel) r (now (mem .entry)) (now (mem .exit)) ⌝ }
 {
-    let f = find_a(table, n, variables, temporaries, &*mem);
-    let e = evaluate_b(table, n, variables, temporaries, &*mem);
+    let f = statements::find_a(table, n, variables, temporaries, &*mem);
+    let e = statements::evaluate_b(table, n, variables, temporaries, &*mem);
     statements::conclude(statements::store_at(mem, f, e), n as u32, fuel)
 }
 
@@ -140,8 +79,8 @@ fn allocate(
     requires { ⌜ Ready (now table) n (variablesOf (now variables)) (memoryOf (now mem)) × (kindOf (now table) n ≡ 42) ⌝ }
     ensures { λ r. ⌜ Ran (run (statementAt (now (table .entry)) n) (variablesOf (now (variables .entry))) (memoryOf (now (mem .entry))) fuel) r (now (mem .entry)) (now (mem .exit)) ⌝ }
 {
-    let f = find_a(table, n, variables, temporaries, &*mem);
-    let e = evaluate_b(table, n, variables, temporaries, &*mem);
+    let f = statements::find_a(table, n, variables, temporaries, &*mem);
+    let e = statements::evaluate_b(table, n, variables, temporaries, &*mem);
     statements::conclude(statements::new_at(mem, f, e), n as u32, fuel)
 }
 
@@ -157,7 +96,7 @@ fn release(
     requires { ⌜ Ready (now table) n (variablesOf (now variables)) (memoryOf (now mem)) × (kindOf (now table) n ≡ 43) ⌝ }
     ensures { λ r. ⌜ Ran (run (statementAt (now (table .entry)) n) (variablesOf (now (variables .entry))) (memoryOf (now (mem .entry))) fuel) r (now (mem .entry)) (now (mem .exit)) ⌝ }
 {
-    let e = evaluate_a(table, n, variables, temporaries, &*mem);
+    let e = statements::evaluate_a(table, n, variables, temporaries, &*mem);
     statements::conclude(statements::free_at(mem, e), n as u32, fuel)
 }
 

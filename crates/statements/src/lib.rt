@@ -6,11 +6,16 @@ ghost use Rattle.rules.specs.Words.{put};
 ghost use Rattle.rules.specs.Checker.{inputsFault};
 ghost use Rattle.rules.specs.Answers.{answer};
 ghost use Rattle.rules.specs.Memory.{freeable, makeBlock, storeNew, newOfSize, assigned, allocated, freed};
-ghost use Rattle.rules.specs.Evaluation.{extend};
+ghost use Rattle.rules.specs.Records.{childA, childB};
+ghost use Rattle.rules.specs.Kinds.{target, sortNumber, expression, place};
+ghost use Rattle.rules.specs.Nodes.{asExpression, asPlace, sortOfNode, nodeAt};
+ghost use Rattle.rules.specs.Evaluation.{evaluate, findPlace, condition, extend};
+ghost use Rattle.rules.specs.Watched.{temporaryOf};
 ghost use Rattle.rules.specs.Plain.{startVariables};
 ghost use Rattle.rules.specs.Layout.{memoryOf};
 ghost use Rattle.memory.specs.Changes.{EvaluatedFits};
-ghost use Rattle.evaluation.specs.State.{variablesOf};
+ghost use Rattle.tables.specs.Within.{Within};
+ghost use Rattle.evaluation.specs.State.{variablesOf, temporariesOf};
 ghost use Rattle.statements.specs.Ending.{concluded, assertNumber, Does};
 use memory::Making;
 use rules::Answer;
@@ -55,6 +60,77 @@ pub fn assert_number(t: Test) -> u32
         Test::No => 33,
         Test::Stopped(k) => k,
     }
+}
+
+// The place that is child A of statement n.
+pub fn find_a(
+    table: &[u8; 65536],
+    n: usize,
+    variables: &[u16; 64],
+    temporaries: &[u8; 1024],
+    mem: &[u8; 18424],
+) -> Found
+    requires { ⌜ Within (now table) n
+        × (sortOfNode target (nodeAt target (now table) (childA (now table) n)) ≡ sortNumber place) ⌝ }
+    ensures { λ r. ⌜ r ≡ findPlace (asPlace (nodeAt target (now (table .entry)) (childA (now (table .entry)) n)))
+        (temporaryOf (temporariesOf (now (temporaries .entry)))) (variablesOf (now (variables .entry)))
+        (memoryOf (now (mem .entry))) ⌝ }
+{
+    let place = tables::child_a(&table[..], n);
+    evaluation::find_place(table, place, variables, temporaries, mem)
+}
+
+// The value of child A, and of child B.
+pub fn evaluate_a(
+    table: &[u8; 65536],
+    n: usize,
+    variables: &[u16; 64],
+    temporaries: &[u8; 1024],
+    mem: &[u8; 18424],
+) -> Evaluated
+    requires { ⌜ Within (now table) n
+        × (sortOfNode target (nodeAt target (now table) (childA (now table) n)) ≡ sortNumber expression) ⌝ }
+    ensures { λ r. ⌜ r ≡ evaluate (asExpression (nodeAt target (now (table .entry)) (childA (now (table .entry)) n)))
+        (temporaryOf (temporariesOf (now (temporaries .entry)))) (variablesOf (now (variables .entry)))
+        (memoryOf (now (mem .entry))) ⌝ }
+{
+    let first = tables::child_a(&table[..], n);
+    evaluation::evaluate(table, first, variables, temporaries, mem)
+}
+
+pub fn evaluate_b(
+    table: &[u8; 65536],
+    n: usize,
+    variables: &[u16; 64],
+    temporaries: &[u8; 1024],
+    mem: &[u8; 18424],
+) -> Evaluated
+    requires { ⌜ Within (now table) n
+        × (sortOfNode target (nodeAt target (now table) (childB (now table) n)) ≡ sortNumber expression) ⌝ }
+    ensures { λ r. ⌜ r ≡ evaluate (asExpression (nodeAt target (now (table .entry)) (childB (now (table .entry)) n)))
+        (temporaryOf (temporariesOf (now (temporaries .entry)))) (variablesOf (now (variables .entry)))
+        (memoryOf (now (mem .entry))) ⌝ }
+{
+    let second = tables::child_b(&table[..], n);
+    evaluation::evaluate(table, second, variables, temporaries, mem)
+}
+
+// What condition A says.
+pub fn test_a(
+    table: &[u8; 65536],
+    n: usize,
+    variables: &[u16; 64],
+    temporaries: &[u8; 1024],
+    mem: &[u8; 18424],
+) -> Test
+    requires { ⌜ Within (now table) n
+        × (sortOfNode target (nodeAt target (now table) (childA (now table) n)) ≡ sortNumber expression) ⌝ }
+    ensures { λ r. ⌜ r ≡ condition (evaluate (asExpression (nodeAt target (now (table .entry)) (childA (now (table .entry)) n)))
+        (temporaryOf (temporariesOf (now (temporaries .entry)))) (variablesOf (now (variables .entry)))
+        (memoryOf (now (mem .entry)))) ⌝ }
+{
+    let e = evaluate_a(table, n, variables, temporaries, mem);
+    evaluation::test(e)
 }
 
 // A place takes a value.
