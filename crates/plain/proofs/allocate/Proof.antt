@@ -4,7 +4,9 @@ use Rattle.rules.specs.Plain.{after, asserted}
 use Rattle.rules.specs.Layout.{memoryOf}
 use Rattle.evaluation.specs.State.{variablesOf}
 use Rattle.rules.specs.Memory.{allocated}
-use Rattle.rules.proofs.PlainArms.{statementAt, new-children, run-new}
+use Rattle.rules.specs.Kinds.{source}
+use Rattle.rules.proofs.StatementArms.{new-children}
+use Rattle.rules.proofs.PlainArms.{statementAt, run-new}
 use Rattle.plain.proofs.Laws.{ran-does}
 use Rattle.plain.proofs.ReadyLaws.{ready-within, ready-number}
 use Rattle.plain.proofs.allocate.Statement.{statement}
@@ -14,13 +16,13 @@ find-a-requires : tie.Need-find-a-requires
 find-a-requires c κs =
     let s = c .before in
     let T = s .args .table .now in
-    (ready-within T (s .args .n) _ _ (s .pre .0), new-children T (s .args .n) (s .pre .0 .is) (s .pre .1) .0 .2)
+    (ready-within T (s .args .n) _ _ (s .pre .0), new-children source T (s .args .n) (s .pre .0 .is) (s .pre .1) .0 .2)
 
 evaluate-b-requires : tie.Need-evaluate-b-requires
 evaluate-b-requires c κs =
     let s = c .before .before .before in
     let T = s .args .table .now in
-    (ready-within T (s .args .n) _ _ (s .pre .0), new-children T (s .args .n) (s .pre .0 .is) (s .pre .1) .1 .2)
+    (ready-within T (s .args .n) _ _ (s .pre .0), new-children source T (s .args .n) (s .pre .0 .is) (s .pre .1) .1 .2)
 
 new-at-requires : tie.Need-new-at-requires
 new-at-requires c κs = tt

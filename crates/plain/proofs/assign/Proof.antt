@@ -4,7 +4,9 @@ use Rattle.rules.specs.Plain.{after, asserted}
 use Rattle.rules.specs.Layout.{memoryOf}
 use Rattle.evaluation.specs.State.{variablesOf}
 use Rattle.rules.specs.Memory.{assigned}
-use Rattle.rules.proofs.PlainArms.{statementAt, assign-children, run-assign}
+use Rattle.rules.specs.Kinds.{source}
+use Rattle.rules.proofs.StatementArms.{assign-children}
+use Rattle.rules.proofs.PlainArms.{statementAt, run-assign}
 use Rattle.plain.proofs.Laws.{ran-does}
 use Rattle.plain.proofs.ReadyLaws.{ready-within, ready-number, assign-fits}
 use Rattle.plain.proofs.assign.Statement.{statement}
@@ -14,13 +16,13 @@ find-a-requires : tie.Need-find-a-requires
 find-a-requires c κs =
     let s = c .before in
     let T = s .args .table .now in
-    (ready-within T (s .args .n) _ _ (s .pre .0), assign-children T (s .args .n) (s .pre .0 .is) (s .pre .1) .0 .2)
+    (ready-within T (s .args .n) _ _ (s .pre .0), assign-children source T (s .args .n) (s .pre .0 .is) (s .pre .1) .0 .2)
 
 evaluate-b-requires : tie.Need-evaluate-b-requires
 evaluate-b-requires c κs =
     let s = c .before .before .before in
     let T = s .args .table .now in
-    (ready-within T (s .args .n) _ _ (s .pre .0), assign-children T (s .args .n) (s .pre .0 .is) (s .pre .1) .1 .2)
+    (ready-within T (s .args .n) _ _ (s .pre .0), assign-children source T (s .args .n) (s .pre .0 .is) (s .pre .1) .1 .2)
 
 store-at-requires : tie.Need-store-at-requires
 store-at-requires c κs =

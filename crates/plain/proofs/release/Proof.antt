@@ -4,7 +4,9 @@ use Rattle.rules.specs.Plain.{after, asserted}
 use Rattle.rules.specs.Layout.{memoryOf}
 use Rattle.evaluation.specs.State.{variablesOf}
 use Rattle.rules.specs.Memory.{freed}
-use Rattle.rules.proofs.PlainArms.{statementAt, free-child, run-free}
+use Rattle.rules.specs.Kinds.{source}
+use Rattle.rules.proofs.StatementArms.{free-child}
+use Rattle.rules.proofs.PlainArms.{statementAt, run-free}
 use Rattle.plain.proofs.Laws.{ran-does}
 use Rattle.plain.proofs.ReadyLaws.{ready-within, ready-number}
 use Rattle.plain.proofs.release.Statement.{statement}
@@ -14,7 +16,7 @@ evaluate-a-requires : tie.Need-evaluate-a-requires
 evaluate-a-requires c κs =
     let s = c .before in
     let T = s .args .table .now in
-    (ready-within T (s .args .n) _ _ (s .pre .0), free-child T (s .args .n) (s .pre .0 .is) (s .pre .1) .2)
+    (ready-within T (s .args .n) _ _ (s .pre .0), free-child source T (s .args .n) (s .pre .0 .is) (s .pre .1) .2)
 
 free-at-requires : tie.Need-free-at-requires
 free-at-requires c κs = tt
