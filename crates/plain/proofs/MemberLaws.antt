@@ -4,7 +4,7 @@ use native.Mathlib.Omega.{arith}
 use mathlib.Core.List.{List}
 use mathlib.Core.Logic.{_≢_}
 use mathlib.Core.Path.{_≡_, refl, sym, ap, _∙_, subst}
-use Rattle.rules.specs.Kinds.{statement}
+use Rattle.rules.specs.Kinds.{source, statement}
 use Rattle.rules.specs.Records.{kindOf, markOf, childA, childB, childC}
 use Rattle.rules.specs.Memory.{Memory, fixed, Made, made, makeBlock, endBlock}
 use Rattle.rules.specs.Trees.{Statement}
@@ -16,7 +16,8 @@ use Rattle.rules.specs.declared.Test.{Test}
 use Rattle.rules.specs.declared.Test.the-variants as test
 use Rattle.rules.proofs.Fits.{FitsMemory}
 use Rattle.rules.proofs.Fuel.{fuelOf, run-fuel}
-use Rattle.rules.proofs.PlainArms.{HasSort, expressionAt, statementAt, run-branch, run-while-zero, run-while-suc, run-let, let-child, sound-let}
+use Rattle.rules.proofs.StatementArms.{let-child, sound-let}
+use Rattle.rules.proofs.PlainArms.{HasSort, expressionAt, statementAt, run-branch, run-while-zero, run-while-suc, run-let}
 use Rattle.memory.specs.Changes.{Becomes, makingOf, madeMemory}
 use Rattle.memory.specs.declared.Making.the-variants as making
 use Rattle.statements.specs.declared.Ended.{Ended}
@@ -173,8 +174,8 @@ pub ready-made : (t : List ℕ) (n : ℕ) (ρ : Variables) (k : ℕ) (a b : List
 ready-made t n ρ k a b h q w e =
     record {
       within = ready-within t n ρ (memoryOf a) h;
-      smaller = let-child t n (h .is) q .1;
-      mark = sound-let t n (h .is) (h .scope) (h .sound) q .0;
+      smaller = let-child source t n (h .is) q .1;
+      mark = sound-let source t n (h .is) (h .scope) (h .sound) q .0;
       body =
           ready-inside t n ρ (memoryOf a) h q k (name-fits (memoryOf a) fixed 1 k e) (memoryOf b)
           (subst FitsMemory (sym (w .view))

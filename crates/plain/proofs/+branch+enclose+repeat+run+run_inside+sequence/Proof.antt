@@ -10,7 +10,9 @@ use Rattle.rules.specs.Evaluation.{Variables, extend}
 use Rattle.rules.specs.Plain.{finished, ended}
 use Rattle.rules.specs.Plain as plain
 use Rattle.rules.specs.Layout.{memoryOf}
-use Rattle.rules.proofs.PlainArms.{statementAt, statement-kinds, sequence-children, branch-children, while-children, run-skip, run-sequence}
+use Rattle.rules.specs.Kinds.{source}
+use Rattle.rules.proofs.StatementArms.{sequence-children, branch-children, while-children}
+use Rattle.rules.proofs.PlainArms.{statementAt, statement-kinds, run-skip, run-sequence}
 use Rattle.evaluation.specs.State.{variablesOf}
 use Rattle.statements.specs.Ending.{result}
 use Rattle.plain.specs.Running.{Ready, Ran}
@@ -140,7 +142,7 @@ branch-test-a-requires t c κs =
     let f = s .args .fuel in
     let h = s .pre .1 .0 in
     let q = s .pre .1 .1 in
-    (ready-within T n ρ (memoryOf l) h, branch-children T n (h .is) q .0 .2)
+    (ready-within T n ρ (memoryOf l) h, branch-children source T n (h .is) q .0 .2)
 
 branch-enum-told : (t : ℕ) → branch-lts.Need-enum-told (branch-claims t) (branch-at t) branch.Post
 branch-enum-told t c = search needs
@@ -168,7 +170,7 @@ branch-run-requires t c κs =
     let h = s .pre .1 .0 in
     let q = s .pre .1 .1 in
     rw (c .before .child-b .ensures)
-    (omega (arith, branch-children T n (h .is) q .1 .1, s .pre .0), ready-then T n ρ (memoryOf l) h q)
+    (omega (arith, branch-children source T n (h .is) q .1 .1, s .pre .0), ready-then T n ρ (memoryOf l) h q)
 
 branch-enum-told-2 : (t : ℕ) → branch-lts.Need-enum-told-2 (branch-claims t) (branch-at t) branch.Post
 branch-enum-told-2 t c = search needs
@@ -196,7 +198,7 @@ branch-run-requires-2 t c κs =
     let h = s .pre .1 .0 in
     let q = s .pre .1 .1 in
     rw (c .before .child-c .ensures)
-    (omega (arith, branch-children T n (h .is) q .2 .1, s .pre .0), ready-else T n ρ (memoryOf l) h q)
+    (omega (arith, branch-children source T n (h .is) q .2 .1, s .pre .0), ready-else T n ρ (memoryOf l) h q)
 
 branch-enum-known-k : (t : ℕ) → branch-lts.Need-enum-known-k (branch-claims t) (branch-at t) branch.Post
 branch-enum-known-k t c = search needs
@@ -350,7 +352,7 @@ repeat-test-a-requires t c κs =
     let f = s .args .fuel in
     let h = s .pre .1 .0 in
     let q = s .pre .1 .1 in
-    (ready-within T n ρ (memoryOf l) h, while-children T n (h .is) q .0 .2)
+    (ready-within T n ρ (memoryOf l) h, while-children source T n (h .is) q .0 .2)
 
 repeat-enum-told : (t : ℕ) → repeat-lts.Need-enum-told (repeat-claims t) (repeat-at t) repeat.Post repeat-Inv-loop repeat-μ-loop
 repeat-enum-told t c = search needs
@@ -366,7 +368,7 @@ repeat-run-requires t c κs =
     let h = s .pre .1 .0 in
     let q = s .pre .1 .1 in
     rw (c .before .before .before .before .before .before .before .child-b .ensures) (
-      omega (arith, while-children T n (h .is) q .1 .1, s .pre .0),
+      omega (arith, while-children source T n (h .is) q .1 .1, s .pre .0),
       ready-turn T n ρ (memoryOf l) h q (memoryOf (c .before .before .before .before .before .before .loop .mem)) (c .before .before .before .before .before .before .loop .inv .fits),
     )
 
@@ -653,7 +655,7 @@ sequence-run-requires t c κs =
     let h = s .pre .1 .0 in
     let q = s .pre .1 .1 in
     rw (c .before .child-a .ensures)
-    (omega (arith, sequence-children T n (h .is) q .0 .1, s .pre .0), ready-first T n ρ (memoryOf l) h q)
+    (omega (arith, sequence-children source T n (h .is) q .0 .1, s .pre .0), ready-first T n ρ (memoryOf l) h q)
 
 sequence-child-b-requires : (t : ℕ) → sequence-lts.Need-child-b-requires (sequence-claims t) (sequence-at t) sequence.Post
 sequence-child-b-requires t c κs =
@@ -678,7 +680,7 @@ sequence-run-requires-2 t c κs =
     let h = s .pre .1 .0 in
     let q = s .pre .1 .1 in
     rw (c .before .child-b .ensures) (
-      omega (arith, sequence-children T n (h .is) q .1 .1, s .pre .0),
+      omega (arith, sequence-children source T n (h .is) q .1 .1, s .pre .0),
       ready-later T n ρ f (c .before .before .before .before .before .run .result) l (c .before .before .before .before .before .run .last .1 .1 .1 .1 .0) h q (rw (c .before .before .before .before .before .before .before .child-a .ensures) at (c .before .before .before .before .before .run .ensures)),
     )
 

@@ -6,7 +6,9 @@ use Rattle.evaluation.specs.State.{variablesOf, temporariesOf}
 use Rattle.rules.specs.Memory.{freed}
 use Rattle.rules.specs.Records.{childA}
 use Rattle.rules.proofs.SharedExpressions.{target-expression, evaluated-alike}
-use Rattle.rules.proofs.PlainArms.{statementAt, free-child, run-free}
+use Rattle.rules.specs.Kinds.{source}
+use Rattle.rules.proofs.StatementArms.{free-child}
+use Rattle.rules.proofs.PlainArms.{statementAt, run-free}
 use Rattle.plain.proofs.Laws.{ran-does}
 use Rattle.plain.proofs.ReadyLaws.{ready-within, ready-number}
 use Rattle.plain.proofs.release.Statement.{statement}
@@ -16,7 +18,7 @@ evaluate-a-requires : tie.Need-evaluate-a-requires
 evaluate-a-requires c κs =
     let s = c .before in
     let T = s .args .table .now in
-    (ready-within T (s .args .n) _ _ (s .pre .0), target-expression T (childA T (s .args .n)) (free-child T (s .args .n) (s .pre .0 .is) (s .pre .1) .2))
+    (ready-within T (s .args .n) _ _ (s .pre .0), target-expression T (childA T (s .args .n)) (free-child source T (s .args .n) (s .pre .0 .is) (s .pre .1) .2))
 
 free-at-requires : tie.Need-free-at-requires
 free-at-requires c κs = tt
@@ -40,7 +42,7 @@ returns c =
     ran-does (statementAt T n) ρ (s .args .fuel) n (freed (memoryOf l) (c .before .before .before .evaluate-a .result))
     (c .before .free-at .result) (c .conclude .result) l (c .before .free-at .last .0)
     (run-free T n (s .pre .0 .is) ρ (memoryOf l) (s .args .fuel) (s .pre .1)
-    ∙ sym (ap (after n (s .args .fuel)) (ap (freed (memoryOf l)) (c .before .before .before .evaluate-a .ensures ∙ evaluated-alike T (childA T n) τ ρ (memoryOf l) (free-child T n (s .pre .0 .is) (s .pre .1) .2)))))
+    ∙ sym (ap (after n (s .args .fuel)) (ap (freed (memoryOf l)) (c .before .before .before .evaluate-a .ensures ∙ evaluated-alike T (childA T n) τ ρ (memoryOf l) (free-child source T n (s .pre .0 .is) (s .pre .1) .2)))))
     (c .before .free-at .ensures) (c .conclude .ensures)
 
 pub release-spec : {M : Type 1} → statement M
