@@ -23,15 +23,16 @@ use Rattle.rules.proofs.KeptPredicates.{MadeWith, fits-invariant, makeBlock-kee
 use Rattle.rules.proofs.FittingValues.{evaluate-fits}
 use Rattle.rules.proofs.Reachable.{extend-fits}
 use Rattle.rules.proofs.ReachableRoundTrip.{run-fits}
-use Rattle.rules.proofs.PlainArms.{HasSort, Under, expressionAt, statementAt, statement-within, sequence-children, branch-children, while-children, let-child, sound-assign, sound-sequence, sound-branch, sound-while, sound-let}
+use Rattle.rules.proofs.StatementArms.{statement-within, sequence-children, branch-children, while-children, let-child, sound-assign, sound-sequence, sound-branch, sound-while, sound-let}
+use Rattle.rules.proofs.PlainArms.{HasSort, Under, expressionAt, statementAt}
 use Rattle.tables.specs.Within.{Within}
 use Rattle.cells.specs.Changes.{EvaluatedFits}
 use Rattle.plain.specs.Running.{Ready}
-use Rattle.plain.proofs.ChangeLaws.{names-fit}
+use Rattle.statements.proofs.ChangeLaws.{names-fit}
 
 module _ (t : List ℕ) (n : ℕ) (ρ : Variables) (m : Memory) (r : Ready t n ρ m) where
   pub ready-within : Within t n
-  ready-within = statement-within t n (r .is)
+  ready-within = statement-within source t n (r .is)
 
   -- its number is at most 256
   sound-of : (k : ℕ) → kindOf t n ≡ k
@@ -60,7 +61,7 @@ module _ (t : List ℕ) (n : ℕ) (ρ : Variables) (m : Memory) (r : Ready t n �
   assign-fits e =
       names-fit (evaluateSource (expressionAt t (childB t n)) ρ m)
       (evaluate-fits NoName noTemporaries (λ x. elim x [ ]) ρ (r .names) m (r .fits) (r .scope)
-      (expressionAt t (childB t n)) (sound-assign t n (r .is) (r .scope) (r .sound) e .1))
+      (expressionAt t (childB t n)) (sound-assign source t n (r .is) (r .scope) (r .sound) e .1))
 
   -- after the run the numbers still fit
   pub run-kept : (f : ℕ) → FitsMemory (memoryAfter (run (statementAt t n) ρ m f))
@@ -72,36 +73,36 @@ module _ (t : List ℕ) (n : ℕ) (ρ : Variables) (m : Memory) (r : Ready t n �
 
   pub ready-first : kindOf t n ≡ 44 → Ready t (childA t n) ρ m
   ready-first e =
-      ready-part (childA t n) m (sequence-children t n (r .is) e .0)
-      (sound-sequence t n (r .is) (r .scope) (r .sound) e .0) (r .fits)
+      ready-part (childA t n) m (sequence-children source t n (r .is) e .0)
+      (sound-sequence source t n (r .is) (r .scope) (r .sound) e .0) (r .fits)
 
   pub ready-second : kindOf t n ≡ 44 → (m₁ : Memory) → FitsMemory m₁ → Ready t (childB t n) ρ m₁
   ready-second e m₁ k =
-      ready-part (childB t n) m₁ (sequence-children t n (r .is) e .1)
-      (sound-sequence t n (r .is) (r .scope) (r .sound) e .1) k
+      ready-part (childB t n) m₁ (sequence-children source t n (r .is) e .1)
+      (sound-sequence source t n (r .is) (r .scope) (r .sound) e .1) k
 
   pub ready-then : kindOf t n ≡ 45 → Ready t (childB t n) ρ m
   ready-then e =
-      ready-part (childB t n) m (branch-children t n (r .is) e .1)
-      (sound-branch t n (r .is) (r .scope) (r .sound) e .0) (r .fits)
+      ready-part (childB t n) m (branch-children source t n (r .is) e .1)
+      (sound-branch source t n (r .is) (r .scope) (r .sound) e .0) (r .fits)
 
   pub ready-else : kindOf t n ≡ 45 → Ready t (childC t n) ρ m
   ready-else e =
-      ready-part (childC t n) m (branch-children t n (r .is) e .2)
-      (sound-branch t n (r .is) (r .scope) (r .sound) e .1) (r .fits)
+      ready-part (childC t n) m (branch-children source t n (r .is) e .2)
+      (sound-branch source t n (r .is) (r .scope) (r .sound) e .1) (r .fits)
 
   pub ready-turn : kindOf t n ≡ 46 → (m₁ : Memory) → FitsMemory m₁ → Ready t (childB t n) ρ m₁
   ready-turn e m₁ k =
-      ready-part (childB t n) m₁ (while-children t n (r .is) e .1)
-      (sound-while t n (r .is) (r .scope) (r .sound) e) k
+      ready-part (childB t n) m₁ (while-children source t n (r .is) e .1)
+      (sound-while source t n (r .is) (r .scope) (r .sound) e) k
 
   pub ready-inside : kindOf t n ≡ 47 → (k : ℕ) → k < 256 → (m₁ : Memory) → FitsMemory m₁
       → Ready t (childA t n) (extend ρ (markOf t n) k) m₁
   ready-inside e k l m₁ f =
       record {
-        is = let-child t n (r .is) e .2;
+        is = let-child source t n (r .is) e .2;
         scope = adding (r .scope) (markOf t n);
-        sound = sound-let t n (r .is) (r .scope) (r .sound) e .1;
+        sound = sound-let source t n (r .is) (r .scope) (r .sound) e .1;
         names = extend-fits ρ (markOf t n) k (r .names) l;
         fits = f;
       }

@@ -75,7 +75,10 @@ pub mod RecordLaws
 pub mod RunLaws
 pub mod Padding
 pub mod SharedExpressions
+pub mod StatementArms
 pub mod PlainArms
+pub mod TargetFields
+pub mod TargetArms
 -- Simulation: the translation runs as its source does.
 pub mod Mirror
 pub mod PredicateSimulation

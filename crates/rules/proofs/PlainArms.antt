@@ -1,21 +1,20 @@
--- What each statement of a source table does in the plain run, by its kind, and what its children are.
-use Prim.Native.Nat.{ℕ, zero, suc, _≤_, _<_}
-use native.Mathlib.Omega.{arith}
+-- What each statement of a source table does in the plain run, by its kind.
+use Prim.Native.Nat.{ℕ, suc}
 use mathlib.Core.List.{List}
 use mathlib.Core.Logic.{_≢_}
-use mathlib.Core.Path.{_≡_, refl, sym, ap, _∙_, subst}
-use Rattle.rules.specs.Records.{recordCount, kindOf, markOf, childA, childB, childC}
-use Rattle.rules.specs.Kinds.{source, sortNumber, Sort, expression, place, predicate, statement}
+use mathlib.Core.Path.{_≡_, refl, sym, ap, _∙_}
+use Rattle.rules.specs.Records.{kindOf, markOf, childA, childB, childC}
+use Rattle.rules.specs.Kinds.{source, Sort, predicate, statement}
 use Rattle.rules.specs.Trees.{Expression, Place, Predicate, Statement}
-use Rattle.rules.specs.Nodes.{SourceNode, asExpression, asPlace, asPredicate, sourceStatement, sortOfNode, nodeAt}
+use Rattle.rules.specs.Nodes.{SourceNode, asExpression, asPlace, asPredicate, sourceStatement, nodeAt}
 use Rattle.rules.specs.Memory.{Memory, fixed, makeBlock, assigned, allocated, freed}
 use Rattle.rules.specs.Evaluation.{Variables, evaluateSource, findSource, evaluatePredicate, condition, extend}
-use Rattle.rules.specs.Plain.{Outcome, finished, ended, next, after, decide, inLet, asserted, run}
+use Rattle.rules.specs.Plain.{finished, ended, next, after, decide, inLet, asserted, run}
 use Rattle.rules.proofs.KindViews.{formAt, SourceKind, skip, assign, new, free, sequence, branch, while, letIn, assert}
 use Rattle.rules.proofs.FormLaws.{FormHolds, nodeAs}
-use Rattle.rules.proofs.Standing.{stands, stands-at}
+use Rattle.rules.proofs.Standing.{stands}
 use Rattle.rules.proofs.Turns.{while-zero, while-suc}
-use Rattle.rules.proofs.Sound.{Scope, adding, NoName, SoundExpression, SoundPlace, SoundStatement}
+use Rattle.rules.proofs.StatementArms.{OfSort, ChildOfSort, statement-form}
 
 -- the trees of record n
 abbrev pub expressionAt : List ℕ → ℕ → Expression ⊥
@@ -31,18 +30,15 @@ abbrev pub statementAt : List ℕ → ℕ → Statement
 statementAt t n = sourceStatement (nodeAt source t n)
 
 abbrev pub HasSort : Sort → List ℕ → ℕ → Type 0
-HasSort s t n = sortOfNode source (nodeAt source t n) ≡ sortNumber s
+HasSort s t n = OfSort source s t n
 
 -- a child of record n
 abbrev pub Under : Sort → List ℕ → ℕ → ℕ → Type 0
-Under s t n x = (1 ≤ x) × (x < n) × HasSort s t x
+Under s t n x = ChildOfSort source s t n x
 
 module _ (t : List ℕ) (n : ℕ) (h : HasSort statement t n) where
   form : (k : ℕ) → kindOf t n ≡ k → FormHolds source t n (formAt source k)
-  form k e = stands-at source t n k statement h e
-
-  pub statement-within : (1 ≤ n) × (n ≤ recordCount t)
-  statement-within = let s = stands source t n statement h in (s .from-one, s .within)
+  form k e = statement-form source t n h k e
 
   -- the last kind is what is left
   pub statement-kinds : kindOf t n ≢ 40 → kindOf t n ≢ 41 → kindOf t n ≢ 42 → kindOf t n ≢ 43 → kindOf t n ≢ 44
@@ -61,29 +57,7 @@ module _ (t : List ℕ) (n : ℕ) (h : HasSort statement t n) where
       go letIn a b c d e f g i = absurd (i refl)
       go assert a b c d e f g i = refl
 
-  -- the children
-  pub assign-children : kindOf t n ≡ 41 → Under place t n (childA t n) × Under expression t n (childB t n)
-  assign-children e = (form 41 e .a, form 41 e .b)
-
-  pub new-children : kindOf t n ≡ 42 → Under place t n (childA t n) × Under expression t n (childB t n)
-  new-children e = (form 42 e .a, form 42 e .b)
-
-  pub free-child : kindOf t n ≡ 43 → Under expression t n (childA t n)
-  free-child e = form 43 e .a
-
-  pub sequence-children : kindOf t n ≡ 44 → Under statement t n (childA t n) × Under statement t n (childB t n)
-  sequence-children e = (form 44 e .a, form 44 e .b)
-
-  pub branch-children : kindOf t n ≡ 45
-      → Under expression t n (childA t n) × Under statement t n (childB t n) × Under statement t n (childC t n)
-  branch-children e = (form 45 e .a, form 45 e .b, form 45 e .c)
-
-  pub while-children : kindOf t n ≡ 46 → Under expression t n (childA t n) × Under statement t n (childB t n)
-  while-children e = (form 46 e .a, form 46 e .b)
-
-  pub let-child : kindOf t n ≡ 47 → Under statement t n (childA t n)
-  let-child e = form 47 e .a
-
+  -- the one child that StatementArms has not
   pub assert-child : kindOf t n ≡ 48 → Under predicate t n (childA t n)
   assert-child e = form 48 e .a
 
@@ -158,31 +132,3 @@ module _ (t : List ℕ) (n : ℕ) (h : HasSort statement t n) where
       decide n (condition (evaluateSource (expressionAt t (childA t n)) ρ m))
       (λ m₁ f₁. next (run (statementAt t (childB t n)) ρ m₁ f₁) (λ m₂ f₂. run w ρ m₂ f₂)) finished m f)
       (ap sourceStatement (form 46 e .node)))
-
-  -- what the children keep
-  module _ (σ : Scope) (s : SoundStatement (statementAt t n) σ) where
-    sound-as : (k : ℕ) → kindOf t n ≡ k → SoundStatement (sourceStatement (nodeAs source (formAt source k .kind) t n)) σ
-    sound-as k e = subst (λ (x : SourceNode). SoundStatement (sourceStatement x) σ) (form k e .node) s
-
-    pub sound-assign : kindOf t n ≡ 41
-        → SoundPlace (placeAt t (childA t n)) NoName σ × SoundExpression (expressionAt t (childB t n)) NoName σ
-    sound-assign e = let w = sound-as 41 e in (w .1, w .2)
-
-    pub sound-new : kindOf t n ≡ 42
-        → SoundPlace (placeAt t (childA t n)) NoName σ × SoundExpression (expressionAt t (childB t n)) NoName σ
-    sound-new e = let w = sound-as 42 e in (w .1, w .2)
-
-    pub sound-sequence : kindOf t n ≡ 44
-        → SoundStatement (statementAt t (childA t n)) σ × SoundStatement (statementAt t (childB t n)) σ
-    sound-sequence e = let w = sound-as 44 e in (w .1, w .2)
-
-    pub sound-branch : kindOf t n ≡ 45
-        → SoundStatement (statementAt t (childB t n)) σ × SoundStatement (statementAt t (childC t n)) σ
-    sound-branch e = let w = sound-as 45 e in (w .2, w .3)
-
-    pub sound-while : kindOf t n ≡ 46 → SoundStatement (statementAt t (childB t n)) σ
-    sound-while e = sound-as 46 e .2
-
-    pub sound-let : kindOf t n ≡ 47
-        → (markOf t n < 64) × SoundStatement (statementAt t (childA t n)) (adding σ (markOf t n))
-    sound-let e = let w = sound-as 47 e in (w .1, w .3)

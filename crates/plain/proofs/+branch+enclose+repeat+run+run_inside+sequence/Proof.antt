@@ -10,12 +10,17 @@ use Rattle.rules.specs.Evaluation.{Variables, extend}
 use Rattle.rules.specs.Plain.{finished, ended}
 use Rattle.rules.specs.Plain as plain
 use Rattle.rules.specs.Layout.{memoryOf}
-use Rattle.rules.proofs.PlainArms.{statementAt, statement-kinds, sequence-children, branch-children, while-children, run-skip, run-sequence}
+use Rattle.rules.specs.Kinds.{source}
+use Rattle.rules.proofs.StatementArms.{sequence-children, branch-children, while-children}
+use Rattle.rules.proofs.PlainArms.{statementAt, statement-kinds, run-skip, run-sequence}
 use Rattle.evaluation.specs.State.{variablesOf}
-use Rattle.plain.specs.Running.{Ready, Ran, result}
-use Rattle.plain.proofs.Laws.{becomes-same, ran-is, next-goes, next-stays}
+use Rattle.statements.specs.Ending.{result}
+use Rattle.plain.specs.Running.{Ready, Ran}
+use Rattle.statements.proofs.ChangeLaws.{becomes-same}
+use Rattle.plain.proofs.Laws.{ran-is, next-goes, next-stays}
 use Rattle.plain.proofs.ReadyLaws.{ready-within, ready-number, ready-first, ready-then, ready-else, ready-turn}
-use Rattle.plain.proofs.MemberLaws.{ran-from, ran-same, variables-set, branch-yes, branch-no, branch-stop, turn-yes, turn-no, turn-stop, turn-out, let-made, let-unmade, Turning, turn-ends, turn-again, turn-spends, inside-ends, ready-later, ready-made}
+use Rattle.statements.proofs.EntryLaws.{variables-set}
+use Rattle.plain.proofs.MemberLaws.{ran-from, ran-same, branch-yes, branch-no, branch-stop, turn-yes, turn-no, turn-stop, turn-out, let-made, let-unmade, Turning, turn-ends, turn-again, turn-spends, inside-ends, ready-later, ready-made}
 use borrow.Fn.Kinds.{In}
 use borrow.Fn.PlainCycle.{Measures, is, falls, and}
 use Rattle.plain.proofs.branch.Reads as branch
@@ -41,7 +46,7 @@ use Rattle.blocks.proofs.make.Reads as make-reads
 use Rattle.plain.proofs.allocate.Reads as allocate-reads
 use Rattle.plain.proofs.assert.Reads as assert-reads
 use Rattle.plain.proofs.assign.Reads as assign-reads
-use Rattle.plain.proofs.name_variable.Reads as name-variable-reads
+use Rattle.statements.proofs.name_variable.Reads as name-variable-reads
 use Rattle.plain.proofs.release.Reads as release-reads
 use Rattle.plain.proofs.test_a.Reads as test-a-reads
 use Rattle.tables.proofs.child_a.Reads as child-a-reads
@@ -137,7 +142,7 @@ branch-test-a-requires t c κs =
     let f = s .args .fuel in
     let h = s .pre .1 .0 in
     let q = s .pre .1 .1 in
-    (ready-within T n ρ (memoryOf l) h, branch-children T n (h .is) q .0 .2)
+    (ready-within T n ρ (memoryOf l) h, branch-children source T n (h .is) q .0 .2)
 
 branch-enum-told : (t : ℕ) → branch-lts.Need-enum-told (branch-claims t) (branch-at t) branch.Post
 branch-enum-told t c = search needs
@@ -165,7 +170,7 @@ branch-run-requires t c κs =
     let h = s .pre .1 .0 in
     let q = s .pre .1 .1 in
     rw (c .before .child-b .ensures)
-    (omega (arith, branch-children T n (h .is) q .1 .1, s .pre .0), ready-then T n ρ (memoryOf l) h q)
+    (omega (arith, branch-children source T n (h .is) q .1 .1, s .pre .0), ready-then T n ρ (memoryOf l) h q)
 
 branch-enum-told-2 : (t : ℕ) → branch-lts.Need-enum-told-2 (branch-claims t) (branch-at t) branch.Post
 branch-enum-told-2 t c = search needs
@@ -193,7 +198,7 @@ branch-run-requires-2 t c κs =
     let h = s .pre .1 .0 in
     let q = s .pre .1 .1 in
     rw (c .before .child-c .ensures)
-    (omega (arith, branch-children T n (h .is) q .2 .1, s .pre .0), ready-else T n ρ (memoryOf l) h q)
+    (omega (arith, branch-children source T n (h .is) q .2 .1, s .pre .0), ready-else T n ρ (memoryOf l) h q)
 
 branch-enum-known-k : (t : ℕ) → branch-lts.Need-enum-known-k (branch-claims t) (branch-at t) branch.Post
 branch-enum-known-k t c = search needs
@@ -347,7 +352,7 @@ repeat-test-a-requires t c κs =
     let f = s .args .fuel in
     let h = s .pre .1 .0 in
     let q = s .pre .1 .1 in
-    (ready-within T n ρ (memoryOf l) h, while-children T n (h .is) q .0 .2)
+    (ready-within T n ρ (memoryOf l) h, while-children source T n (h .is) q .0 .2)
 
 repeat-enum-told : (t : ℕ) → repeat-lts.Need-enum-told (repeat-claims t) (repeat-at t) repeat.Post repeat-Inv-loop repeat-μ-loop
 repeat-enum-told t c = search needs
@@ -363,7 +368,7 @@ repeat-run-requires t c κs =
     let h = s .pre .1 .0 in
     let q = s .pre .1 .1 in
     rw (c .before .before .before .before .before .before .before .child-b .ensures) (
-      omega (arith, while-children T n (h .is) q .1 .1, s .pre .0),
+      omega (arith, while-children source T n (h .is) q .1 .1, s .pre .0),
       ready-turn T n ρ (memoryOf l) h q (memoryOf (c .before .before .before .before .before .before .loop .mem)) (c .before .before .before .before .before .before .loop .inv .fits),
     )
 
@@ -650,7 +655,7 @@ sequence-run-requires t c κs =
     let h = s .pre .1 .0 in
     let q = s .pre .1 .1 in
     rw (c .before .child-a .ensures)
-    (omega (arith, sequence-children T n (h .is) q .0 .1, s .pre .0), ready-first T n ρ (memoryOf l) h q)
+    (omega (arith, sequence-children source T n (h .is) q .0 .1, s .pre .0), ready-first T n ρ (memoryOf l) h q)
 
 sequence-child-b-requires : (t : ℕ) → sequence-lts.Need-child-b-requires (sequence-claims t) (sequence-at t) sequence.Post
 sequence-child-b-requires t c κs =
@@ -675,7 +680,7 @@ sequence-run-requires-2 t c κs =
     let h = s .pre .1 .0 in
     let q = s .pre .1 .1 in
     rw (c .before .child-b .ensures) (
-      omega (arith, sequence-children T n (h .is) q .1 .1, s .pre .0),
+      omega (arith, sequence-children source T n (h .is) q .1 .1, s .pre .0),
       ready-later T n ρ f (c .before .before .before .before .before .run .result) l (c .before .before .before .before .before .run .last .1 .1 .1 .1 .0) h q (rw (c .before .before .before .before .before .before .before .child-a .ensures) at (c .before .before .before .before .before .run .ensures)),
     )
 
