@@ -13,7 +13,7 @@ use Rattle.rules.specs.Records.{Record, kindOf, childA, childB, childC, recordA
 use Rattle.rules.specs.Kinds.{Language, Form, formOf}
 use Rattle.rules.specs.Checker.{timesIn, timesOf, timesChildOf, timesChild}
 use Rattle.rules.proofs.ParentLaws.{times-suc, times-zero}
-use Rattle.checker.specs.Codes.{fieldFrom, entry, decoded, Coded}
+use Rattle.forms.specs.Codes.{fieldFrom, entry, decoded, Coded}
 use Rattle.checker.specs.Searches.{countIn, countThree, Counted}
 use Rattle.checker.proofs.NoteLaws.{count-step, count-length, times-most, Room}
 

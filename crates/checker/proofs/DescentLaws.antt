@@ -13,7 +13,7 @@ use Rattle.rules.specs.Kinds.{Language, Field, unnamed, child, number}
 use Rattle.rules.specs.Checker.{recordFault, shapeFault, timesIn, timesChildOf}
 use Rattle.rules.proofs.ParentLaws.{Passed, IsParent, parent-above, has-parent}
 use Rattle.rules.proofs.CheckLaws.{each-passes}
-use Rattle.checker.specs.Codes.{fieldFrom, Coded}
+use Rattle.forms.specs.Codes.{fieldFrom, Coded}
 use Rattle.checker.specs.Searches.{putIn, putThree}
 use Rattle.checker.specs.Scopes.{Given, Kept}
 use Rattle.checker.proofs.NoteLaws.{put-step, put-length}

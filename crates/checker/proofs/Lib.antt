@@ -1,6 +1,3 @@
-pub mod CodeLaws
-pub mod FieldLaws
-pub mod FaultLaws
 pub mod NoteLaws
 pub mod Lowest
 pub mod CountLaws

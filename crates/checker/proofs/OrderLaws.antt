@@ -14,7 +14,7 @@ use Rattle.rules.specs.declared.Checked.the-variants as checked
 use Rattle.rules.specs.Records.{recordCount}
 use Rattle.rules.specs.Kinds.{Language, source, target, recordLimit}
 use Rattle.rules.specs.Checker.{lowestRecord, lengthFault, countFault, recordFault, shapeFault, scopeFault, levelFault, refuseAt, lastRule, check}
-use Rattle.checker.specs.Codes.{languageOf}
+use Rattle.forms.specs.Codes.{languageOf}
 use Rattle.checker.specs.Searches.{searchOf}
 use Rattle.checker.specs.Order.{orNext, fromScopes, fromShapes, fromRecords}
 

@@ -1,4 +1,3 @@
-pub mod Codes
 pub mod Searches
 pub mod Scopes
 pub mod Order

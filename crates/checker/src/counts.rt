@@ -1,12 +1,9 @@
 // How often each record is a child.
-ghost use mathlib.Core.Path.{_≡_};
-ghost use Prim.Native.Nat.{ℕ, _-_, _≤_};
-ghost use lib.ListN.{length, getD};
+ghost use Prim.Native.Nat.{_-_, _≤_};
 ghost use Rattle.rules.specs.Records.{recordCount};
 ghost use Rattle.tables.specs.Within.{Within};
-ghost use Rattle.checker.specs.Codes.{languageOf};
+ghost use Rattle.forms.specs.Codes.{languageOf};
 ghost use Rattle.checker.specs.Searches.{Counted};
-use super::forms::form_of;
 use super::notes::count_children;
 
 // The children of record n are counted after those of the records before it.
@@ -14,7 +11,7 @@ fn count_record(target: bool, table: &[u8], n: usize, notes: &mut [u64; 4097])
     requires { ⌜ Within (now table) n × (n ≤ 4096) × Counted (languageOf target) (now table) (n - 1) (now notes) ⌝ }
     ensures { λ _. ⌜ Counted (languageOf target) (now (table .entry)) n (now (notes .exit)) ⌝ }
 {
-    let form = form_of(target, tables::kind(table, n));
+    let form = forms::form_of(target, tables::kind(table, n));
     let a = tables::child_a(table, n);
     let b = tables::child_b(table, n);
     let c = tables::child_c(table, n);

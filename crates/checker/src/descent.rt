@@ -7,9 +7,8 @@ ghost use Rattle.rules.specs.Records.{kindOf, childB};
 ghost use Rattle.rules.specs.Kinds.{source};
 ghost use Rattle.rules.specs.Checker.{levelBelow};
 ghost use Rattle.tables.specs.Within.{Within};
-ghost use Rattle.checker.specs.Codes.{languageOf};
+ghost use Rattle.forms.specs.Codes.{languageOf};
 ghost use Rattle.checker.specs.Scopes.{Given};
-use super::forms::form_of;
 use super::levels::level_below;
 use super::notes::put_children;
 
@@ -18,7 +17,7 @@ pub fn pass_scope(target: bool, table: &[u8], n: usize, scope: u64, notes: &mut 
     requires { ⌜ Within (now table) n × (length (now notes) ≡ 4097) ⌝ }
     ensures { λ _. ⌜ Given (languageOf target) (now (table .entry)) n (λ (j : ℕ). scope) (now (notes .entry)) (now (notes .exit)) ⌝ }
 {
-    let form = form_of(target, tables::kind(table, n));
+    let form = forms::form_of(target, tables::kind(table, n));
     let a = tables::child_a(table, n);
     let b = tables::child_b(table, n);
     let c = tables::child_c(table, n);
@@ -39,5 +38,5 @@ pub fn pass_level(table: &[u8], n: usize, level: u64, notes: &mut [u64; 4097])
     let u = level_below(kind, b == a, level);
     let v = level_below(kind, b == b, level);
     let w = level_below(kind, b == c, level);
-    put_children(notes, form_of(false, kind), a, b, c, u, v, w);
+    put_children(notes, forms::form_of(false, kind), a, b, c, u, v, w);
 }

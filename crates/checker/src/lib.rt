@@ -2,10 +2,8 @@
 // Each rule takes one pass over the records, without recursion; the notes of a pass are one local array.
 mod counts;
 mod descent;
-mod forms;
 mod levels;
 mod notes;
-mod records;
 mod scopes;
 mod searches;
 
@@ -15,9 +13,9 @@ ghost use lib.Dec.{ltb};
 ghost use Rattle.rules.specs.declared.Search.the-variants.{Nothing};
 ghost use Rattle.rules.specs.declared.Checked.the-variants.{Refused};
 ghost use Rattle.rules.specs.Records.{recordCount};
-ghost use Rattle.rules.specs.Kinds.{Language, source, target, recordLimit};
+ghost use Rattle.rules.specs.Kinds.{source, target, recordLimit};
 ghost use Rattle.rules.specs.Checker.{lowestRecord, recordFault, lastRule, check};
-ghost use Rattle.checker.specs.Codes.{languageOf};
+ghost use Rattle.forms.specs.Codes.{languageOf};
 ghost use Rattle.checker.specs.Scopes.{Kept};
 ghost use Rattle.checker.specs.Order.{fromScopes, fromShapes, fromRecords};
 use rules::Checked;
@@ -79,7 +77,7 @@ fn check_records(target: bool, table: &[u8]) -> Checked
     if n == 0 {
         return check_shapes(target, table);
     }
-    refuse(records::record_fault(target, table, n), n)
+    refuse(forms::record_fault(target, table, n), n)
 }
 
 fn limit(target: bool) -> usize

@@ -7,15 +7,13 @@ ghost use Rattle.rules.specs.Records.{recordCount};
 ghost use Rattle.rules.specs.Kinds.{source};
 ghost use Rattle.rules.specs.Checker.{lowestRecord, recordFault, timesChild, shapeFault, scopeFault, levelFault};
 ghost use Rattle.tables.specs.Within.{Within};
-ghost use Rattle.checker.specs.Codes.{languageOf};
+ghost use Rattle.forms.specs.Codes.{languageOf};
 ghost use Rattle.checker.specs.Searches.{searchOf};
 ghost use Rattle.checker.specs.Scopes.{Kept};
 use super::counts::count_all;
 use super::descent::pass_level;
 use super::descent::pass_scope;
-use super::forms::form_of;
 use super::levels::is_too_deep;
-use super::records::record_fault;
 use super::scopes::is_out_of_scope;
 use super::scopes::scope_below;
 
@@ -36,7 +34,7 @@ pub fn lowest_fault(target: bool, table: &[u8]) -> usize
     let mut found = 0;
     let mut n = table.len() / 16;
     while 0 < n {
-        found = lower(0 < record_fault(target, table, n), n, found);
+        found = lower(0 < forms::record_fault(target, table, n), n, found);
         n -= 1;
     }
     found
@@ -49,7 +47,7 @@ fn is_misshapen(target: bool, table: &[u8], n: usize, times: u64) -> bool
         → r ≡ shapeFault (languageOf target) (now (table .entry)) n) ⌝ }
 {
     if n == table.len() / 16 {
-        return form_of(target, tables::kind(table, n)) / 1048576 != 5;
+        return forms::form_of(target, tables::kind(table, n)) / 1048576 != 5;
     }
     times != 1
 }

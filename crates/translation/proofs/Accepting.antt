@@ -23,9 +23,12 @@ use Rattle.rules.proofs.SoundSource.{sound-source}
 use Rattle.rules.proofs.Acceptance.{Accepted, accepted-says}
 use Rattle.rules.proofs.AcceptedTrees.{accepted-last}
 use Rattle.rules.proofs.SizeBound.{size-bound}
-use Rattle.translation.specs.Emission.{copyAt, Sorted, Emitted, TermLevels, PredicateLevels, StatementLevels, StatementAt}
-use Rattle.translation.proofs.Emitting.{bytes-emit}
-use Rattle.translation.proofs.Sizes.{tree-as}
+use Rattle.sizes.specs.Trees.{copyAt, Sorted}
+use Rattle.emission.specs.Emission.{Emitted}
+use Rattle.assertions.specs.Tests.{TermLevels, PredicateLevels}
+use Rattle.translation.specs.Statements.{StatementLevels, StatementAt}
+use Rattle.emission.proofs.Emitting.{bytes-emit}
+use Rattle.sizes.proofs.Sizes.{tree-as}
 use Rattle.translation.proofs.Statements.{statement-as}
 
 term-levels : (x : Term) (ρ : Scope) (v : ℕ) → SoundTerm x ρ v → TermLevels x v

@@ -1,10 +1,3 @@
-pub mod Puts
-pub mod Emitting
-pub mod Copying
-pub mod Parts
-pub mod Sizes
-pub mod SizeSteps
-pub mod Tests
-pub mod TestSteps
+-- Facts about statements and accepted tables.
 pub mod Statements
 pub mod Accepting

@@ -12,11 +12,14 @@ use Rattle.rules.specs.Translation.{translate, expressionTree, statementTree, R
 use Rattle.rules.proofs.KindViews.{formAt, SourceKind, literal, read, address, operation, shifted, variable, pointed, value, base, offset, blockLength, combined, valid, initialised, compared, negated, both, either, skip, assign, new, free, sequence, branch, while, letIn, assert}
 use Rattle.rules.proofs.FormLaws.{FormHolds}
 use Rattle.rules.proofs.Standing.{Stands, stands, stands-at}
-use Rattle.translation.specs.Emission.{targetTree, treeAt, copyAt, sortAt, Copied, sequenceTree, partTree, fetchTree, savedTree, newTree, assertTree, PredicateLevels, LevelsAt, StatementLevels, StatementNode, StatementAt, Simple, overTree, letTree}
-use Rattle.translation.proofs.Emitting.{Some, some, statement-some}
-use Rattle.translation.proofs.Copying.{none-at, copy-at}
-use Rattle.translation.proofs.Sizes.{SizeLaw, size-law, tree-as}
-use Rattle.translation.proofs.Tests.{levels-as-predicate}
+use Rattle.sizes.specs.Trees.{targetTree, treeAt, copyAt, sortAt}
+use Rattle.emission.specs.Emission.{Copied, sequenceTree, partTree}
+use Rattle.translation.specs.Statements.{fetchTree, savedTree, newTree, StatementLevels, StatementNode, StatementAt, Simple, overTree, letTree}
+use Rattle.assertions.specs.Tests.{assertTree, PredicateLevels, LevelsAt}
+use Rattle.emission.proofs.Emitting.{Some, some, statement-some}
+use Rattle.emission.proofs.Copying.{copy-at}
+use Rattle.sizes.proofs.Sizes.{none-at, SizeLaw, size-law, tree-as}
+use Rattle.assertions.proofs.Tests.{levels-as-predicate}
 
 module _ (t : List ℕ) (n : ℕ) (e : sortAt t n ≡ 5) where
   tree-of : {y : SourceNode} → nodeAt source t n ≡ y → treeAt t n 0 0 ≡ targetTree y 0 0

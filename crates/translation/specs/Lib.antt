@@ -1,1 +1,2 @@
-pub mod Emission
+-- What the code of statements is held to.
+pub mod Statements

@@ -6,9 +6,11 @@ use denote.Ref.{now}
 use lib.IntN.{pos}
 use Rattle.rules.specs.Records.{childA, childB, childC}
 use Rattle.rules.specs.Translation.{none, node, treeSize}
-use Rattle.translation.specs.Emission.{Room, copyAt, sequenceTree, letTree}
-use Rattle.translation.proofs.Emitting.{emitted-as, emitted-none, emitted-node, some, root-some, field-some}
-use Rattle.translation.proofs.Parts.{number-literal, emitted-sequence, emitted-over}
+use Rattle.emission.specs.Emission.{Room, sequenceTree}
+use Rattle.sizes.specs.Trees.{copyAt}
+use Rattle.translation.specs.Statements.{letTree}
+use Rattle.emission.proofs.Emitting.{emitted-as, emitted-none, emitted-node, some, root-some, field-some}
+use Rattle.emission.proofs.Parts.{number-literal, emitted-sequence, emitted-over}
 use Rattle.translation.proofs.Statements.{statement-law, number-small, sequence-tree, branch-tree, while-tree, let-tree, statement-has, copy-has}
 use Prim.Native.Nat.{ℕ, _<_}
 use borrow.Fn.Kinds.{In}
@@ -21,12 +23,12 @@ use Rattle.tables.proofs.child_b.Reads as child-b-reads
 use Rattle.tables.proofs.child_c.Reads as child-c-reads
 use Rattle.tables.proofs.kind.Reads as kind-reads
 use Rattle.tables.proofs.mark.Reads as mark-reads
-use Rattle.translation.proofs.copy.Reads as copy-reads
+use Rattle.emission.proofs.copy.Reads as copy-reads
 use Rattle.translation.proofs.emit_ending.Reads as emit-ending-reads
 use Rattle.translation.proofs.emit_over.Reads as emit-over-reads
-use Rattle.translation.proofs.emit_part.Reads as emit-part-reads
-use Rattle.translation.proofs.emit_record.Reads as emit-record-reads
-use Rattle.translation.proofs.emit_sequence.Reads as emit-sequence-reads
+use Rattle.emission.proofs.emit_part.Reads as emit-part-reads
+use Rattle.emission.proofs.emit_record.Reads as emit-record-reads
+use Rattle.emission.proofs.emit_sequence.Reads as emit-sequence-reads
 use Rattle.translation.proofs.emit_simple.Reads as emit-simple-reads
 use Rattle.translation.proofs.+emit_statement.{statement}
 use Rattle.translation.proofs.+emit_statement.Tie.{close}

@@ -2,14 +2,14 @@
 use native.Mathlib.Omega.{arith}
 use denote.Ref.{now}
 use lib.IntN.{pos}
-use Rattle.translation.proofs.Emitting.{some}
-use Rattle.translation.proofs.Parts.{number-literal, emitted-over, emitted-leaf}
+use Rattle.emission.proofs.Emitting.{some}
+use Rattle.emission.proofs.Parts.{number-literal, emitted-over, emitted-leaf}
 use borrow.Author.Needs.{needs}
 use Rattle.translation.proofs.emit_fetch.Statement.{statement}
 use Rattle.translation.proofs.emit_fetch.Tie as tie
 use Rattle.translation.proofs.emit_fetch.Reads as reads
 use Rattle.translation.proofs.emit_fetch.Lts as lts
-use Rattle.translation.proofs.emit_record.Reads as emit-record-reads
+use Rattle.emission.proofs.emit_record.Reads as emit-record-reads
 
 -- src/lib.rt:170:9
 emit-record-requires : tie.Need-emit-record-requires

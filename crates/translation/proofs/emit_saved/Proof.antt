@@ -2,15 +2,15 @@
 use native.Mathlib.Omega.{arith}
 use mathlib.Core.Logic.{inl}
 use mathlib.Core.Path.{refl}
-use Rattle.translation.proofs.Emitting.{some}
-use Rattle.translation.proofs.Parts.{emitted-sequence}
+use Rattle.emission.proofs.Emitting.{some}
+use Rattle.emission.proofs.Parts.{emitted-sequence}
 use borrow.Author.Needs.{needs}
 use Rattle.translation.proofs.emit_saved.Statement.{statement}
 use Rattle.translation.proofs.emit_saved.Tie as tie
 use Rattle.translation.proofs.emit_saved.Reads as reads
 use Rattle.translation.proofs.emit_saved.Lts as lts
-use Rattle.translation.proofs.emit_part.Reads as emit-part-reads
-use Rattle.translation.proofs.emit_sequence.Reads as emit-sequence-reads
+use Rattle.emission.proofs.emit_part.Reads as emit-part-reads
+use Rattle.emission.proofs.emit_sequence.Reads as emit-sequence-reads
 
 -- src/lib.rt:182:9
 emit-part-requires : tie.Need-emit-part-requires

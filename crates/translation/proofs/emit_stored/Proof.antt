@@ -3,8 +3,8 @@ use native.Mathlib.Omega.{arith}
 use borrow.Author.Needs.{needs}
 use mathlib.Core.Logic.{inl}
 use mathlib.Core.Path.{refl, _∙_}
-use Rattle.translation.proofs.Emitting.{some}
-use Rattle.translation.proofs.Parts.{emitted-sequence}
+use Rattle.emission.proofs.Emitting.{some}
+use Rattle.emission.proofs.Parts.{emitted-sequence}
 use Rattle.translation.proofs.emit_stored.Statement.{statement}
 use Rattle.translation.proofs.emit_stored.Tie as tie
 

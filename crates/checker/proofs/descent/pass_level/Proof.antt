@@ -7,7 +7,7 @@ use lib.Dec.{eqb}
 use Rattle.rules.specs.Records.{kindOf, childA, childB, childC}
 use Rattle.rules.specs.Kinds.{source}
 use Rattle.rules.specs.Checker.{levelBelow}
-use Rattle.checker.specs.Codes.{Coded}
+use Rattle.forms.specs.Codes.{Coded}
 use Rattle.checker.specs.Searches.{putThree}
 use Rattle.checker.specs.Scopes.{Given}
 use Rattle.checker.proofs.DescentLaws.{given-three}

@@ -6,7 +6,7 @@ use mathlib.Core.Path.{_≡_, refl}
 use lib.ListN.{length}
 use Rattle.rules.specs.Records.{recordCount}
 use Rattle.rules.specs.Checker.{shapeFault}
-use Rattle.checker.specs.Codes.{languageOf}
+use Rattle.forms.specs.Codes.{languageOf}
 use Rattle.checker.specs.Searches.{Counted}
 use Rattle.checker.proofs.ShapeLaws.{counted-start}
 use Rattle.checker.proofs.Lowest.{Lowest, lowest-start, lowest-down, lowest-end}

@@ -11,7 +11,7 @@ use lib.Seq.{getD-set-same}
 use Rattle.rules.specs.Records.{recordCount, kindOf, markOf, childB}
 use Rattle.rules.specs.Kinds.{source}
 use Rattle.rules.specs.Checker.{scopeFault, levelFault, recordFault, levelBelow, levelOf}
-use Rattle.checker.specs.Codes.{languageOf}
+use Rattle.forms.specs.Codes.{languageOf}
 use Rattle.checker.specs.Scopes.{bit, outOfScope, tooDeep, Kept}
 use Rattle.rules.proofs.ParentLaws.{Passed, IsParent}
 use Rattle.checker.proofs.DescentLaws.{passed-of, Known, known-start, known-here, known-down}

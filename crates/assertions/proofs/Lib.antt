@@ -1,0 +1,3 @@
+-- Facts about terms and predicates.
+pub mod Tests
+pub mod TestSteps

@@ -1,0 +1,2 @@
+-- What the code of assertions is held to.
+pub mod Tests

@@ -1,0 +1,65 @@
+-- `emission::emit_part` meets its contract. Assumes nothing.
+use denote.Ref.{now}
+use Rattle.emission.proofs.Parts.{number-literal, part-done}
+use borrow.Author.Needs.{needs}
+use Rattle.emission.proofs.emit_part.Statement.{statement}
+use Rattle.emission.proofs.emit_part.Tie as tie
+use Rattle.emission.proofs.emit_part.Reads as reads
+use Rattle.emission.proofs.emit_part.Lts as lts
+use Rattle.emission.proofs.copy.Reads as copy-reads
+use Rattle.emission.proofs.emit_record.Reads as emit-record-reads
+use Rattle.emission.proofs.root.Reads as root-reads
+
+-- src/lib.rt:78:9
+copy-requires : tie.Need-copy-requires
+copy-requires c κs = search needs
+
+-- src/lib.rt:79:9
+copy-requires-2 : tie.Need-copy-requires-2
+copy-requires-2 c κs = search needs
+
+-- src/lib.rt:80:37
+root-requires : tie.Need-root-requires
+root-requires c κs = search needs
+
+-- src/lib.rt:80:49
+root-requires-2 : tie.Need-root-requires-2
+root-requires-2 c κs = search needs
+
+-- src/lib.rt:80:64
+cast-emit-record : tie.Need-cast-emit-record
+cast-emit-record c = search needs
+
+-- src/lib.rt:80:5
+emit-record-requires : tie.Need-emit-record-requires
+emit-record-requires c κs = search needs
+
+-- src/lib.rt:72:1
+same-length : tie.Need-same-length
+same-length c = search needs
+
+-- src/lib.rt:72:1
+returns : tie.Need-returns
+returns c =
+    let z = c .before .before in
+    let y = z .before .before .before .before .before .before in
+    let x = y .before .before .before .before in
+    let s = x .before .before .before .before in
+    let a = s .args in
+    part-done (now (a .table)) (a .a) (a .b) _ _ (z .before .before .root .result) (z .before .root2 .result)
+    (s .pre .0) (s .pre .1 .0) (s .pre .1 .1 .1) (x .copy .ensures) (y .copy2 .ensures) (z .before .before .root .ensures)
+    (z .before .root2 .ensures) (rw (number-literal (a .s) (s .pre .1 .1 .0)) at (z .emit-record .ensures .0))
+    (z .emit-record .ensures .1)
+
+pub emit-part-spec : {M : Type 1} → statement M
+emit-part-spec =
+    tie.close
+    (tie.spec
+    copy-requires
+    copy-requires-2
+    root-requires
+    root-requires-2
+    cast-emit-record
+    emit-record-requires
+    same-length
+    returns)

@@ -1,0 +1,29 @@
+-- `emission::emit_sequence` meets its contract. Assumes nothing.
+use Rattle.emission.proofs.Parts.{number-literal}
+use borrow.Author.Needs.{needs}
+use Rattle.emission.proofs.emit_sequence.Statement.{statement}
+use Rattle.emission.proofs.emit_sequence.Tie as tie
+use Rattle.emission.proofs.emit_sequence.Reads as reads
+use Rattle.emission.proofs.emit_sequence.Lts as lts
+use Rattle.emission.proofs.emit_record.Reads as emit-record-reads
+
+-- src/lib.rt:89:47
+cast-emit-record : tie.Need-cast-emit-record
+cast-emit-record c = search needs
+
+-- src/lib.rt:89:5
+emit-record-requires : tie.Need-emit-record-requires
+emit-record-requires c κs = search needs
+
+-- src/lib.rt:84:1
+same-length : tie.Need-same-length
+same-length c = search needs
+
+-- src/lib.rt:84:1
+returns : tie.Need-returns
+returns c =
+    let s = c .before .before .before .before .before in
+    rw (number-literal (s .args .s) (s .pre .0)) at (c .before .before .emit-record .ensures)
+
+pub emit-sequence-spec : {M : Type 1} → statement M
+emit-sequence-spec = tie.close (tie.spec cast-emit-record emit-record-requires same-length returns)

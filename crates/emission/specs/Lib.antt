@@ -1,0 +1,2 @@
+-- What the code of emission is held to.
+pub mod Emission

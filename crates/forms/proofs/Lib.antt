@@ -1,0 +1,4 @@
+-- Facts about forms.
+pub mod CodeLaws
+pub mod FieldLaws
+pub mod FaultLaws

@@ -1,0 +1,2 @@
+-- What a form is.
+pub mod Codes

@@ -1,0 +1,3 @@
+-- Facts about sizes.
+pub mod Sizes
+pub mod SizeSteps

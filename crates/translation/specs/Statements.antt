@@ -1,0 +1,76 @@
+-- What is emitted for statements, and which may stand.
+use Prim.Native.Nat.{ℕ, _≤_}
+use mathlib.Core.List.{List}
+use mathlib.Core.Path.{_≡_}
+use lib.IntN.{ℤ, pos}
+use Rattle.rules.specs.Kinds.{source}
+use Rattle.rules.specs.Nodes.{SourceNode, expressionNode, placeNode, termNode, predicateNode, statementNode, junk, nodeAt}
+use Rattle.rules.specs.Trees.{Statement}
+use Rattle.rules.specs.Trees as tree
+use Rattle.rules.specs.Translation.{RecordTree, none, node}
+use Rattle.emission.specs.Emission.{sequenceTree, partTree}
+use Rattle.assertions.specs.Tests.{PredicateLevels}
+
+-- a record over a leaf
+abbrev pub overTree : ℕ → ℕ → ℤ → ℕ → ℕ → ℕ → RecordTree
+overTree j l z s k m = node k m (pos s) 0 (node j l z 0 none none none) none none
+
+-- "61 t1 read of 12 t0"
+abbrev pub fetchTree : ℕ → RecordTree
+fetchTree s = node 61 1 (pos s) 0 (node 2 0 (pos 0) 0 (node 12 0 (pos 0) 0 none none none) none none) none none
+
+-- "60 t0 place; 41; 70 t0" and "61 t0; 43; 69 t0"
+abbrev pub savedTree : List ℕ → ℕ → ℕ → ℕ → ℕ → ℕ → ℕ → RecordTree
+savedTree t s first k last a b =
+    sequenceTree s (partTree t s first 0 a 0 0)
+    (sequenceTree s (partTree t s k 0 a b 0) (partTree t s last 0 0 0 0))
+
+-- "61 t1 read of 12 t0; 68 n=1; 70 t0"
+abbrev pub storedTree : List ℕ → ℕ → RecordTree
+storedTree t s = sequenceTree s (fetchTree s) (sequenceTree s (partTree t s 68 1 0 0 0) (partTree t s 70 0 0 0 0))
+
+-- "60 t0 place; 61 t2 size; 42; 61 t1 read of 12 t0; 68 n=1; 70 t0"
+abbrev pub newTree : List ℕ → ℕ → ℕ → ℕ → RecordTree
+newTree t s a b =
+    sequenceTree s (partTree t s 60 0 a 0 0)
+    (sequenceTree s (partTree t s 61 2 b 0 0) (sequenceTree s (partTree t s 42 0 a b 0) (storedTree t s)))
+
+-- "60 t0 variable; 69 t0"
+abbrev pub endingTree : List ℕ → ℕ → ℕ → RecordTree
+endingTree t s x = sequenceTree s (overTree 10 x (pos 0) s 60 0) (partTree t s 69 0 0 0 0)
+
+-- a statement's numbers are at most 256, and its assertions' temporaries below 64
+abbrev pub StatementLevels : Statement → Type 0
+StatementLevels (tree.skip s) = s ≤ 256
+StatementLevels (tree.assign s p e) = s ≤ 256
+StatementLevels (tree.new s p e) = s ≤ 256
+StatementLevels (tree.free s e) = s ≤ 256
+StatementLevels (tree.sequence s a b) = (s ≤ 256) × StatementLevels a × StatementLevels b
+StatementLevels (tree.branch s e a b) = (s ≤ 256) × StatementLevels a × StatementLevels b
+StatementLevels (tree.while s e b) = (s ≤ 256) × StatementLevels b
+StatementLevels (tree.letIn s x b) = (s ≤ 256) × StatementLevels b
+StatementLevels (tree.assert s p) = (s ≤ 256) × PredicateLevels p 0
+
+abbrev pub StatementNode : SourceNode → Type 0
+StatementNode (expressionNode e) = ⊥
+StatementNode (placeNode p) = ⊥
+StatementNode (termNode x) = ⊥
+StatementNode (predicateNode p) = ⊥
+StatementNode (statementNode x) = StatementLevels x
+StatementNode junk = ⊥
+
+abbrev pub StatementAt : List ℕ → ℕ → Type 0
+StatementAt t n = StatementNode (nodeAt source t n)
+
+-- a kind that has no statement below it
+abbrev pub Simple : ℕ → Type 0
+Simple k = (k ≡ 44 → ⊥) × (k ≡ 45 → ⊥) × (k ≡ 46 → ⊥) × (k ≡ 47 → ⊥)
+
+-- "let of (60 t0 variable; 61 t1 literal 1; 68 n=0; body; 60 t0 variable; 69 t0)"
+abbrev pub letTree : List ℕ → ℕ → ℕ → RecordTree → RecordTree
+letTree t s x b =
+    node 47 x (pos s) 0
+    (sequenceTree s (overTree 10 x (pos 0) s 60 0)
+    (sequenceTree s (overTree 1 0 (pos 1) s 61 1)
+    (sequenceTree s (partTree t s 68 0 0 0 0) (sequenceTree s b (endingTree t s x)))))
+    none none
