@@ -67,7 +67,8 @@ pub fn take_query(temporaries: &mut [u8; 1024], obs: &[u8; 3064], n: usize, k: u
         (onValue (heldIn (temporariesOf (now (temporaries .entry))) (suc n)) evaluated.Stopped
         (queryObservation (queryOf k) (observationOf (now (obs .entry))))) ⌝ }
 {
-    match evaluation::read_temporary(&*temporaries, n + 1) {
+    let pointer = evaluation::read_temporary(&*temporaries, n + 1);
+    match pointer {
         Evaluated::Value(v) => take_evaluated(temporaries, n, query(obs, k, v)),
         Evaluated::Stopped(c) => c,
     }
@@ -79,7 +80,8 @@ pub fn take_not(temporaries: &mut [u8; 1024], n: usize) -> u32
     ensures { λ r. ⌜ Takes (now (temporaries .entry)) (now (temporaries .exit)) r n
         (onValue (heldIn (temporariesOf (now (temporaries .entry))) (suc n)) evaluated.Stopped opposite) ⌝ }
 {
-    match evaluation::read_temporary(&*temporaries, n + 1) {
+    let truth = evaluation::read_temporary(&*temporaries, n + 1);
+    match truth {
         Evaluated::Value(v) => take_evaluated(temporaries, n, evaluation::negate(v)),
         Evaluated::Stopped(c) => c,
     }
@@ -126,7 +128,8 @@ pub fn delete_block(temporaries: &[u8; 1024], obs: &mut [u8; 3064], n: usize) ->
         (calledOn (heldIn (temporariesOf (now (temporaries .entry))) n)
         (deleteBlock (observationOf (now (obs .entry))))) ⌝ }
 {
-    match evaluation::read_temporary(temporaries, n) {
+    let block = evaluation::read_temporary(temporaries, n);
+    match block {
         Evaluated::Value(v) => number(observation::delete_block(obs, v)),
         Evaluated::Stopped(c) => c,
     }
@@ -139,7 +142,8 @@ pub fn mark_cell(temporaries: &[u8; 1024], obs: &mut [u8; 3064], n: usize) -> u3
         (calledOn (heldIn (temporariesOf (now (temporaries .entry))) n)
         (initialise (observationOf (now (obs .entry))))) ⌝ }
 {
-    match evaluation::read_temporary(temporaries, n) {
+    let cell = evaluation::read_temporary(temporaries, n);
+    match cell {
         Evaluated::Value(v) => number(observation::initialise(obs, v)),
         Evaluated::Stopped(c) => c,
     }

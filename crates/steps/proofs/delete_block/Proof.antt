@@ -13,8 +13,8 @@ use Rattle.steps.proofs.delete_block.Tie as tie
 read-temporary-requires : tie.Need-read-temporary-requires
 read-temporary-requires c κs = search needs
 
-enum-known-v : tie.Need-enum-known-v
-enum-known-v c = search needs
+enum-known-block : tie.Need-enum-known-block
+enum-known-block c = search needs
 
 delete-block-requires : tie.Need-delete-block-requires
 delete-block-requires c κs = search needs
@@ -22,8 +22,8 @@ delete-block-requires c κs = search needs
 number-requires : tie.Need-number-requires
 number-requires c κs = search needs
 
-enum-known-c : tie.Need-enum-known-c
-enum-known-c c = search needs
+enum-known-block-2 : tie.Need-enum-known-block-2
+enum-known-block-2 c = search needs
 
 returns : tie.Need-returns
 returns c =
@@ -31,7 +31,7 @@ returns c =
     let s = v .before .before .before in
     let o = observationOf (now (s .args .obs)) in
     observes-call
-    (ap (λ (x : Evaluated). calledOn x (deleteBlock o)) (sym (v .before .before .read-temporary .ensures) ∙ v .v .given .1))
+    (ap (λ (x : Evaluated). calledOn x (deleteBlock o)) (sym (v .before .before .read-temporary .ensures) ∙ v .block .given .1))
     (c .before .delete-block .ensures) (c .number .ensures)
 
 returns-2 : tie.Need-returns-2
@@ -40,16 +40,16 @@ returns-2 c =
     let s = k .before .before .before in
     let o = observationOf (now (s .args .obs)) in
     observes-stop (now (s .args .obs)) _
-    (ap (λ (x : Evaluated). calledOn x (deleteBlock o)) (sym (k .before .before .read-temporary .ensures) ∙ k .c .given .1))
+    (ap (λ (x : Evaluated). calledOn x (deleteBlock o)) (sym (k .before .before .read-temporary .ensures) ∙ k .block2 .given .1))
 
 pub delete-block-spec : {M : Type 1} → statement M
 delete-block-spec =
     tie.close
     (tie.spec
     read-temporary-requires
-    enum-known-v
+    enum-known-block
     delete-block-requires
     number-requires
-    enum-known-c
+    enum-known-block-2
     returns
     returns-2)

@@ -13,8 +13,8 @@ use Rattle.steps.proofs.mark_cell.Tie as tie
 read-temporary-requires : tie.Need-read-temporary-requires
 read-temporary-requires c κs = search needs
 
-enum-known-v : tie.Need-enum-known-v
-enum-known-v c = search needs
+enum-known-cell : tie.Need-enum-known-cell
+enum-known-cell c = search needs
 
 initialise-requires : tie.Need-initialise-requires
 initialise-requires c κs = search needs
@@ -22,8 +22,8 @@ initialise-requires c κs = search needs
 number-requires : tie.Need-number-requires
 number-requires c κs = search needs
 
-enum-known-c : tie.Need-enum-known-c
-enum-known-c c = search needs
+enum-known-cell-2 : tie.Need-enum-known-cell-2
+enum-known-cell-2 c = search needs
 
 returns : tie.Need-returns
 returns c =
@@ -31,7 +31,7 @@ returns c =
     let s = v .before .before .before in
     let o = observationOf (now (s .args .obs)) in
     observes-call
-    (ap (λ (x : Evaluated). calledOn x (initialise o)) (sym (v .before .before .read-temporary .ensures) ∙ v .v .given .1))
+    (ap (λ (x : Evaluated). calledOn x (initialise o)) (sym (v .before .before .read-temporary .ensures) ∙ v .cell .given .1))
     (c .before .initialise .ensures) (c .number .ensures)
 
 returns-2 : tie.Need-returns-2
@@ -40,16 +40,16 @@ returns-2 c =
     let s = k .before .before .before in
     let o = observationOf (now (s .args .obs)) in
     observes-stop (now (s .args .obs)) _
-    (ap (λ (x : Evaluated). calledOn x (initialise o)) (sym (k .before .before .read-temporary .ensures) ∙ k .c .given .1))
+    (ap (λ (x : Evaluated). calledOn x (initialise o)) (sym (k .before .before .read-temporary .ensures) ∙ k .cell2 .given .1))
 
 pub mark-cell-spec : {M : Type 1} → statement M
 mark-cell-spec =
     tie.close
     (tie.spec
     read-temporary-requires
-    enum-known-v
+    enum-known-cell
     initialise-requires
     number-requires
-    enum-known-c
+    enum-known-cell-2
     returns
     returns-2)

@@ -19,8 +19,8 @@ add-read-temporary c = search needs
 read-temporary-requires : tie.Need-read-temporary-requires
 read-temporary-requires c κs = search needs
 
-enum-known-v : tie.Need-enum-known-v
-enum-known-v c = search needs
+enum-known-truth : tie.Need-enum-known-truth
+enum-known-truth c = search needs
 
 negate-requires : tie.Need-negate-requires
 negate-requires c κs = search needs
@@ -28,8 +28,8 @@ negate-requires c κs = search needs
 take-evaluated-requires : tie.Need-take-evaluated-requires
 take-evaluated-requires c κs = search needs
 
-enum-known-c : tie.Need-enum-known-c
-enum-known-c c = search needs
+enum-known-truth-2 : tie.Need-enum-known-truth-2
+enum-known-truth-2 c = search needs
 
 returns : tie.Need-returns
 returns c =
@@ -39,7 +39,7 @@ returns c =
     let τ = temporariesOf (now (s .args .temporaries)) in
     takes-is
     (ap (λ (x : Evaluated). onValue x evaluated.Stopped opposite)
-    (holds-at τ (n + 1) (suc n) (omega arith) (v .before .before .read-temporary .ensures) (v .v .given .1))
+    (holds-at τ (n + 1) (suc n) (omega arith) (v .before .before .read-temporary .ensures) (v .truth .given .1))
     ∙ sym (c .before .negate .ensures)) (c .take-evaluated .ensures)
 
 returns-2 : tie.Need-returns-2
@@ -50,7 +50,7 @@ returns-2 c =
     let τ = temporariesOf (now (s .args .temporaries)) in
     takes-stop (now (s .args .temporaries)) _ n
     (ap (λ (x : Evaluated). onValue x evaluated.Stopped opposite)
-    (holds-at τ (n + 1) (suc n) (omega arith) (k .before .before .read-temporary .ensures) (k .c .given .1)))
+    (holds-at τ (n + 1) (suc n) (omega arith) (k .before .before .read-temporary .ensures) (k .truth2 .given .1)))
 
 pub take-not-spec : {M : Type 1} → statement M
 take-not-spec =
@@ -58,9 +58,9 @@ take-not-spec =
     (tie.spec
     add-read-temporary
     read-temporary-requires
-    enum-known-v
+    enum-known-truth
     negate-requires
     take-evaluated-requires
-    enum-known-c
+    enum-known-truth-2
     returns
     returns-2)

@@ -21,8 +21,8 @@ add-read-temporary c = search needs
 read-temporary-requires : tie.Need-read-temporary-requires
 read-temporary-requires c κs = search needs
 
-enum-known-v : tie.Need-enum-known-v
-enum-known-v c = search needs
+enum-known-pointer : tie.Need-enum-known-pointer
+enum-known-pointer c = search needs
 
 query-requires : tie.Need-query-requires
 query-requires c κs = search needs
@@ -30,8 +30,8 @@ query-requires c κs = search needs
 take-evaluated-requires : tie.Need-take-evaluated-requires
 take-evaluated-requires c κs = search needs
 
-enum-known-c : tie.Need-enum-known-c
-enum-known-c c = search needs
+enum-known-pointer-2 : tie.Need-enum-known-pointer-2
+enum-known-pointer-2 c = search needs
 
 returns : tie.Need-returns
 returns c =
@@ -42,7 +42,7 @@ returns c =
     let q = queryObservation (queryOf (s .args .k)) (observationOf (now (s .args .obs))) in
     takes-is
     (ap (λ (x : Evaluated). onValue x evaluated.Stopped q)
-    (holds-at τ (n + 1) (suc n) (omega arith) (v .before .before .read-temporary .ensures) (v .v .given .1))
+    (holds-at τ (n + 1) (suc n) (omega arith) (v .before .before .read-temporary .ensures) (v .pointer .given .1))
     ∙ sym (c .before .query .ensures)) (c .take-evaluated .ensures)
 
 returns-2 : tie.Need-returns-2
@@ -54,7 +54,7 @@ returns-2 c =
     let q = queryObservation (queryOf (s .args .k)) (observationOf (now (s .args .obs))) in
     takes-stop (now (s .args .temporaries)) _ n
     (ap (λ (x : Evaluated). onValue x evaluated.Stopped q)
-    (holds-at τ (n + 1) (suc n) (omega arith) (k .before .before .read-temporary .ensures) (k .c .given .1)))
+    (holds-at τ (n + 1) (suc n) (omega arith) (k .before .before .read-temporary .ensures) (k .pointer2 .given .1)))
 
 pub take-query-spec : {M : Type 1} → statement M
 take-query-spec =
@@ -62,9 +62,9 @@ take-query-spec =
     (tie.spec
     add-read-temporary
     read-temporary-requires
-    enum-known-v
+    enum-known-pointer
     query-requires
     take-evaluated-requires
-    enum-known-c
+    enum-known-pointer-2
     returns
     returns-2)
