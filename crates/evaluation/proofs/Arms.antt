@@ -3,7 +3,7 @@ use Prim.Native.Nat.{ℕ, _≤_, _<_}
 use native.Mathlib.Omega.{arith}
 use mathlib.Core.List.{List}
 use mathlib.Core.Logic.{_≢_}
-use mathlib.Core.Path.{_≡_, refl, sym, ap, ap₂, _∙_}
+use mathlib.Core.Path.{_≡_, refl, sym, ap, ap₂, _∙_, subst}
 use lib.IntN.{ℤ, pos}
 use Rattle.rules.specs.Records.{recordCount, kindOf, markOf, childA, childB, literalOf}
 use Rattle.rules.specs.Kinds.{target, Sort, sortNumber, expression, place, child}
@@ -21,6 +21,9 @@ use Rattle.rules.specs.declared.Evaluated.the-variants as evaluated
 use Rattle.rules.specs.declared.Value.the-variants as value
 use Rattle.rules.specs.declared.Found.{Found}
 use Rattle.rules.specs.declared.Found.the-variants as found
+use Rattle.evaluation.specs.State.{Settles}
+use Rattle.evaluation.specs.declared.Settled.{Settled}
+use Rattle.evaluation.specs.declared.Settled.the-variants as settled
 
 abbrev pub Stands : List ℕ → ℕ → Sort → Type 0
 Stands t n s = sortOfNode target (nodeAt target t n) ≡ sortNumber s
@@ -145,3 +148,12 @@ module _ (t : List ℕ) (τ : Holding ℕ) (ρ : Variables) (m : Memory) where
         r
         ∙ ap pointedBy (x ∙ ap (λ (v : ℕ). held (τ v)) e)
         ∙ sym (by-place (stands-at target t n 12 place h d .node))
+
+-- what an operand gives by itself
+pub settles-as : {u v : Holding ℕ → Evaluated} (j : Settled) → ((τ : Holding ℕ) → u τ ≡ v τ) → Settles j u → Settles j v
+settles-as (settled.Is e) h s = λ τ. s τ ∙ h τ
+settles-as settled.Open h s = tt
+
+pub settled-as : (v : Holding ℕ → Evaluated) (j : Settled) {e : Evaluated} → Settles j v → j ≡ settled.Is e
+    → (τ : Holding ℕ) → e ≡ v τ
+settled-as v j s h = subst (λ (j : Settled). Settles j v) h s

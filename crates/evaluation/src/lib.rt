@@ -7,12 +7,18 @@ ghost use Rattle.rules.specs.Layout.{memoryOf};
 ghost use Rattle.rules.specs.Evaluation.{evaluate, findPlace};
 ghost use Rattle.rules.specs.Watched.{temporaryOf};
 ghost use Rattle.rules.specs.declared.Evaluated.the-variants as evaluated;
-ghost use Rattle.evaluation.specs.State.{variablesOf};
+ghost use Rattle.evaluation.specs.State.{variablesOf, Settles};
 ghost use Rattle.temporaries.specs.Bytes.{temporariesOf};
 use rules::Evaluated;
 use rules::Found;
 use rules::Pointer;
 use rules::Value;
+
+// What an operand gives by itself: its value or stop, or nothing, so that it has to be evaluated.
+pub enum Settled {
+    Is(Evaluated),
+    Open,
+}
 
 // The value at a place.
 fn fetch(mem: &[u8; 18424], f: Found) -> Evaluated
@@ -21,6 +27,57 @@ fn fetch(mem: &[u8; 18424], f: Found) -> Evaluated
     match f {
         Found::Place(p) => memory::read(mem, p),
         Found::Stopped(k) => Evaluated::Stopped(k),
+    }
+}
+
+// What place n holds where it is a variable.
+fn settle_read(table: &[u8; 65536], n: usize, variables: &[u16; 64], mem: &[u8; 18424]) -> Settled
+    requires { ⌜ sortOfNode target (nodeAt target (now table) n) ≡ sortNumber place ⌝ }
+    ensures { λ r. ⌜ Settles r (λ τ. onPlace (findPlace (asPlace (nodeAt target (now (table .entry)) n)) τ
+        (variablesOf (now (variables .entry))) (memoryOf (now (mem .entry)))) evaluated.Stopped
+        (readCell (memoryOf (now (mem .entry))))) ⌝ }
+{
+    if tables::kind(&table[..], n) == 10 {
+        let v = tables::mark(&table[..], n) as usize;
+        let p = Pointer {
+            name: variables[v],
+            offset: 0,
+        };
+        Settled::Is(memory::read(mem, p))
+    } else {
+        Settled::Open
+    }
+}
+
+// What expression n gives where it is a literal or the read of a variable.
+fn settle(table: &[u8; 65536], n: usize, variables: &[u16; 64], mem: &[u8; 18424]) -> Settled
+    requires { ⌜ sortOfNode target (nodeAt target (now table) n) ≡ sortNumber expression ⌝ }
+    ensures { λ r. ⌜ Settles r (λ τ. evaluate (asExpression (nodeAt target (now (table .entry)) n)) τ
+        (variablesOf (now (variables .entry))) (memoryOf (now (mem .entry)))) ⌝ }
+{
+    match tables::kind(&table[..], n) {
+        1 => Settled::Is(Evaluated::Value(Value::Integer(tables::literal(&table[..], n)))),
+        2 => settle_read(table, tables::child_a(&table[..], n), variables, mem),
+        _ => Settled::Open,
+    }
+}
+
+// The value of expression n. Literals and variables, which are most operands, take no call.
+pub fn evaluate_operand(
+    table: &[u8; 65536],
+    n: usize,
+    variables: &[u16; 64],
+    temporaries: &[u8; 1024],
+    mem: &[u8; 18424],
+) -> Evaluated
+    requires { ⌜ sortOfNode target (nodeAt target (now table) n) ≡ sortNumber expression ⌝ }
+    ensures { λ r. ⌜ r ≡ evaluate (asExpression (nodeAt target (now (table .entry)) n))
+        (temporaryOf (temporariesOf (now (temporaries .entry)))) (variablesOf (now (variables .entry)))
+        (memoryOf (now (mem .entry))) ⌝ }
+{
+    match settle(table, n, variables, mem) {
+        Settled::Is(e) => e,
+        Settled::Open => values::restate(evaluate(table, n, variables, temporaries, mem)),
     }
 }
 
@@ -56,21 +113,25 @@ pub fn evaluate(
             temporaries,
             mem,
         )),
-        _ => match evaluate(
+        _ => match evaluate_operand(
             table,
             tables::child_a(&table[..], n),
             variables,
             temporaries,
             mem,
         ) {
-            Evaluated::Value(a) => match evaluate(
+            Evaluated::Value(a) => match evaluate_operand(
                 table,
                 tables::child_b(&table[..], n),
                 variables,
                 temporaries,
                 mem,
             ) {
-                Evaluated::Value(b) => values::operate(tables::mark(&table[..], n), a, b),
+                Evaluated::Value(b) => values::restate(values::operate(
+                    tables::mark(&table[..], n),
+                    a,
+                    b,
+                )),
                 Evaluated::Stopped(k) => Evaluated::Stopped(k),
             },
             Evaluated::Stopped(k) => Evaluated::Stopped(k),

@@ -24,7 +24,7 @@ fn combine(k: u8, a: Evaluated, b: Evaluated) -> Evaluated
 {
     match a {
         Evaluated::Value(x) => match b {
-            Evaluated::Value(y) => values::operate(k, x, y),
+            Evaluated::Value(y) => values::restate(values::operate(k, x, y)),
             Evaluated::Stopped(s) => Evaluated::Stopped(s),
         },
         Evaluated::Stopped(s) => Evaluated::Stopped(s),
@@ -89,7 +89,7 @@ pub fn evaluate_term(
 {
     let k = tables::kind(&table[..], n);
     match k {
-        20 => evaluation::evaluate(
+        20 => evaluation::evaluate_operand(
             table,
             tables::child_a(&table[..], n),
             variables,
@@ -113,7 +113,7 @@ pub fn evaluate_term(
                 mem,
             ),
         ),
-        _ => ask(
+        _ => values::restate(ask(
             mem,
             k - 18,
             evaluate_term(
@@ -123,7 +123,7 @@ pub fn evaluate_term(
                 temporaries,
                 mem,
             ),
-        ),
+        )),
     }
 }
 
@@ -198,13 +198,13 @@ pub fn evaluate_predicate(
             ),
         ) {
             Joint::Decided(e) => e,
-            Joint::Open => evaluate_predicate(
+            Joint::Open => values::restate(evaluate_predicate(
                 table,
                 tables::child_b(&table[..], n),
                 variables,
                 temporaries,
                 mem,
-            ),
+            )),
         },
     }
 }

@@ -150,6 +150,23 @@ pub fn negate(v: Value) -> Evaluated
     }
 }
 
+// The same answer, made anew: a copy would move its unused bytes too, which is slow where a call has written it.
+pub fn restate(e: Evaluated) -> Evaluated
+    ensures { λ r. ⌜ r ≡ e ⌝ }
+{
+    match e {
+        Evaluated::Value(v) => match v {
+            Value::Undefined => Evaluated::Value(Value::Undefined),
+            Value::Integer(z) => Evaluated::Value(Value::Integer(z)),
+            Value::Pointer(p) => Evaluated::Value(Value::Pointer(Pointer {
+                name: p.name,
+                offset: p.offset,
+            })),
+        },
+        Evaluated::Stopped(k) => Evaluated::Stopped(k),
+    }
+}
+
 // The pointer to a place.
 pub fn address(f: Found) -> Evaluated
     ensures { λ r. ⌜ r ≡ addressOf f ⌝ }

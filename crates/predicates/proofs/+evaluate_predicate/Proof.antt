@@ -24,6 +24,7 @@ use Rattle.predicates.proofs.combine.Reads as combine-reads
 use Rattle.predicates.proofs.evaluate_term.Reads as evaluate-term-reads
 use Rattle.predicates.proofs.join.Reads as join-reads
 use Rattle.predicates.proofs.oppose.Reads as oppose-reads
+use Rattle.values.proofs.restate.Reads as restate-reads
 use Rattle.tables.proofs.child_a.Reads as child-a-reads
 use Rattle.tables.proofs.child_b.Reads as child-b-reads
 use Rattle.tables.proofs.kind.Reads as kind-reads
@@ -72,6 +73,8 @@ claims t = (
   oppose-reads.Learnt,
   join-reads.Asked,
   join-reads.Learnt,
+  restate-reads.Asked,
+  restate-reads.Learnt,
 )
 
 abbrev Start : ℕ → Type 0
@@ -212,6 +215,9 @@ evaluate-predicate-requires-3 t c κs =
     let l = joined m .b in
     rw (c .child-b2 .ensures) (omega arith, l .2)
 
+restate-requires : (t : ℕ) → lts.Need-restate-requires (claims t) (entry t) reads.Post
+restate-requires t c κs = tt
+
 returns : (t : ℕ) → lts.Need-returns (claims t) (entry t) reads.Post
 returns t c =
     let x = c .before in
@@ -267,7 +273,8 @@ returns-5 t c =
 
 returns-6 : (t : ℕ) → lts.Need-returns-6 (claims t) (entry t) reads.Post
 returns-6 t c =
-    let j = c .before in
+    let p = c .before in
+    let j = p .before in
     let o = j .before .before in
     let u = o .before .before in
     let x = u .before in
@@ -277,7 +284,8 @@ returns-6 t c =
     let T = now (s .args .table) in
     joined-arm (now (s .args .table)) (variables s) (memory s) (s .args .n) (joined m)
     (i .child-a5 .ensures) (x .evaluate-predicate2 .ensures)
-    (c .evaluate-predicate3 .ensures ∙ ap (predicateAt T (variables s) (memory s)) (j .child-b2 .ensures))
+    (_∙_ {b = p .evaluate-predicate3 .result} (c .restate .ensures)
+    (p .evaluate-predicate3 .ensures ∙ ap (predicateAt T (variables s) (memory s)) (j .child-b2 .ensures)))
     (ap (λ (k : ℕ). eqb k 35) (m .before .kind .ensures)) (sym (o .enum-told .given .1) ∙ u .join .ensures)
 
 pub +evaluate-predicate-spec : {M : Type 1} → statement M
@@ -307,6 +315,7 @@ pub +evaluate-predicate-spec : {M : Type 1} → statement M
     (enum-told t)
     (child-b-requires-2 t)
     (evaluate-predicate-requires-3 t)
+    (restate-requires t)
     (returns t)
     (returns-2 t)
     (returns-3 t)

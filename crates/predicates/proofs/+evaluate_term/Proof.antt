@@ -20,7 +20,8 @@ use Rattle.predicates.proofs.evaluate_term.Kinds as kinds
 use Rattle.predicates.proofs.+evaluate_term.Lts-evaluate_term as lts
 use Rattle.predicates.proofs.ask.Reads as ask-reads
 use Rattle.predicates.proofs.combine.Reads as combine-reads
-use Rattle.evaluation.proofs.evaluate.Reads as evaluate-reads
+use Rattle.evaluation.proofs.evaluate_operand.Reads as evaluate-operand-reads
+use Rattle.values.proofs.restate.Reads as restate-reads
 use Rattle.tables.proofs.child_a.Reads as child-a-reads
 use Rattle.tables.proofs.child_b.Reads as child-b-reads
 use Rattle.tables.proofs.kind.Reads as kind-reads
@@ -49,8 +50,8 @@ claims t = (
   kind-reads.Learnt,
   child-a-reads.Asked,
   child-a-reads.Learnt,
-  evaluate-reads.Asked,
-  evaluate-reads.Learnt,
+  evaluate-operand-reads.Asked,
+  evaluate-operand-reads.Learnt,
   mark-reads.Asked,
   mark-reads.Learnt,
   deeper t,
@@ -61,6 +62,8 @@ claims t = (
   combine-reads.Learnt,
   ask-reads.Asked,
   ask-reads.Learnt,
+  restate-reads.Asked,
+  restate-reads.Learnt,
 )
 
 abbrev Start : ℕ → Type 0
@@ -102,8 +105,8 @@ kind-requires t c κs = within-table (c .before)
 child-a-requires : (t : ℕ) → lts.Need-child-a-requires (claims t) (entry t) reads.Post
 child-a-requires t c κs = within-table (c .before .before .before .before)
 
-evaluate-requires : (t : ℕ) → lts.Need-evaluate-requires (claims t) (entry t) reads.Post
-evaluate-requires t c κs =
+evaluate-operand-requires : (t : ℕ) → lts.Need-evaluate-operand-requires (claims t) (entry t) reads.Post
+evaluate-operand-requires t c κs =
     let m = c .before .before in
     let s = m .before .before .before in
     rw (c .child-a .ensures) (expression-below (now (s .args .table)) (variables s) (memory s) (s .args .n)
@@ -155,6 +158,9 @@ evaluate-term-requires-3 t c κs =
 ask-requires : (t : ℕ) → lts.Need-ask-requires (claims t) (entry t) reads.Post
 ask-requires t c κs = tt
 
+restate-requires : (t : ℕ) → lts.Need-restate-requires (claims t) (entry t) reads.Post
+restate-requires t c κs = tt
+
 returns : (t : ℕ) → lts.Need-returns (claims t) (entry t) reads.Post
 returns t c =
     let a = c .before in
@@ -162,7 +168,7 @@ returns t c =
     let s = m .before .before .before in
     value-arm (now (s .args .table)) (variables s) (memory s) (s .args .n)
     (temporariesOf (now (s .args .temporaries)))
-    (s .pre .1) (kind-is (m .before) 20 (m .match .keys1)) (a .child-a .ensures) (c .evaluate .ensures)
+    (s .pre .1) (kind-is (m .before) 20 (m .match .keys1)) (a .child-a .ensures) (c .evaluate-operand .ensures)
 
 returns-2 : (t : ℕ) → lts.Need-returns-2 (claims t) (entry t) reads.Post
 returns-2 t c =
@@ -179,13 +185,14 @@ returns-2 t c =
 
 returns-3 : (t : ℕ) → lts.Need-returns-3 (claims t) (entry t) reads.Post
 returns-3 t c =
-    let x = c .before in
+    let q = c .before in
+    let x = q .before in
     let i = x .before in
     let m = i .before .before in
     let s = m .before .before .before in
     asked-arm (now (s .args .table)) (variables s) (memory s) (s .args .n) (asked m)
     (i .child-a3 .ensures) (x .evaluate-term3 .ensures) (ap (λ (k : ℕ). k - 18) (m .before .kind .ensures))
-    (c .ask .ensures)
+    (c .restate .ensures ∙ q .ask .ensures)
 
 pub +evaluate-term-spec : {M : Type 1} → statement M
 +evaluate-term-spec = close μ λ t. lts.spec (claims t)
@@ -193,7 +200,7 @@ pub +evaluate-term-spec : {M : Type 1} → statement M
     reads.Post
     (kind-requires t)
     (child-a-requires t)
-    (evaluate-requires t)
+    (evaluate-operand-requires t)
     (mark-requires t)
     (child-a-requires-2 t)
     (evaluate-term-requires t)
@@ -204,6 +211,7 @@ pub +evaluate-term-spec : {M : Type 1} → statement M
     (child-a-requires-3 t)
     (evaluate-term-requires-3 t)
     (ask-requires t)
+    (restate-requires t)
     (returns t)
     (returns-2 t)
     (returns-3 t)

@@ -15,6 +15,9 @@ enum-known-b c = search needs
 operate-requires : tie.Need-operate-requires
 operate-requires c κs = search needs
 
+restate-requires : tie.Need-restate-requires
+restate-requires c κs = search needs
+
 enum-known-b-2 : tie.Need-enum-known-b-2
 enum-known-b-2 c = search needs
 
@@ -23,9 +26,10 @@ enum-known-a-2 c = search needs
 
 returns : tie.Need-returns
 returns c =
-    let b = c .before .before in
+    let o = c .before in
+    let b = o .before .before in
     let a = b .before .before .before in
-    c .operate .ensures ∙ sym (ap₂ (operated (operatorOf (a .before .before .args .k))) (a .a .given .1)
+    c .restate .ensures ∙ o .operate .ensures ∙ sym (ap₂ (operated (operatorOf (a .before .before .args .k))) (a .a .given .1)
     (b .b .given .1))
 
 returns-2 : tie.Need-returns-2
@@ -44,6 +48,7 @@ combine-spec =
     enum-known-a
     enum-known-b
     operate-requires
+    restate-requires
     enum-known-b-2
     enum-known-a-2
     returns

@@ -1,4 +1,5 @@
--- `evaluation::evaluate` and `evaluation::find_place` meet their contracts, the record number falling at each call.
+-- `evaluation::evaluate`, `evaluation::evaluate_operand` and `evaluation::find_place` meet their contracts, the record
+-- number falling at each call, or staying from an operand to its evaluation.
 -- Assumes nothing.
 use borrow.Author.Needs.{needs}
 use native.Mathlib.Omega.{arith}
@@ -18,34 +19,42 @@ use Rattle.rules.specs.declared.Evaluated.{Evaluated}
 use Rattle.tables.specs.Within.{Within}
 use Rattle.evaluation.specs.State.{variablesOf}
 use Rattle.temporaries.specs.Bytes.{temporariesOf}
-use Rattle.evaluation.proofs.Arms.{within, read-below, address-below, pointer-below, variable-mark, is-temporary, temporary-mark, valueAt, literal-arm, read-arm, address-arm, Binary, binary, operation-arm, variable-arm, pointer-arm, temporary-arm}
-use Prim.Native.Nat.{ℕ, _<_}
+use Rattle.evaluation.proofs.Arms.{within, read-below, address-below, pointer-below, variable-mark, is-temporary, temporary-mark, valueAt, literal-arm, read-arm, address-arm, Binary, binary, operation-arm, variable-arm, pointer-arm, temporary-arm, settled-as}
+use Prim.Native.Nat.{ℕ, _+_, _*_, _<_}
 use borrow.Fn.Kinds.{In}
 use borrow.Fn.PlainCycle.{Measures, is, falls, and}
 use Rattle.evaluation.proofs.evaluate.Reads as evaluate
 use Rattle.evaluation.proofs.evaluate.Kinds as evaluate-kinds
-use Rattle.evaluation.proofs.+evaluate+find_place.Lts-evaluate as e-lts
+use Rattle.evaluation.proofs.+evaluate+evaluate_operand+find_place.Lts-evaluate as e-lts
+use Rattle.evaluation.proofs.evaluate_operand.Reads as evaluate-operand
+use Rattle.evaluation.proofs.evaluate_operand.Kinds as evaluate-operand-kinds
+use Rattle.evaluation.proofs.+evaluate+evaluate_operand+find_place.Lts-evaluate_operand as o-lts
 use Rattle.evaluation.proofs.find_place.Reads as find-place
 use Rattle.evaluation.proofs.find_place.Kinds as find-place-kinds
-use Rattle.evaluation.proofs.+evaluate+find_place.Lts-find_place as f-lts
+use Rattle.evaluation.proofs.+evaluate+evaluate_operand+find_place.Lts-find_place as f-lts
 use Rattle.values.proofs.address.Reads as address-reads
 use Rattle.evaluation.proofs.fetch.Reads as fetch-reads
 use Rattle.values.proofs.operate.Reads as operate-reads
 use Rattle.values.proofs.point.Reads as point-reads
 use Rattle.temporaries.proofs.read_temporary.Reads as read-temporary-reads
+use Rattle.values.proofs.restate.Reads as restate-reads
+use Rattle.evaluation.proofs.settle.Reads as settle-reads
 use Rattle.tables.proofs.child_a.Reads as child-a-reads
 use Rattle.tables.proofs.child_b.Reads as child-b-reads
 use Rattle.tables.proofs.kind.Reads as kind-reads
 use Rattle.tables.proofs.literal.Reads as literal-reads
 use Rattle.tables.proofs.mark.Reads as mark-reads
-use Rattle.evaluation.proofs.+evaluate+find_place.{statement}
-use Rattle.evaluation.proofs.+evaluate+find_place.Tie.{close}
+use Rattle.evaluation.proofs.+evaluate+evaluate_operand+find_place.{statement}
+use Rattle.evaluation.proofs.+evaluate+evaluate_operand+find_place.Tie.{close}
 
 abbrev μ-evaluate : Measures 4 evaluate-kinds.ps ℕ
-μ-evaluate κs a = a .1 .0
+μ-evaluate κs a = a .1 .0 * 2
+
+abbrev μ-evaluate-operand : Measures 4 evaluate-operand-kinds.ps ℕ
+μ-evaluate-operand κs a = a .1 .0 * 2 + 1
 
 abbrev μ-find-place : Measures 4 find-place-kinds.ps ℕ
-μ-find-place κs a = a .1 .0
+μ-find-place κs a = a .1 .0 * 2
 
 abbrev e-entry : ℕ → In 4 evaluate-kinds.ps
 e-entry t = and 4 evaluate-kinds.ps (is 4 evaluate-kinds.ps μ-evaluate t) evaluate.Pre
@@ -53,6 +62,14 @@ e-entry t = and 4 evaluate-kinds.ps (is 4 evaluate-kinds.ps μ-evaluate t) evalu
 abbrev e-deeper : ℕ → In 4 evaluate-kinds.ps
 e-deeper t =
     and 4 evaluate-kinds.ps (falls 4 evaluate-kinds.ps _<_ μ-evaluate t) evaluate.Pre
+
+abbrev o-entry : ℕ → In 4 evaluate-operand-kinds.ps
+o-entry t =
+    and 4 evaluate-operand-kinds.ps (is 4 evaluate-operand-kinds.ps μ-evaluate-operand t) evaluate-operand.Pre
+
+abbrev o-deeper : ℕ → In 4 evaluate-operand-kinds.ps
+o-deeper t =
+    and 4 evaluate-operand-kinds.ps (falls 4 evaluate-operand-kinds.ps _<_ μ-evaluate-operand t) evaluate-operand.Pre
 
 abbrev f-entry : ℕ → In 4 find-place-kinds.ps
 f-entry t =
@@ -76,14 +93,26 @@ e-claims t = (
   fetch-reads.Learnt,
   address-reads.Asked,
   address-reads.Learnt,
-  e-deeper t,
-  evaluate.Post,
+  o-deeper t,
+  evaluate-operand.Post,
   child-b-reads.Asked,
   child-b-reads.Learnt,
   mark-reads.Asked,
   mark-reads.Learnt,
   operate-reads.Asked,
   operate-reads.Learnt,
+  restate-reads.Asked,
+  restate-reads.Learnt,
+)
+
+abbrev o-claims : ℕ → o-lts.Claims
+o-claims t = (
+  settle-reads.Asked,
+  settle-reads.Learnt,
+  e-deeper t,
+  evaluate.Post,
+  restate-reads.Asked,
+  restate-reads.Learnt,
 )
 
 abbrev f-claims : ℕ → f-lts.Claims
@@ -210,8 +239,8 @@ e-address-requires t c κs = tt
 e-child-a-requires-3 : (t : ℕ) → e-lts.Need-child-a-requires-3 (e-claims t) (e-entry t) evaluate.Post
 e-child-a-requires-3 t c κs = e-within (c .before .before .before .before)
 
-e-evaluate-requires : (t : ℕ) → e-lts.Need-evaluate-requires (e-claims t) (e-entry t) evaluate.Post
-e-evaluate-requires t c κs =
+e-evaluate-operand-requires : (t : ℕ) → e-lts.Need-evaluate-operand-requires (e-claims t) (e-entry t) evaluate.Post
+e-evaluate-operand-requires t c κs =
     let m = c .before .before in
     let s = m .before .before .before in
     let l = e-binary m .a in
@@ -224,8 +253,8 @@ e-child-b-requires : (t : ℕ) → e-lts.Need-child-b-requires (e-claims t) (e-e
 e-child-b-requires t c κs =
     e-within (c .before .before .before .before .before .before .before .before .before .before)
 
-e-evaluate-requires-2 : (t : ℕ) → e-lts.Need-evaluate-requires-2 (e-claims t) (e-entry t) evaluate.Post
-e-evaluate-requires-2 t c κs =
+e-evaluate-operand-requires-2 : (t : ℕ) → e-lts.Need-evaluate-operand-requires-2 (e-claims t) (e-entry t) evaluate.Post
+e-evaluate-operand-requires-2 t c κs =
     let m = c .before .before .before .before .before .before .before .before in
     let s = m .before .before .before in
     let l = e-binary m .b in
@@ -241,6 +270,9 @@ e-mark-requires t c κs =
 
 e-operate-requires : (t : ℕ) → e-lts.Need-operate-requires (e-claims t) (e-entry t) evaluate.Post
 e-operate-requires t c κs = tt
+
+e-restate-requires : (t : ℕ) → e-lts.Need-restate-requires (e-claims t) (e-entry t) evaluate.Post
+e-restate-requires t c κs = tt
 
 e-enum-known-k : (t : ℕ) → e-lts.Need-enum-known-k (e-claims t) (e-entry t) evaluate.Post
 e-enum-known-k t c = search needs
@@ -276,7 +308,8 @@ e-returns-3 t c =
 
 e-returns-4 : (t : ℕ) → e-lts.Need-returns-4 (e-claims t) (e-entry t) evaluate.Post
 e-returns-4 t c =
-    let w = c .before in
+    let o = c .before in
+    let w = o .before in
     let y = w .before .before .before in
     let b = y .before .before in
     let j = b .before in
@@ -286,8 +319,9 @@ e-returns-4 t c =
     let m = i .before .before in
     let s = m .before .before .before in
     operation-arm (now (s .args .table)) (e-temporaries s) (e-variables s) (e-memory s) (s .args .n) (e-binary m)
-    (i .child-a3 .ensures) (a .evaluate .ensures) (j .child-b .ensures) (b .evaluate2 .ensures)
-    (c .operate .ensures
+    (i .child-a3 .ensures) (a .evaluate-operand .ensures) (j .child-b .ensures) (b .evaluate-operand2 .ensures)
+    (c .restate .ensures
+    ∙ o .operate .ensures
     ∙ ap (λ (k : ℕ). operate (operatorOf k) (x .a .given .0 .0) (y .b .given .0 .0)) (w .mark .ensures)
     ∙ sym (ap₂ (operated (operatorOf (markOf (now (s .args .table)) (s .args .n)))) (x .a .given .1)
     (y .b .given .1)))
@@ -303,7 +337,7 @@ e-returns-5 t c =
     let m = i .before .before in
     let s = m .before .before .before in
     operation-arm (now (s .args .table)) (e-temporaries s) (e-variables s) (e-memory s) (s .args .n) (e-binary m)
-    (i .child-a3 .ensures) (a .evaluate .ensures) (j .child-b .ensures) (b .evaluate2 .ensures)
+    (i .child-a3 .ensures) (a .evaluate-operand .ensures) (j .child-b .ensures) (b .evaluate-operand2 .ensures)
     (sym (ap₂ (operated (operatorOf (markOf (now (s .args .table)) (s .args .n)))) (x .a .given .1) (y .k .given .1)))
 
 e-returns-6 : (t : ℕ) → e-lts.Need-returns-6 (e-claims t) (e-entry t) evaluate.Post
@@ -317,8 +351,39 @@ e-returns-6 t c =
     let n = s .args .n in
     let v = valueAt T (e-temporaries s) (e-variables s) (e-memory s) (childB T n) in
     operation-arm (now (s .args .table)) (e-temporaries s) (e-variables s) (e-memory s) (s .args .n) (e-binary m)
-    (i .child-a3 .ensures) (a .evaluate .ensures) refl refl
+    (i .child-a3 .ensures) (a .evaluate-operand .ensures) refl refl
     (sym (ap (λ (u : Evaluated). operated (operatorOf (markOf T n)) u v) (x .k2 .given .1)))
+
+o-settle-requires : (t : ℕ) → o-lts.Need-settle-requires (o-claims t) (o-entry t) evaluate-operand.Post
+o-settle-requires t c κs = c .pre .1
+
+o-enum-known-e : (t : ℕ) → o-lts.Need-enum-known-e (o-claims t) (o-entry t) evaluate-operand.Post
+o-enum-known-e t c = search needs
+
+o-enum-told : (t : ℕ) → o-lts.Need-enum-told (o-claims t) (o-entry t) evaluate-operand.Post
+o-enum-told t c = search needs
+
+o-evaluate-requires : (t : ℕ) → o-lts.Need-evaluate-requires (o-claims t) (o-entry t) evaluate-operand.Post
+o-evaluate-requires t c κs =
+    let s = c .before .before .before in
+    (omega arith, s .pre .1)
+
+o-restate-requires : (t : ℕ) → o-lts.Need-restate-requires (o-claims t) (o-entry t) evaluate-operand.Post
+o-restate-requires t c κs = tt
+
+o-returns : (t : ℕ) → o-lts.Need-returns (o-claims t) (o-entry t) evaluate-operand.Post
+o-returns t c =
+    let e = c .before in
+    let d = e .before .before in
+    let s = d .before in
+    let v : Holding ℕ → Evaluated = λ τ.
+    valueAt (now (s .args .table)) τ (variablesOf (now (s .args .variables))) (memoryOf (now (s .args .mem)))
+    (s .args .n) in
+    settled-as v (d .settle .result) (d .settle .ensures) (e .e .given .1)
+    (temporaryOf (temporariesOf (now (s .args .temporaries))))
+
+o-returns-2 : (t : ℕ) → o-lts.Need-returns-2 (o-claims t) (o-entry t) evaluate-operand.Post
+o-returns-2 t c = c .restate .ensures ∙ c .before .evaluate .ensures
 
 f-kind-requires : (t : ℕ) → f-lts.Need-kind-requires (f-claims t) (f-entry t) find-place.Post
 f-kind-requires t c κs = f-within (c .before)
@@ -394,8 +459,8 @@ f-returns-3 t c =
     (f-last m)
     (v .mark2 .ensures) (a .read-temporary .ensures) (c .point2 .ensures)
 
-pub +evaluate+find-place-spec : {M : Type 1} → statement M
-+evaluate+find-place-spec = close μ-evaluate μ-find-place (λ t. e-lts.spec (e-claims t)
+pub +evaluate+evaluate-operand+find-place-spec : {M : Type 1} → statement M
++evaluate+evaluate-operand+find-place-spec = close μ-evaluate μ-evaluate-operand μ-find-place (λ t. e-lts.spec (e-claims t)
     (e-entry t)
     evaluate.Post
     (e-kind-requires t)
@@ -407,13 +472,14 @@ pub +evaluate+find-place-spec : {M : Type 1} → statement M
     (e-find-place-requires-2 t)
     (e-address-requires t)
     (e-child-a-requires-3 t)
-    (e-evaluate-requires t)
+    (e-evaluate-operand-requires t)
     (e-enum-known-a t)
     (e-child-b-requires t)
-    (e-evaluate-requires-2 t)
+    (e-evaluate-operand-requires-2 t)
     (e-enum-known-b t)
     (e-mark-requires t)
     (e-operate-requires t)
+    (e-restate-requires t)
     (e-enum-known-k t)
     (e-enum-known-k-2 t)
     (e-returns t)
@@ -422,6 +488,16 @@ pub +evaluate+find-place-spec : {M : Type 1} → statement M
     (e-returns-4 t)
     (e-returns-5 t)
     (e-returns-6 t))
+    (λ t. o-lts.spec (o-claims t)
+    (o-entry t)
+    evaluate-operand.Post
+    (o-settle-requires t)
+    (o-enum-known-e t)
+    (o-enum-told t)
+    (o-evaluate-requires t)
+    (o-restate-requires t)
+    (o-returns t)
+    (o-returns-2 t))
     λ t. f-lts.spec (f-claims t)
     (f-entry t)
     find-place.Post
