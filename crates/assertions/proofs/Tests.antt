@@ -122,17 +122,107 @@ module _ (t : List ℕ) (n s v : ℕ) (l : LevelsAt t n v) where
   test-arm shifted h = elim (levels (h .node)) [ ]
   test-arm variable h = elim (levels (h .node)) [ ]
   test-arm pointed h = elim (levels (h .node)) [ ]
-  test-arm value h = (inr (some-of (childA t n) (h .a .2) (omega arith) (omega arith)), levels (h .node), tree-of (h .node) ∙ (λ i. node 61 v (pos s) 0 (tree-as expression (nodeAt source t (childA t n)) 0 0 (h .a .2) i) (nothing i) none))
-  test-arm base h = let l = levels (h .node) in (h .a .1, levels-as-term (nodeAt source t (childA t n)) (suc v) (h .a .2) (l .1), l .0, tree-of (h .node) ∙ (λ i. observed 64 3 (tree-as term (nodeAt source t (childA t n)) s (suc v) (h .a .2) i) (nothing i)))
-  test-arm offset h = let l = levels (h .node) in (h .a .1, levels-as-term (nodeAt source t (childA t n)) (suc v) (h .a .2) (l .1), l .0, tree-of (h .node) ∙ (λ i. observed 64 4 (tree-as term (nodeAt source t (childA t n)) s (suc v) (h .a .2) i) (nothing i)))
-  test-arm blockLength h = let l = levels (h .node) in (h .a .1, levels-as-term (nodeAt source t (childA t n)) (suc v) (h .a .2) (l .1), l .0, tree-of (h .node) ∙ (λ i. observed 64 5 (tree-as term (nodeAt source t (childA t n)) s (suc v) (h .a .2) i) (nothing i)))
-  test-arm combined h = let l = levels (h .node) in (h .a .1, h .b .1, levels-as-term (nodeAt source t (childA t n)) (suc v) (h .a .2) (l .1), levels-as-term (nodeAt source t (childB t n)) (suc (suc v)) (h .b .2) (l .2), l .0, tree-of (h .node) ∙ (λ i. operated (tree-as term (nodeAt source t (childA t n)) s (suc v) (h .a .2) i) (tree-as term (nodeAt source t (childB t n)) s (suc (suc v)) (h .b .2) i) (term-operator (markOf t n) (h .mark) i) (nothing i)))
-  test-arm valid h = let l = levels (h .node) in (h .a .1, levels-as-term (nodeAt source t (childA t n)) (suc v) (h .a .2) (l .1), l .0, tree-of (h .node) ∙ (λ i. observed 64 1 (tree-as term (nodeAt source t (childA t n)) s (suc v) (h .a .2) i) (nothing i)))
-  test-arm initialised h = let l = levels (h .node) in (h .a .1, levels-as-term (nodeAt source t (childA t n)) (suc v) (h .a .2) (l .1), l .0, tree-of (h .node) ∙ (λ i. observed 64 2 (tree-as term (nodeAt source t (childA t n)) s (suc v) (h .a .2) i) (nothing i)))
-  test-arm compared h = let l = levels (h .node) in (h .a .1, h .b .1, levels-as-term (nodeAt source t (childA t n)) (suc v) (h .a .2) (l .1), levels-as-term (nodeAt source t (childB t n)) (suc (suc v)) (h .b .2) (l .2), l .0, tree-of (h .node) ∙ (λ i. operated (tree-as term (nodeAt source t (childA t n)) s (suc v) (h .a .2) i) (tree-as term (nodeAt source t (childB t n)) s (suc (suc v)) (h .b .2) i) (test-operator (markOf t n) (h .mark) i) (nothing i)))
-  test-arm negated h = let l = levels (h .node) in (h .a .1, levels-as-predicate (nodeAt source t (childA t n)) (suc v) (h .a .2) (l .1), l .0, tree-of (h .node) ∙ (λ i. observed 65 0 (tree-as predicate (nodeAt source t (childA t n)) s (suc v) (h .a .2) i) (nothing i)))
-  test-arm both h = let l = levels (h .node) in (h .a .1, h .b .1, levels-as-predicate (nodeAt source t (childA t n)) v (h .a .2) (l .1), levels-as-predicate (nodeAt source t (childB t n)) v (h .b .2) (l .2), l .0, tree-of (h .node) ∙ (λ i. conjoined (tree-as predicate (nodeAt source t (childA t n)) s v (h .a .2) i) (tree-as predicate (nodeAt source t (childB t n)) s v (h .b .2) i) (nothing i)))
-  test-arm either h = let l = levels (h .node) in (h .a .1, h .b .1, levels-as-predicate (nodeAt source t (childA t n)) v (h .a .2) (l .1), levels-as-predicate (nodeAt source t (childB t n)) v (h .b .2) (l .2), l .0, tree-of (h .node) ∙ (λ i. disjoined (tree-as predicate (nodeAt source t (childA t n)) s v (h .a .2) i) (tree-as predicate (nodeAt source t (childB t n)) s v (h .b .2) i) (nothing i)))
+  test-arm value h = (
+    inr (some-of (childA t n) (h .a .2) (omega arith) (omega arith)),
+    levels (h .node),
+    tree-of (h .node)
+        ∙ (λ i. node 61 v (pos s) 0 (tree-as expression (nodeAt source t (childA t n)) 0 0 (h .a .2) i)
+        (nothing i) none),
+  )
+  test-arm base h =
+      let l = levels (h .node) in (
+        h .a .1,
+        levels-as-term (nodeAt source t (childA t n)) (suc v) (h .a .2) (l .1),
+        l .0,
+        tree-of (h .node) ∙ (λ i. observed 64 3
+            (tree-as term (nodeAt source t (childA t n)) s (suc v) (h .a .2) i) (nothing i)),
+      )
+  test-arm offset h =
+      let l = levels (h .node) in (
+        h .a .1,
+        levels-as-term (nodeAt source t (childA t n)) (suc v) (h .a .2) (l .1),
+        l .0,
+        tree-of (h .node) ∙ (λ i. observed 64 4
+            (tree-as term (nodeAt source t (childA t n)) s (suc v) (h .a .2) i) (nothing i)),
+      )
+  test-arm blockLength h =
+      let l = levels (h .node) in (
+        h .a .1,
+        levels-as-term (nodeAt source t (childA t n)) (suc v) (h .a .2) (l .1),
+        l .0,
+        tree-of (h .node) ∙ (λ i. observed 64 5
+            (tree-as term (nodeAt source t (childA t n)) s (suc v) (h .a .2) i) (nothing i)),
+      )
+  test-arm combined h =
+      let l = levels (h .node) in (
+        h .a .1,
+        h .b .1,
+        levels-as-term (nodeAt source t (childA t n)) (suc v) (h .a .2) (l .1),
+        levels-as-term (nodeAt source t (childB t n)) (suc (suc v)) (h .b .2) (l .2),
+        l .0,
+        tree-of (h .node)
+            ∙ (λ i. operated (tree-as term (nodeAt source t (childA t n)) s (suc v) (h .a .2) i)
+            (tree-as term (nodeAt source t (childB t n)) s (suc (suc v)) (h .b .2) i)
+            (term-operator (markOf t n) (h .mark) i) (nothing i)),
+      )
+  test-arm valid h =
+      let l = levels (h .node) in (
+        h .a .1,
+        levels-as-term (nodeAt source t (childA t n)) (suc v) (h .a .2) (l .1),
+        l .0,
+        tree-of (h .node) ∙ (λ i. observed 64 1
+            (tree-as term (nodeAt source t (childA t n)) s (suc v) (h .a .2) i) (nothing i)),
+      )
+  test-arm initialised h =
+      let l = levels (h .node) in (
+        h .a .1,
+        levels-as-term (nodeAt source t (childA t n)) (suc v) (h .a .2) (l .1),
+        l .0,
+        tree-of (h .node) ∙ (λ i. observed 64 2
+            (tree-as term (nodeAt source t (childA t n)) s (suc v) (h .a .2) i) (nothing i)),
+      )
+  test-arm compared h =
+      let l = levels (h .node) in (
+        h .a .1,
+        h .b .1,
+        levels-as-term (nodeAt source t (childA t n)) (suc v) (h .a .2) (l .1),
+        levels-as-term (nodeAt source t (childB t n)) (suc (suc v)) (h .b .2) (l .2),
+        l .0,
+        tree-of (h .node)
+            ∙ (λ i. operated (tree-as term (nodeAt source t (childA t n)) s (suc v) (h .a .2) i)
+            (tree-as term (nodeAt source t (childB t n)) s (suc (suc v)) (h .b .2) i)
+            (test-operator (markOf t n) (h .mark) i) (nothing i)),
+      )
+  test-arm negated h =
+      let l = levels (h .node) in (
+        h .a .1,
+        levels-as-predicate (nodeAt source t (childA t n)) (suc v) (h .a .2) (l .1),
+        l .0,
+        tree-of (h .node) ∙ (λ i. observed 65 0
+            (tree-as predicate (nodeAt source t (childA t n)) s (suc v) (h .a .2) i) (nothing i)),
+      )
+  test-arm both h =
+      let l = levels (h .node) in (
+        h .a .1,
+        h .b .1,
+        levels-as-predicate (nodeAt source t (childA t n)) v (h .a .2) (l .1),
+        levels-as-predicate (nodeAt source t (childB t n)) v (h .b .2) (l .2),
+        l .0,
+        tree-of (h .node)
+            ∙ (λ i. conjoined (tree-as predicate (nodeAt source t (childA t n)) s v (h .a .2) i)
+            (tree-as predicate (nodeAt source t (childB t n)) s v (h .b .2) i) (nothing i)),
+      )
+  test-arm either h =
+      let l = levels (h .node) in (
+        h .a .1,
+        h .b .1,
+        levels-as-predicate (nodeAt source t (childA t n)) v (h .a .2) (l .1),
+        levels-as-predicate (nodeAt source t (childB t n)) v (h .b .2) (l .2),
+        l .0,
+        tree-of (h .node)
+            ∙ (λ i. disjoined (tree-as predicate (nodeAt source t (childA t n)) s v (h .a .2) i)
+            (tree-as predicate (nodeAt source t (childB t n)) s v (h .b .2) i) (nothing i)),
+      )
   test-arm skip h = elim (levels (h .node)) [ ]
   test-arm assign h = elim (levels (h .node)) [ ]
   test-arm new h = elim (levels (h .node)) [ ]
@@ -158,7 +248,8 @@ test-at t n s v l = go (nodeAt source t n) refl l
     go (expressionNode x) e h = elim h [ ]
     go (placeNode x) e h = elim h [ ]
     go (termNode x) e h =
-        by-sort term (stands source t n term (ap nodeSort e)) (stands-at source t n (kindOf t n) term (ap nodeSort e) refl)
+        by-sort term (stands source t n term (ap nodeSort e))
+        (stands-at source t n (kindOf t n) term (ap nodeSort e) refl)
     go (predicateNode x) e h =
         by-sort predicate (stands source t n predicate (ap nodeSort e))
         (stands-at source t n (kindOf t n) predicate (ap nodeSort e) refl)

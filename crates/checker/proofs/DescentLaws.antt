@@ -114,7 +114,8 @@ module _ (l : Language) (t : List ℕ) (n x : ℕ) (k : Coded l (kindOf t n) x) 
   its-child : (j : ℕ) (d : Field) (y z : ℕ) → z ≡ f y → timesIn d y j ≤ timesChildOf l t n j → 0 < timesIn d y j
       → Right j z
   its-child j d y z e h g =
-      e ∙ ap f (field-has d y j g) ∙ sym (ap (λ (b : Bool). cond b (f j) (getD notes j 0)) (lt-ltb 0 (timesChildOf l t n j) (omega arith)))
+      e ∙ ap f (field-has d y j g) ∙ sym (ap (λ (b : Bool). cond b (f j) (getD notes j 0))
+      (lt-ltb 0 (timesChildOf l t n j) (omega arith)))
 
   right : (j : ℕ) → j < 4097
       → Right j (getD (putThree x (childA t n) (childB t n) (childC t n) u v w notes) j 0)

@@ -18,7 +18,8 @@ abbrev pickShape : Bool → Bool → Bool → Bool
 pickShape b p q = elim b [ true ↦ p | false ↦ q ]
 
 shape-as : (l : Language) (t : List ℕ) (n : ℕ) → shapeFault l t n
-    ≡ pickShape (eqb n (recordCount t)) (not (eqb (sortOf l (kindOf t n)) 5)) (not (eqb (timesChild l t (recordCount t) n) 1))
+    ≡ pickShape (eqb n (recordCount t)) (not (eqb (sortOf l (kindOf t n)) 5))
+    (not (eqb (timesChild l t (recordCount t) n) 1))
 unfolding shapeFault
 shape-as l t n = refl
 

@@ -20,7 +20,8 @@ fn count_record(target: bool, table: &[u8], n: usize, notes: &mut [u64; 4097])
 
 pub fn count_all(target: bool, table: &[u8], notes: &mut [u64; 4097])
     requires { ⌜ (recordCount (now table) ≤ 4096) × Counted (languageOf target) (now table) 0 (now notes) ⌝ }
-    ensures { λ _. ⌜ Counted (languageOf target) (now (table .entry)) (recordCount (now (table .entry))) (now (notes .exit)) ⌝ }
+    ensures { λ _. ⌜ Counted (languageOf target) (now (table .entry)) (recordCount (now (table .entry)))
+        (now (notes .exit)) ⌝ }
 {
     let mut n = 0;
     while n < table.len() / 16 {

@@ -15,7 +15,8 @@ use super::notes::put_children;
 // The same number to each.
 pub fn pass_scope(target: bool, table: &[u8], n: usize, scope: u64, notes: &mut [u64; 4097])
     requires { ⌜ Within (now table) n × (length (now notes) ≡ 4097) ⌝ }
-    ensures { λ _. ⌜ Given (languageOf target) (now (table .entry)) n (λ (j : ℕ). scope) (now (notes .entry)) (now (notes .exit)) ⌝ }
+    ensures { λ _. ⌜ Given (languageOf target) (now (table .entry)) n (λ (j : ℕ). scope)
+        (now (notes .entry)) (now (notes .exit)) ⌝ }
 {
     let form = forms::form_of(target, tables::kind(table, n));
     let a = tables::child_a(table, n);

@@ -28,8 +28,8 @@ fn lower(fault: bool, n: usize, found: usize) -> usize
 }
 
 pub fn lowest_fault(target: bool, table: &[u8]) -> usize
-    ensures { λ r. ⌜ lowestRecord (now (table .entry)) (λ (n : ℕ). ltb 0 (recordFault (languageOf target) (now (table .entry)) n))
-        ≡ searchOf r ⌝ }
+    ensures { λ r. ⌜ lowestRecord (now (table .entry))
+        (λ (n : ℕ). ltb 0 (recordFault (languageOf target) (now (table .entry)) n)) ≡ searchOf r ⌝ }
 {
     let mut found = 0;
     let mut n = table.len() / 16;
@@ -54,7 +54,8 @@ fn is_misshapen(target: bool, table: &[u8], n: usize, times: u64) -> bool
 
 pub fn lowest_misshapen(target: bool, table: &[u8]) -> usize
     requires { ⌜ recordCount (now table) ≤ 4096 ⌝ }
-    ensures { λ r. ⌜ lowestRecord (now (table .entry)) (shapeFault (languageOf target) (now (table .entry))) ≡ searchOf r ⌝ }
+    ensures { λ r. ⌜ lowestRecord (now (table .entry)) (shapeFault (languageOf target) (now (table .entry)))
+        ≡ searchOf r ⌝ }
 {
     let mut notes = [0u64; 4097];
     count_all(target, table, &mut notes);
@@ -69,7 +70,8 @@ pub fn lowest_misshapen(target: bool, table: &[u8]) -> usize
 
 pub fn lowest_out_of_scope(target: bool, table: &[u8]) -> usize
     requires { ⌜ Kept (languageOf target) (now table) ⌝ }
-    ensures { λ r. ⌜ lowestRecord (now (table .entry)) (scopeFault (languageOf target) (now (table .entry))) ≡ searchOf r ⌝ }
+    ensures { λ r. ⌜ lowestRecord (now (table .entry)) (scopeFault (languageOf target) (now (table .entry)))
+        ≡ searchOf r ⌝ }
 {
     let mut notes = [0u64; 4097];
     let mut found = 0;

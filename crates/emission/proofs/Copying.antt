@@ -101,7 +101,8 @@ module _ (t : List ℕ) (n : ℕ) where
       copy-law 10 (markOf t n) (pos 0) w (absent (w .0) (h .a)) (absent (w .0) (h .b)) (tree-of (h .node)) e
       refl (sym (h .literal)) (none-at t _ 0 0 (h .a)) (none-at t _ 0 0 (h .b))
   copy-arm pointed small e w h =
-      copy-law 11 0 (pos 0) w (present 1 (omega arith) (omega arith) (h .a)) (absent (w .0) (h .b)) (tree-of (h .node)) e
+      copy-law 11 0 (pos 0) w (present 1 (omega arith) (omega arith) (h .a)) (absent (w .0) (h .b))
+      (tree-of (h .node)) e
       (sym (h .mark)) (sym (h .literal)) (tree-as expression (nodeAt source t (childA t n)) 0 0 (h .a .2))
       (none-at t _ 0 0 (h .b))
   copy-arm value small e w h = absurd (omega arith)

@@ -52,7 +52,8 @@ emitted-none o at = record {
 }
 
 -- the records of A, of B, of C, then their parent
-pub emitted-node : {o₀ o₁ o₂ o₃ : List ℕ} {at p q r : ℕ} {a b c : RecordTree} (o₄ : List ℕ) (u k m : ℕ) (z : ℤ) (x i j l : ℕ)
+pub emitted-node : {o₀ o₁ o₂ o₃ : List ℕ} {at p q r : ℕ} {a b c : RecordTree} (o₄ : List ℕ) (u k m : ℕ) (z : ℤ)
+    (x i j l : ℕ)
     → Emitted o₀ at a o₁ p → Emitted o₁ p b o₂ q → Emitted o₂ q c o₃ r → Room o₀ at (node k m z x a b c)
     → i ≡ rootNumber a at → j ≡ rootNumber b p → l ≡ fieldC c x q
     → o₄ ≡ withRecord o₃ r (recordOf k m i j l z) → u ≡ r + 1 → Emitted o₀ at (node k m z x a b c) o₄ u
@@ -76,7 +77,8 @@ emitted-node {o₀} {o₁} {o₂} {o₃} {at} {p} {q} {r} {a} {b} {c} o₄ u k m
       c = (g ∙ ap (fieldC c x) y) v;
       literal = z;
     } in
-    let P : o₂ ≡ put o₁ (16 * p) bb = subst (λ (n : ℕ). o₂ ≡ put o₁ (16 * p) (tableBytes (emit b n))) (A .count) (B .bytes) in
+    let P : o₂ ≡ put o₁ (16 * p) bb = subst (λ (n : ℕ). o₂ ≡ put o₁ (16 * p) (tableBytes (emit b n))) (A .count)
+    (B .bytes) in
     let Q : o₃ ≡ put o₂ (16 * q) bc = subst (λ (n : ℕ). o₃ ≡ put o₂ (16 * q) (tableBytes (emit c n))) y (C .bytes) in
     let R : o₄ ≡ put o₃ (16 * r) own = subst (λ (n : Record). o₄ ≡ put o₃ (16 * r) (recordBytes n)) same h in
     let na = A .count in

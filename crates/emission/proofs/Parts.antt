@@ -73,7 +73,8 @@ module _ (t : List ℕ) (n : ℕ) (o : List ℕ) (at : ℕ) (l : CopyLaw t n) (r
           let P : Copied t a = subst (Copied t) (sym e) (l .a-copied) in
           let Q : Copied t b = subst (Copied t) (sym f) (l .b-copied) in
           let E : copyAt t n ≡ node (kindOf t n) (markOf t n) (literalOf t n) 0 (copyAt t a) (copyAt t b) none =
-          l .tree ∙ (λ i. node (kindOf t n) (markOf t n) (literalOf t n) 0 (copyAt t (sym e i)) (copyAt t (sym f i)) none) in
+          l .tree ∙ (λ i. node (kindOf t n) (markOf t n) (literalOf t n) 0 (copyAt t (sym e i))
+          (copyAt t (sym f i)) none) in
           subst (λ (w : RecordTree). Emitted o at w o₃ r) (sym E)
           (part-done t a b o₃ r i j P Q (subst (Room o at) E room) A B u v h w)
 

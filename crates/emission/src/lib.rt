@@ -55,7 +55,8 @@ fn root(n: usize, at: usize) -> usize
 fn copy_record(table: &[u8], n: usize, out: &mut [u8], at: usize, a: usize, b: usize) -> usize
     requires { ⌜ Within (now table) n ⌝ ∗ ⌜ 16 * (at + 1) ≤ length (now out) ⌝ }
     ensures bytes { λ _. ⌜ now (out .exit) ≡ withRecord (now (out .entry)) at
-        (recordOf (kindOf (now (table .entry)) n) (markOf (now (table .entry)) n) a b 0 (literalOf (now (table .entry)) n)) ⌝ }
+        (recordOf (kindOf (now (table .entry)) n) (markOf (now (table .entry)) n) a b 0
+        (literalOf (now (table .entry)) n)) ⌝ }
     ensures count { λ r. ⌜ r ≡ at + 1 ⌝ }
 {
     let kind = tables::kind(table, n);
@@ -93,7 +94,8 @@ pub fn emit_part(
     requires { ⌜ Copied (now table) a ⌝ ∗ ⌜ Copied (now table) b ⌝ ∗ ⌜ s ≤ 256 ⌝
         ∗ ⌜ Room (now out) at (node kind mark (pos s) c (copyAt (now table) a) (copyAt (now table) b) none) ⌝ }
     ensures { λ r. ⌜ Emitted (now (out .entry)) at
-        (node kind mark (pos s) c (copyAt (now (table .entry)) a) (copyAt (now (table .entry)) b) none) (now (out .exit)) r ⌝ }
+        (node kind mark (pos s) c (copyAt (now (table .entry)) a) (copyAt (now (table .entry)) b) none)
+        (now (out .exit)) r ⌝ }
 {
     let x = copy(table, a, out, at);
     let y = copy(table, b, out, x);

@@ -203,7 +203,8 @@ fn child_fits(target: bool, table: &[u8], n: usize, digit: usize, x: usize) -> b
 fn children_fit(target: bool, form: usize, table: &[u8], n: usize) -> bool
     requires { ⌜ Within (now table) n ⌝ }
     ensures { λ r. ⌜ (fieldsFit (entry 0 form) (recordAt (now (table .entry)) n) ≡ true
-        → r ≡ childrenFit (languageOf target) (now (table .entry)) n (entry 0 form) (recordAt (now (table .entry)) n)) ⌝ }
+        → r ≡ childrenFit (languageOf target) (now (table .entry)) n (entry 0 form)
+        (recordAt (now (table .entry)) n)) ⌝ }
 {
     if child_fits(
         target,

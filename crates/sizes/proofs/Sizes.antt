@@ -22,7 +22,8 @@ use Rattle.sizes.specs.Counts.{sizeFrom}
 
 -- the tree of a child that is none
 pub none-at : (t : List ℕ) (x s v : ℕ) → x ≡ 0 → none ≡ treeAt t x s v
-none-at t x s v e = sym (ap (λ (y : ℕ). treeAt t y s v) e ∙ ap (λ (y : SourceNode). targetTree y s v) (node-zero source t))
+none-at t x s v e =
+    sym (ap (λ (y : ℕ). treeAt t y s v) e ∙ ap (λ (y : SourceNode). targetTree y s v) (node-zero source t))
 
 -- sizes count neither the statement's number nor the level
 pub term-level : (x : Term) (s v : ℕ)
@@ -108,17 +109,33 @@ size-arm t n i v base = omega (arith, term-level (asTerm (nodeAt source t (child
 size-arm t n i v offset = omega (arith, term-level (asTerm (nodeAt source t (childA t n))) i (suc v))
 size-arm t n i v blockLength = omega (arith, term-level (asTerm (nodeAt source t (childA t n))) i (suc v))
 size-arm t n i v combined =
-    omega (arith, term-level (asTerm (nodeAt source t (childA t n))) i (suc v), term-level (asTerm (nodeAt source t (childB t n))) i (suc (suc v)))
+    omega (
+      arith,
+      term-level (asTerm (nodeAt source t (childA t n))) i (suc v),
+      term-level (asTerm (nodeAt source t (childB t n))) i (suc (suc v)),
+    )
 size-arm t n i v valid = omega (arith, term-level (asTerm (nodeAt source t (childA t n))) i (suc v))
 size-arm t n i v initialised = omega (arith, term-level (asTerm (nodeAt source t (childA t n))) i (suc v))
 size-arm t n i v compared =
-    omega (arith, term-level (asTerm (nodeAt source t (childA t n))) i (suc v), term-level (asTerm (nodeAt source t (childB t n))) i (suc (suc v)))
+    omega (
+      arith,
+      term-level (asTerm (nodeAt source t (childA t n))) i (suc v),
+      term-level (asTerm (nodeAt source t (childB t n))) i (suc (suc v)),
+    )
 size-arm t n i v negated =
     omega (arith, predicate-level (asPredicate (nodeAt source t (childA t n))) i (suc v))
 size-arm t n i v both =
-    omega (arith, predicate-level (asPredicate (nodeAt source t (childA t n))) i v, predicate-level (asPredicate (nodeAt source t (childB t n))) i v)
+    omega (
+      arith,
+      predicate-level (asPredicate (nodeAt source t (childA t n))) i v,
+      predicate-level (asPredicate (nodeAt source t (childB t n))) i v,
+    )
 size-arm t n i v either =
-    omega (arith, predicate-level (asPredicate (nodeAt source t (childA t n))) i v, predicate-level (asPredicate (nodeAt source t (childB t n))) i v)
+    omega (
+      arith,
+      predicate-level (asPredicate (nodeAt source t (childA t n))) i v,
+      predicate-level (asPredicate (nodeAt source t (childB t n))) i v,
+    )
 size-arm t n i v skip = omega arith
 size-arm t n i v assign = omega arith
 size-arm t n i v new = omega arith
@@ -180,7 +197,8 @@ pub record Child (t : List ℕ) (n x : ℕ) (size : ℕ) : Type 0 where
 field-child : (t : List ℕ) (n : ℕ) (f : Field) (x : ℕ) → 1 ≤ n → hasNoNumber f ≡ true → FieldHolds source t n f x
     → Child t n x (fieldSize f (nodeAt source t x))
 unfolding hasNoNumber
-field-child t n unnamed x p q h = record { below = omega arith; sorted = inl h; size-is = ap treeSize (none-at t x 0 0 h) }
+field-child t n unnamed x p q h =
+    record { below = omega arith; sorted = inl h; size-is = ap treeSize (none-at t x 0 0 h) }
 field-child t n (child s) x p q h =
     let e = h .2 in
     record {

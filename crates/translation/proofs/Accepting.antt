@@ -1,4 +1,4 @@
--- What an accepted table hands to the translator: a statement to emit, its size, and that its tree is the translation's.
+-- What an accepted table hands to the translator: a statement to emit, its size, and that its tree is the translation.
 use Prim.Native.Nat.{ℕ, suc, _*_, _/_, _≤_, _<_}
 use native.Mathlib.Omega.{arith}
 use mathlib.Core.Path.{_≡_, refl, sym, ap, _∙_, subst}
@@ -90,7 +90,8 @@ module _ (t : List ℕ) (a : check source t ≡ checked.Accepted) where
       → (answer 20 0 0 0 ≡ translatedInto (translation t) o .answer) × (o ≡ translatedInto (translation t) o .out)
   too-short o h =
       let l = translation-length in
-      let e : ltb (length o) (length (translation t)) ≡ true = lt-ltb (length o) (length (translation t)) (omega arith) in
+      let e : ltb (length o) (length (translation t)) ≡ true = lt-ltb (length o) (length (translation t))
+      (omega arith) in
       let f : into (translation t) o true ≡ translatedInto (translation t) o = ap (into (translation t) o) (sym e) in
       (ap (λ (x : Translated). x .answer) f, ap (λ (x : Translated). x .out) f)
 
@@ -100,7 +101,8 @@ module _ (t : List ℕ) (a : check source t ≡ checked.Accepted) where
   long-enough o o′ r h w =
       let l = translation-length in
       let c = w .count in
-      let e : ltb (length o) (length (translation t)) ≡ false = le-ltb (length o) (length (translation t)) (omega arith) in
+      let e : ltb (length o) (length (translation t)) ≡ false = le-ltb (length o) (length (translation t))
+      (omega arith) in
       let k : r ≡ length (translation t) / 16 = omega arith in
       let f : into (translation t) o false ≡ translatedInto (translation t) o = ap (into (translation t) o) (sym e) in (
         ap (λ (j : ℕ). answer 0 j 0 0) k ∙ ap (λ (x : Translated). x .answer) f,

@@ -105,7 +105,8 @@ statement-sort t n l = go (nodeAt source t n) l
 pub statement-law : (t : List ℕ) (n : ℕ) → StatementAt t n → SizeLaw t n
 statement-law t n l = size-law t n statement (stands source t n statement (statement-sort t n l))
 
-number-arm : (t : List ℕ) (n : ℕ) {r : Sort} {k : ℕ} → SourceKind r k → FormHolds source t n (formAt source k) → StatementAt t n
+number-arm : (t : List ℕ) (n : ℕ) {r : Sort} {k : ℕ} → SourceKind r k → FormHolds source t n (formAt source k)
+    → StatementAt t n
     → n ≤ 256
 number-arm t n literal h l = elim (subst StatementNode (h .node) l) [ ]
 number-arm t n read h l = elim (subst StatementNode (h .node) l) [ ]
@@ -146,7 +147,8 @@ assert-levels t n l d =
     levels-as-predicate (nodeAt source t (childA t n)) 0 (h .a .2) (subst StatementNode (h .node) l .1)
 
 -- past the other kinds
-assert-kind : {r : Sort} {k : ℕ} → SourceKind r k → r ≡ statement → Simple k → (k ≡ 40 → ⊥) → (k ≡ 41 → ⊥) → (k ≡ 42 → ⊥)
+assert-kind : {r : Sort} {k : ℕ} → SourceKind r k → r ≡ statement → Simple k → (k ≡ 40 → ⊥) → (k ≡ 41 → ⊥)
+    → (k ≡ 42 → ⊥)
     → (k ≡ 43 → ⊥) → k ≡ 48
 assert-kind literal e w p q u v = absurd (omega (arith, ap sortNumber e))
 assert-kind read e w p q u v = absurd (omega (arith, ap sortNumber e))
@@ -211,7 +213,8 @@ module _ (t : List ℕ) (n : ℕ) (l : StatementAt t n) where
         ap (λ (y : SourceNode). targetTree y 0 0) (h .node) ∙ (λ i. sequenceTree n (a i) (b i)),
       )
 
-  pub branch-tree : kindOf t n ≡ 45 → (childB t n < n) × (childC t n < n) × ((1 ≤ sortAt t (childA t n)) × (sortAt t (childA t n) ≤ 2))
+  pub branch-tree : kindOf t n ≡ 45
+      → (childB t n < n) × (childC t n < n) × ((1 ≤ sortAt t (childA t n)) × (sortAt t (childA t n) ≤ 2))
       × StatementAt t (childB t n) × StatementAt t (childC t n)
       × (copyAt t n ≡ node 45 0 (pos n) 0 (copyAt t (childA t n)) (copyAt t (childB t n)) (copyAt t (childC t n)))
   unfolding translate statementTree
@@ -230,7 +233,8 @@ module _ (t : List ℕ) (n : ℕ) (l : StatementAt t n) where
         ap (λ (y : SourceNode). targetTree y 0 0) (h .node) ∙ (λ i. node 45 0 (pos n) 0 (a i) (b i) (c i)),
       )
 
-  pub while-tree : kindOf t n ≡ 46 → (childB t n < n) × ((1 ≤ sortAt t (childA t n)) × (sortAt t (childA t n) ≤ 2)) × StatementAt t (childB t n)
+  pub while-tree : kindOf t n ≡ 46
+      → (childB t n < n) × ((1 ≤ sortAt t (childA t n)) × (sortAt t (childA t n) ≤ 2)) × StatementAt t (childB t n)
       × (copyAt t n ≡ node 46 0 (pos n) 0 (copyAt t (childA t n)) (copyAt t (childB t n)) none)
   unfolding translate statementTree
   while-tree d =

@@ -103,7 +103,8 @@ fn emit_ending(table: &[u8], out: &mut [u8], at: usize, variable: u8, s: usize) 
 
 // A statement that has no statement below it.
 fn emit_simple(table: &[u8], n: usize, out: &mut [u8], at: usize) -> usize
-    requires { ⌜ StatementAt (now table) n ⌝ ∗ ⌜ Simple (kindOf (now table) n) ⌝ ∗ ⌜ Room (now out) at (copyAt (now table) n) ⌝ }
+    requires { ⌜ StatementAt (now table) n ⌝ ∗ ⌜ Simple (kindOf (now table) n) ⌝
+        ∗ ⌜ Room (now out) at (copyAt (now table) n) ⌝ }
     ensures { λ r. ⌜ Emitted (now (out .entry)) at (copyAt (now (table .entry)) n) (now (out .exit)) r ⌝ }
 {
     let a = tables::child_a(table, n);
@@ -168,7 +169,8 @@ fn emit_statement(table: &[u8], n: usize, out: &mut [u8], at: usize) -> usize
 pub fn translate_accepted(table: &[u8], out: &mut [u8]) -> Answer
     requires { ⌜ check source (now table) ≡ checked.Accepted ⌝ }
     ensures answer { λ r. ⌜ r ≡ translatedInto (translation (now (table .entry))) (now (out .entry)) .answer ⌝ }
-    ensures bytes { λ _. ⌜ now (out .exit) ≡ translatedInto (translation (now (table .entry))) (now (out .entry)) .out ⌝ }
+    ensures bytes { λ _. ⌜ now (out .exit)
+        ≡ translatedInto (translation (now (table .entry))) (now (out .entry)) .out ⌝ }
 {
     let n = table.len() / 16;
     let size = sizes::tree_size(table, n);

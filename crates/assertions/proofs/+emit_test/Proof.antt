@@ -42,7 +42,30 @@ emit-test-below t =
     and 2 emit-test-kinds.ps (falls 2 emit-test-kinds.ps _<_ μ-emit-test t) emit-test.Pre
 
 abbrev emit-test-claims : ℕ → emit-test-lts.Claims
-emit-test-claims t = (kind-reads.Asked, kind-reads.Learnt, child-a-reads.Asked, child-a-reads.Learnt, test-shape-reads.Asked, test-shape-reads.Learnt, emit-part-reads.Asked, emit-part-reads.Learnt, emit-test-below t, emit-test.Post, last-kind-reads.Asked, last-kind-reads.Learnt, last-field-reads.Asked, last-field-reads.Learnt, emit-sequence-reads.Asked, emit-sequence-reads.Learnt, child-b-reads.Asked, child-b-reads.Learnt, mark-reads.Asked, mark-reads.Learnt, emit-branch-reads.Asked, emit-branch-reads.Learnt)
+emit-test-claims t = (
+  kind-reads.Asked,
+  kind-reads.Learnt,
+  child-a-reads.Asked,
+  child-a-reads.Learnt,
+  test-shape-reads.Asked,
+  test-shape-reads.Learnt,
+  emit-part-reads.Asked,
+  emit-part-reads.Learnt,
+  emit-test-below t,
+  emit-test.Post,
+  last-kind-reads.Asked,
+  last-kind-reads.Learnt,
+  last-field-reads.Asked,
+  last-field-reads.Learnt,
+  emit-sequence-reads.Asked,
+  emit-sequence-reads.Learnt,
+  child-b-reads.Asked,
+  child-b-reads.Learnt,
+  mark-reads.Asked,
+  mark-reads.Learnt,
+  emit-branch-reads.Asked,
+  emit-branch-reads.Learnt,
+)
 
 abbrev Start : ℕ → Type 0
 Start t = emit-test-lts.Start (emit-test-claims t) (emit-test-at t) emit-test.Post
@@ -51,12 +74,14 @@ law : (t : ℕ) (s : Start t) → TestLaw (now (s .args .table)) (s .args .n) (s
 law t s = test-at (now (s .args .table)) (s .args .n) (s .args .s) (s .args .level) (s .pre .1 .0)
 
 value : (t : ℕ) (m : emit-test-lts.At-match-keys1 (emit-test-claims t) (emit-test-at t) emit-test.Post)
-    → let s = m .before .before .before .before .before .before in ValueAt (now (s .args .table)) (s .args .n) (s .args .s) (s .args .level) (m .before .before .child-a .result)
+    → let s = m .before .before .before .before .before .before in ValueAt (now (s .args .table)) (s .args .n)
+    (s .args .s) (s .args .level) (m .before .before .child-a .result)
 value t m =
     let s = m .before .before .before .before .before .before in
     value-at (now (s .args .table)) (s .args .n) (s .args .s) (s .args .level) (s .pre .1 .0)
     (m .before .test-shape .result) (m .before .before .before .kind .result) (m .before .before .child-a .result)
-    (m .before .before .before .kind .ensures) (m .before .test-shape .ensures) (m .match .keys1) (m .before .before .child-a .ensures)
+    (m .before .before .before .kind .ensures) (m .before .test-shape .ensures) (m .match .keys1)
+    (m .before .before .child-a .ensures)
 
 one : (t : ℕ) (m : emit-test-lts.At-match-keys2 (emit-test-claims t) (emit-test-at t) emit-test.Post)
     → let s = m .before .before .before .before .before .before in
@@ -65,8 +90,10 @@ one : (t : ℕ) (m : emit-test-lts.At-match-keys2 (emit-test-claims t) (emit-tes
 one t m =
     let s = m .before .before .before .before .before .before in
     one-at (now (s .args .table)) (s .args .n) (s .args .s) (s .args .level) (s .pre .1 .0)
-    (m .before .test-shape .result) (m .before .before .before .kind .result) (m .before .before .child-a .result) (s .args .level + 1)
-    (m .before .before .before .kind .ensures) (m .before .test-shape .ensures) (m .match .keys2) (m .before .before .child-a .ensures) (omega arith)
+    (m .before .test-shape .result) (m .before .before .before .kind .result) (m .before .before .child-a .result)
+    (s .args .level + 1)
+    (m .before .before .before .kind .ensures) (m .before .test-shape .ensures) (m .match .keys2)
+    (m .before .before .child-a .ensures) (omega arith)
 
 two : (t : ℕ) (k : emit-test-lts.After-mark (emit-test-claims t) (emit-test-at t) emit-test.Post)
     → let m = k .before .before in
@@ -77,8 +104,10 @@ two t k =
     let m = k .before .before in
     let s = m .before .before .before .before .before .before in
     two-at (now (s .args .table)) (s .args .n) (s .args .s) (s .args .level) (s .pre .1 .0)
-    (m .before .test-shape .result) (m .before .before .before .kind .result) (m .before .before .child-a .result) (k .before .child-b .result) (k .mark .result)
-    (s .args .level + 1) (s .args .level + 2) (m .before .before .before .kind .ensures) (m .before .test-shape .ensures) (m .match .keys3)
+    (m .before .test-shape .result) (m .before .before .before .kind .result) (m .before .before .child-a .result)
+    (k .before .child-b .result) (k .mark .result)
+    (s .args .level + 1) (s .args .level + 2) (m .before .before .before .kind .ensures)
+    (m .before .test-shape .ensures) (m .match .keys3)
     (m .before .before .child-a .ensures) (k .before .child-b .ensures) (k .mark .ensures) (omega arith) (omega arith)
 
 both : (t : ℕ) (k : emit-test-lts.After-child-b2 (emit-test-claims t) (emit-test-at t) emit-test.Post)
@@ -91,8 +120,10 @@ both t k =
     let m = k .before in
     let s = m .before .before .before .before .before .before in
     both-at (now (s .args .table)) (s .args .n) (s .args .s) (s .args .level) (s .pre .1 .0)
-    (m .before .test-shape .result) (m .before .before .before .kind .result) (m .before .before .child-a .result) (k .child-b2 .result)
-    (m .before .before .before .kind .ensures) (m .before .test-shape .ensures) (m .match .keys4) (m .before .before .child-a .ensures) (k .child-b2 .ensures)
+    (m .before .test-shape .result) (m .before .before .before .kind .result) (m .before .before .child-a .result)
+    (k .child-b2 .result)
+    (m .before .before .before .kind .ensures) (m .before .test-shape .ensures) (m .match .keys4)
+    (m .before .before .child-a .ensures) (k .child-b2 .ensures)
 
 either : (t : ℕ) (k : emit-test-lts.After-child-b3 (emit-test-claims t) (emit-test-at t) emit-test.Post)
     → let m = k .before in
@@ -104,24 +135,27 @@ either t k =
     let m = k .before in
     let s = m .before .before .before .before .before .before in
     either-at (now (s .args .table)) (s .args .n) (s .args .s) (s .args .level) (s .pre .1 .0)
-    (m .before .test-shape .result) (m .before .before .before .kind .result) (m .before .before .child-a .result) (k .child-b3 .result)
-    (m .before .before .before .kind .ensures) (m .before .test-shape .ensures) (m .match .rest .0 .0 .0 .1) (m .match .rest .0 .0 .1)
+    (m .before .test-shape .result) (m .before .before .before .kind .result) (m .before .before .child-a .result)
+    (k .child-b3 .result)
+    (m .before .before .before .kind .ensures) (m .before .test-shape .ensures) (m .match .rest .0 .0 .0 .1)
+    (m .match .rest .0 .0 .1)
     (m .match .rest .0 .1) (m .match .rest .1) (m .before .before .child-a .ensures) (k .child-b3 .ensures)
 
--- src/lib.rt:245:9
-emit-test-kind-requires : (t : ℕ) → emit-test-lts.Need-kind-requires (emit-test-claims t) (emit-test-at t) emit-test.Post
+emit-test-kind-requires : (t : ℕ)
+    → emit-test-lts.Need-kind-requires (emit-test-claims t) (emit-test-at t) emit-test.Post
 emit-test-kind-requires t c κs = law t (c .before .before) .law .within
 
--- src/lib.rt:246:9
-emit-test-child-a-requires : (t : ℕ) → emit-test-lts.Need-child-a-requires (emit-test-claims t) (emit-test-at t) emit-test.Post
+emit-test-child-a-requires : (t : ℕ)
+    → emit-test-lts.Need-child-a-requires (emit-test-claims t) (emit-test-at t) emit-test.Post
 emit-test-child-a-requires t c κs = law t (c .before .before .before) .law .within
 
--- src/lib.rt:247:11
-emit-test-test-shape-requires : (t : ℕ) → emit-test-lts.Need-test-shape-requires (emit-test-claims t) (emit-test-at t) emit-test.Post
-emit-test-test-shape-requires t c κs = rw (c .before .kind .ensures) (law t (c .before .before .before .before) .law .small-kind)
+emit-test-test-shape-requires : (t : ℕ)
+    → emit-test-lts.Need-test-shape-requires (emit-test-claims t) (emit-test-at t) emit-test.Post
+emit-test-test-shape-requires t c κs =
+    rw (c .before .kind .ensures) (law t (c .before .before .before .before) .law .small-kind)
 
--- src/lib.rt:248:14
-emit-test-emit-part-requires : (t : ℕ) → emit-test-lts.Need-emit-part-requires (emit-test-claims t) (emit-test-at t) emit-test.Post
+emit-test-emit-part-requires : (t : ℕ)
+    → emit-test-lts.Need-emit-part-requires (emit-test-claims t) (emit-test-at t) emit-test.Post
 emit-test-emit-part-requires t c κs =
     let m = c .before in
     let s = m .before .before .before .before .before .before in
@@ -130,15 +164,15 @@ emit-test-emit-part-requires t c κs =
     let room = s .pre .1 .1 .1 in
     (r .0, (inl refl, (s .pre .1 .1 .0, omega arith)))
 
--- src/lib.rt:250:53
-emit-test-add-emit-test : (t : ℕ) → emit-test-lts.Need-add-emit-test (emit-test-claims t) (emit-test-at t) emit-test.Post
+emit-test-add-emit-test : (t : ℕ)
+    → emit-test-lts.Need-add-emit-test (emit-test-claims t) (emit-test-at t) emit-test.Post
 emit-test-add-emit-test t c =
     let m = c .before in
     let low = one t m .2 in
     omega arith
 
--- src/lib.rt:250:17
-emit-test-emit-test-requires : (t : ℕ) → emit-test-lts.Need-emit-test-requires (emit-test-claims t) (emit-test-at t) emit-test.Post
+emit-test-emit-test-requires : (t : ℕ)
+    → emit-test-lts.Need-emit-test-requires (emit-test-claims t) (emit-test-at t) emit-test.Post
 emit-test-emit-test-requires t c κs =
     let m = c .before in
     let s = m .before .before .before .before .before .before in
@@ -149,16 +183,20 @@ emit-test-emit-test-requires t c κs =
     let room = s .pre .1 .1 .1 in
     (omega arith, (r .1, (s .pre .1 .1 .0, omega arith)))
 
--- src/lib.rt:251:46
-emit-test-last-kind-requires : (t : ℕ) → emit-test-lts.Need-last-kind-requires (emit-test-claims t) (emit-test-at t) emit-test.Post
-emit-test-last-kind-requires t c κs = rw (c .before .before .before .before .before .before .before .before .kind .ensures) (law t (c .before .before .before .before .before .before .before .before .before .before .before) .law .small-kind)
+emit-test-last-kind-requires : (t : ℕ)
+    → emit-test-lts.Need-last-kind-requires (emit-test-claims t) (emit-test-at t) emit-test.Post
+emit-test-last-kind-requires t c κs =
+    let k = c .before .before .before .before .before .before .before .before in
+    rw (k .kind .ensures) (law t (k .before .before .before) .law .small-kind)
 
--- src/lib.rt:251:76
-emit-test-last-field-requires : (t : ℕ) → emit-test-lts.Need-last-field-requires (emit-test-claims t) (emit-test-at t) emit-test.Post
-emit-test-last-field-requires t c κs = rw (c .before .before .before .before .before .before .before .before .before .kind .ensures) (law t (c .before .before .before .before .before .before .before .before .before .before .before .before) .law .small-kind)
+emit-test-last-field-requires : (t : ℕ)
+    → emit-test-lts.Need-last-field-requires (emit-test-claims t) (emit-test-at t) emit-test.Post
+emit-test-last-field-requires t c κs =
+    let k = c .before .before .before .before .before .before .before .before .before in
+    rw (k .kind .ensures) (law t (k .before .before .before) .law .small-kind)
 
--- src/lib.rt:251:17
-emit-test-emit-part-requires-2 : (t : ℕ) → emit-test-lts.Need-emit-part-requires-2 (emit-test-claims t) (emit-test-at t) emit-test.Post
+emit-test-emit-part-requires-2 : (t : ℕ)
+    → emit-test-lts.Need-emit-part-requires-2 (emit-test-claims t) (emit-test-at t) emit-test.Post
 emit-test-emit-part-requires-2 t c κs =
     let x = c .before .before .before .before .before in
     let m = x .before .before in
@@ -172,8 +210,8 @@ emit-test-emit-part-requires-2 t c κs =
     let same = c .before .before .before .before .out2 .given in
     (inl refl, (inl refl, (s .pre .1 .1 .0, omega arith)))
 
--- src/lib.rt:252:13
-emit-test-emit-sequence-requires : (t : ℕ) → emit-test-lts.Need-emit-sequence-requires (emit-test-claims t) (emit-test-at t) emit-test.Post
+emit-test-emit-sequence-requires : (t : ℕ)
+    → emit-test-lts.Need-emit-sequence-requires (emit-test-claims t) (emit-test-at t) emit-test.Post
 emit-test-emit-sequence-requires t c κs =
     let y = c .before .before .before in
     let x = y .before .before .before .before .before .before in
@@ -190,26 +228,25 @@ emit-test-emit-sequence-requires t c κs =
     let same₂ = c .before .before .out3 .given in
     (s .pre .1 .1 .0, omega arith)
 
--- src/lib.rt:255:17
-emit-test-child-b-requires : (t : ℕ) → emit-test-lts.Need-child-b-requires (emit-test-claims t) (emit-test-at t) emit-test.Post
+emit-test-child-b-requires : (t : ℕ)
+    → emit-test-lts.Need-child-b-requires (emit-test-claims t) (emit-test-at t) emit-test.Post
 emit-test-child-b-requires t c κs = law t (c .before .before .before .before .before .before) .law .within
 
--- src/lib.rt:256:21
-emit-test-mark-requires : (t : ℕ) → emit-test-lts.Need-mark-requires (emit-test-claims t) (emit-test-at t) emit-test.Post
+emit-test-mark-requires : (t : ℕ)
+    → emit-test-lts.Need-mark-requires (emit-test-claims t) (emit-test-at t) emit-test.Post
 emit-test-mark-requires t c κs = law t (c .before .before .before .before .before .before .before) .law .within
 
--- src/lib.rt:256:21
 emit-test-cast-c : (t : ℕ) → emit-test-lts.Need-cast-c (emit-test-claims t) (emit-test-at t) emit-test.Post
 emit-test-cast-c t c = search needs
 
--- src/lib.rt:257:53
-emit-test-add-emit-test-2 : (t : ℕ) → emit-test-lts.Need-add-emit-test-2 (emit-test-claims t) (emit-test-at t) emit-test.Post
+emit-test-add-emit-test-2 : (t : ℕ)
+    → emit-test-lts.Need-add-emit-test-2 (emit-test-claims t) (emit-test-at t) emit-test.Post
 emit-test-add-emit-test-2 t c =
     let low = two t (c .before) .4 in
     omega arith
 
--- src/lib.rt:257:17
-emit-test-emit-test-requires-2 : (t : ℕ) → emit-test-lts.Need-emit-test-requires-2 (emit-test-claims t) (emit-test-at t) emit-test.Post
+emit-test-emit-test-requires-2 : (t : ℕ)
+    → emit-test-lts.Need-emit-test-requires-2 (emit-test-claims t) (emit-test-at t) emit-test.Post
 emit-test-emit-test-requires-2 t c κs =
     let k = c .before in
     let s = k .before .before .before .before .before .before .before .before in
@@ -221,14 +258,14 @@ emit-test-emit-test-requires-2 t c κs =
     let room = s .pre .1 .1 .1 in
     (omega arith, (r .2, (s .pre .1 .1 .0, omega arith)))
 
--- src/lib.rt:258:52
-emit-test-add-emit-test-3 : (t : ℕ) → emit-test-lts.Need-add-emit-test-3 (emit-test-claims t) (emit-test-at t) emit-test.Post
+emit-test-add-emit-test-3 : (t : ℕ)
+    → emit-test-lts.Need-add-emit-test-3 (emit-test-claims t) (emit-test-at t) emit-test.Post
 emit-test-add-emit-test-3 t c =
     let low = two t (c .before .before .before .before .before) .4 in
     omega arith
 
--- src/lib.rt:258:17
-emit-test-emit-test-requires-3 : (t : ℕ) → emit-test-lts.Need-emit-test-requires-3 (emit-test-claims t) (emit-test-at t) emit-test.Post
+emit-test-emit-test-requires-3 : (t : ℕ)
+    → emit-test-lts.Need-emit-test-requires-3 (emit-test-claims t) (emit-test-at t) emit-test.Post
 emit-test-emit-test-requires-3 t c κs =
     let x = c .before .before .before in
     let k = x .before .before in
@@ -243,8 +280,8 @@ emit-test-emit-test-requires-3 t c κs =
     let same = c .before .before .out5 .given in
     (omega arith, (r .3, (s .pre .1 .1 .0, omega arith)))
 
--- src/lib.rt:259:17
-emit-test-emit-part-requires-3 : (t : ℕ) → emit-test-lts.Need-emit-part-requires-3 (emit-test-claims t) (emit-test-at t) emit-test.Post
+emit-test-emit-part-requires-3 : (t : ℕ)
+    → emit-test-lts.Need-emit-part-requires-3 (emit-test-claims t) (emit-test-at t) emit-test.Post
 emit-test-emit-part-requires-3 t c κs =
     let y = c .before .before .before in
     let x = y .before .before .before .before in
@@ -262,8 +299,8 @@ emit-test-emit-part-requires-3 t c κs =
     let same₂ = c .before .before .out6 .given in
     (inl refl, (inl refl, (s .pre .1 .1 .0, omega arith)))
 
--- src/lib.rt:260:17
-emit-test-emit-sequence-requires-2 : (t : ℕ) → emit-test-lts.Need-emit-sequence-requires-2 (emit-test-claims t) (emit-test-at t) emit-test.Post
+emit-test-emit-sequence-requires-2 : (t : ℕ)
+    → emit-test-lts.Need-emit-sequence-requires-2 (emit-test-claims t) (emit-test-at t) emit-test.Post
 emit-test-emit-sequence-requires-2 t c κs =
     let z = c .before .before .before in
     let y = z .before .before .before .before in
@@ -284,8 +321,8 @@ emit-test-emit-sequence-requires-2 t c κs =
     let same₃ = c .before .before .out7 .given in
     (s .pre .1 .1 .0, omega arith)
 
--- src/lib.rt:261:13
-emit-test-emit-sequence-requires-3 : (t : ℕ) → emit-test-lts.Need-emit-sequence-requires-3 (emit-test-claims t) (emit-test-at t) emit-test.Post
+emit-test-emit-sequence-requires-3 : (t : ℕ)
+    → emit-test-lts.Need-emit-sequence-requires-3 (emit-test-claims t) (emit-test-at t) emit-test.Post
 emit-test-emit-sequence-requires-3 t c κs =
     let u = c .before .before .before in
     let z = u .before .before .before .before in
@@ -309,12 +346,12 @@ emit-test-emit-sequence-requires-3 t c κs =
     let same₄ = c .before .before .out8 .given in
     (s .pre .1 .1 .0, omega arith)
 
--- src/lib.rt:264:17
-emit-test-child-b-requires-2 : (t : ℕ) → emit-test-lts.Need-child-b-requires-2 (emit-test-claims t) (emit-test-at t) emit-test.Post
+emit-test-child-b-requires-2 : (t : ℕ)
+    → emit-test-lts.Need-child-b-requires-2 (emit-test-claims t) (emit-test-at t) emit-test.Post
 emit-test-child-b-requires-2 t c κs = law t (c .before .before .before .before .before .before) .law .within
 
--- src/lib.rt:265:17
-emit-test-emit-test-requires-4 : (t : ℕ) → emit-test-lts.Need-emit-test-requires-4 (emit-test-claims t) (emit-test-at t) emit-test.Post
+emit-test-emit-test-requires-4 : (t : ℕ)
+    → emit-test-lts.Need-emit-test-requires-4 (emit-test-claims t) (emit-test-at t) emit-test.Post
 emit-test-emit-test-requires-4 t c κs =
     let k = c .before in
     let s = k .before .before .before .before .before .before .before in
@@ -326,8 +363,8 @@ emit-test-emit-test-requires-4 t c κs =
     let room = s .pre .1 .1 .1 in
     (omega arith, (r .2, (s .pre .1 .1 .0, omega arith)))
 
--- src/lib.rt:266:17
-emit-test-emit-test-requires-5 : (t : ℕ) → emit-test-lts.Need-emit-test-requires-5 (emit-test-claims t) (emit-test-at t) emit-test.Post
+emit-test-emit-test-requires-5 : (t : ℕ)
+    → emit-test-lts.Need-emit-test-requires-5 (emit-test-claims t) (emit-test-at t) emit-test.Post
 emit-test-emit-test-requires-5 t c κs =
     let x = c .before .before .before in
     let k = x .before .before in
@@ -342,8 +379,8 @@ emit-test-emit-test-requires-5 t c κs =
     let same = c .before .before .out10 .given in
     (omega arith, (r .3, (s .pre .1 .1 .0, omega arith)))
 
--- src/lib.rt:267:17
-emit-test-emit-part-requires-4 : (t : ℕ) → emit-test-lts.Need-emit-part-requires-4 (emit-test-claims t) (emit-test-at t) emit-test.Post
+emit-test-emit-part-requires-4 : (t : ℕ)
+    → emit-test-lts.Need-emit-part-requires-4 (emit-test-claims t) (emit-test-at t) emit-test.Post
 emit-test-emit-part-requires-4 t c κs =
     let y = c .before .before .before in
     let x = y .before .before .before .before in
@@ -361,8 +398,8 @@ emit-test-emit-part-requires-4 t c κs =
     let same₂ = c .before .before .out11 .given in
     (inl refl, (inl refl, (s .pre .1 .1 .0, omega arith)))
 
--- src/lib.rt:268:13
-emit-test-emit-branch-requires : (t : ℕ) → emit-test-lts.Need-emit-branch-requires (emit-test-claims t) (emit-test-at t) emit-test.Post
+emit-test-emit-branch-requires : (t : ℕ)
+    → emit-test-lts.Need-emit-branch-requires (emit-test-claims t) (emit-test-at t) emit-test.Post
 emit-test-emit-branch-requires t c κs =
     let z = c .before .before .before in
     let y = z .before .before .before .before in
@@ -383,12 +420,12 @@ emit-test-emit-branch-requires t c κs =
     let same₃ = c .before .before .out12 .given in
     (s .pre .1 .1 .0, omega arith)
 
--- src/lib.rt:271:17
-emit-test-child-b-requires-3 : (t : ℕ) → emit-test-lts.Need-child-b-requires-3 (emit-test-claims t) (emit-test-at t) emit-test.Post
+emit-test-child-b-requires-3 : (t : ℕ)
+    → emit-test-lts.Need-child-b-requires-3 (emit-test-claims t) (emit-test-at t) emit-test.Post
 emit-test-child-b-requires-3 t c κs = law t (c .before .before .before .before .before .before) .law .within
 
--- src/lib.rt:272:17
-emit-test-emit-test-requires-6 : (t : ℕ) → emit-test-lts.Need-emit-test-requires-6 (emit-test-claims t) (emit-test-at t) emit-test.Post
+emit-test-emit-test-requires-6 : (t : ℕ)
+    → emit-test-lts.Need-emit-test-requires-6 (emit-test-claims t) (emit-test-at t) emit-test.Post
 emit-test-emit-test-requires-6 t c κs =
     let k = c .before in
     let s = k .before .before .before .before .before .before .before in
@@ -400,8 +437,8 @@ emit-test-emit-test-requires-6 t c κs =
     let room = s .pre .1 .1 .1 in
     (omega arith, (r .2, (s .pre .1 .1 .0, omega arith)))
 
--- src/lib.rt:273:17
-emit-test-emit-part-requires-5 : (t : ℕ) → emit-test-lts.Need-emit-part-requires-5 (emit-test-claims t) (emit-test-at t) emit-test.Post
+emit-test-emit-part-requires-5 : (t : ℕ)
+    → emit-test-lts.Need-emit-part-requires-5 (emit-test-claims t) (emit-test-at t) emit-test.Post
 emit-test-emit-part-requires-5 t c κs =
     let x = c .before .before .before in
     let k = x .before .before in
@@ -416,8 +453,8 @@ emit-test-emit-part-requires-5 t c κs =
     let same = c .before .before .out14 .given in
     (inl refl, (inl refl, (s .pre .1 .1 .0, omega arith)))
 
--- src/lib.rt:274:17
-emit-test-emit-test-requires-7 : (t : ℕ) → emit-test-lts.Need-emit-test-requires-7 (emit-test-claims t) (emit-test-at t) emit-test.Post
+emit-test-emit-test-requires-7 : (t : ℕ)
+    → emit-test-lts.Need-emit-test-requires-7 (emit-test-claims t) (emit-test-at t) emit-test.Post
 emit-test-emit-test-requires-7 t c κs =
     let y = c .before .before .before in
     let x = y .before .before .before .before in
@@ -435,8 +472,8 @@ emit-test-emit-test-requires-7 t c κs =
     let same₂ = c .before .before .out15 .given in
     (omega arith, (r .3, (s .pre .1 .1 .0, omega arith)))
 
--- src/lib.rt:275:13
-emit-test-emit-branch-requires-2 : (t : ℕ) → emit-test-lts.Need-emit-branch-requires-2 (emit-test-claims t) (emit-test-at t) emit-test.Post
+emit-test-emit-branch-requires-2 : (t : ℕ)
+    → emit-test-lts.Need-emit-branch-requires-2 (emit-test-claims t) (emit-test-at t) emit-test.Post
 emit-test-emit-branch-requires-2 t c κs =
     let z = c .before .before .before in
     let y = z .before .before .before .before in
@@ -457,11 +494,9 @@ emit-test-emit-branch-requires-2 t c κs =
     let same₃ = c .before .before .out16 .given in
     (s .pre .1 .1 .0, omega arith)
 
--- src/lib.rt:241:1
 emit-test-same-length : (t : ℕ) → emit-test-lts.Need-same-length (emit-test-claims t) (emit-test-at t) emit-test.Post
 emit-test-same-length t c = c .before .out .given
 
--- src/lib.rt:241:1
 emit-test-returns : (t : ℕ) → emit-test-lts.Need-returns (emit-test-claims t) (emit-test-at t) emit-test.Post
 emit-test-returns t c =
     let x = c .before .before in
@@ -469,11 +504,14 @@ emit-test-returns t c =
     let s = m .before .before .before .before .before .before in
     emitted-as (value t m .2) (x .emit-part .ensures)
 
--- src/lib.rt:241:1
-emit-test-same-length-2 : (t : ℕ) → emit-test-lts.Need-same-length-2 (emit-test-claims t) (emit-test-at t) emit-test.Post
-emit-test-same-length-2 t c = c .before .out4 .given ∙ c .before .before .before .before .before .out3 .given ∙ c .before .before .before .before .before .before .before .before .before .before .before .out2 .given
+emit-test-same-length-2 : (t : ℕ)
+    → emit-test-lts.Need-same-length-2 (emit-test-claims t) (emit-test-at t) emit-test.Post
+emit-test-same-length-2 t c =
+    let x = c .before in
+    let y = x .before .before .before .before in
+    let z = y .before .before .before .before .before .before in
+    x .out4 .given ∙ y .out3 .given ∙ z .out2 .given
 
--- src/lib.rt:241:1
 emit-test-returns-2 : (t : ℕ) → emit-test-lts.Need-returns-2 (emit-test-claims t) (emit-test-at t) emit-test.Post
 emit-test-returns-2 t c =
     let z = c .before .before in
@@ -489,17 +527,23 @@ emit-test-returns-2 t c =
     (partTree T (a .s) (y .before .before .last-kind .result) (a .level) 0 0 (y .before .last-field .result)) =
     r .3 ∙ (λ i.
     sequenceTree (a .s) (treeAt T (m .before .before .child-a .result) (a .s) (a .level + 1))
-    (partTree T (a .s) (sym (y .before .before .last-kind .ensures) i) (a .level) 0 0 (sym (y .before .last-field .ensures) i))) in
+    (partTree T (a .s) (sym (y .before .before .last-kind .ensures) i) (a .level) 0 0
+    (sym (y .before .last-field .ensures) i))) in
     emitted-as E
     (emitted-sequence _ _ (a .s) (test-some T (m .before .before .child-a .result) (a .s) (a .level + 1) (r .1)) some
     (x .emit-test .ensures) (y .emit-part2 .ensures) (subst (Room (now (a .out)) (a .at)) E (s .pre .1 .1 .1))
     (z .emit-sequence .ensures .0) (z .emit-sequence .ensures .1))
 
--- src/lib.rt:241:1
-emit-test-same-length-3 : (t : ℕ) → emit-test-lts.Need-same-length-3 (emit-test-claims t) (emit-test-at t) emit-test.Post
-emit-test-same-length-3 t c = c .before .out9 .given ∙ c .before .before .before .before .before .out8 .given ∙ c .before .before .before .before .before .before .before .before .before .out7 .given ∙ c .before .before .before .before .before .before .before .before .before .before .before .before .before .out6 .given ∙ c .before .before .before .before .before .before .before .before .before .before .before .before .before .before .before .before .before .out5 .given
+emit-test-same-length-3 : (t : ℕ)
+    → emit-test-lts.Need-same-length-3 (emit-test-claims t) (emit-test-at t) emit-test.Post
+emit-test-same-length-3 t c =
+    let x = c .before in
+    let y = x .before .before .before .before in
+    let z = y .before .before .before .before in
+    let u = z .before .before .before .before in
+    let v = u .before .before .before .before in
+    x .out9 .given ∙ y .out8 .given ∙ z .out7 .given ∙ u .out6 .given ∙ v .out5 .given
 
--- src/lib.rt:241:1
 emit-test-returns-3 : (t : ℕ) → emit-test-lts.Need-returns-3 (emit-test-claims t) (emit-test-at t) emit-test.Post
 emit-test-returns-3 t c =
     let w = c .before .before in
@@ -523,11 +567,15 @@ emit-test-returns-3 t c =
     (emitted-sequence _ _ (a .s) (test-some T (m .before .before .child-a .result) (a .s) (a .level + 1) (r .2)) some
     (x .emit-test2 .ensures) rest room (w .emit-sequence3 .ensures .0) (w .emit-sequence3 .ensures .1))
 
--- src/lib.rt:241:1
-emit-test-same-length-4 : (t : ℕ) → emit-test-lts.Need-same-length-4 (emit-test-claims t) (emit-test-at t) emit-test.Post
-emit-test-same-length-4 t c = c .before .out13 .given ∙ c .before .before .before .before .before .out12 .given ∙ c .before .before .before .before .before .before .before .before .before .out11 .given ∙ c .before .before .before .before .before .before .before .before .before .before .before .before .before .out10 .given
+emit-test-same-length-4 : (t : ℕ)
+    → emit-test-lts.Need-same-length-4 (emit-test-claims t) (emit-test-at t) emit-test.Post
+emit-test-same-length-4 t c =
+    let x = c .before in
+    let y = x .before .before .before .before in
+    let z = y .before .before .before .before in
+    let u = z .before .before .before .before in
+    x .out13 .given ∙ y .out12 .given ∙ z .out11 .given ∙ u .out10 .given
 
--- src/lib.rt:241:1
 emit-test-returns-4 : (t : ℕ) → emit-test-lts.Need-returns-4 (emit-test-claims t) (emit-test-at t) emit-test.Post
 emit-test-returns-4 t c =
     let u = c .before .before in
@@ -546,11 +594,15 @@ emit-test-returns-4 t c =
     (x .emit-test4 .ensures) (y .emit-test5 .ensures) (z .emit-part4 .ensures) (y .before .before .before .out10 .given)
     (subst (Room (now (a .out)) (a .at)) (r .5) (s .pre .1 .1 .1)) (u .emit-branch .ensures))
 
--- src/lib.rt:241:1
-emit-test-same-length-5 : (t : ℕ) → emit-test-lts.Need-same-length-5 (emit-test-claims t) (emit-test-at t) emit-test.Post
-emit-test-same-length-5 t c = c .before .out17 .given ∙ c .before .before .before .before .before .out16 .given ∙ c .before .before .before .before .before .before .before .before .before .out15 .given ∙ c .before .before .before .before .before .before .before .before .before .before .before .before .before .out14 .given
+emit-test-same-length-5 : (t : ℕ)
+    → emit-test-lts.Need-same-length-5 (emit-test-claims t) (emit-test-at t) emit-test.Post
+emit-test-same-length-5 t c =
+    let x = c .before in
+    let y = x .before .before .before .before in
+    let z = y .before .before .before .before in
+    let u = z .before .before .before .before in
+    x .out17 .given ∙ y .out16 .given ∙ z .out15 .given ∙ u .out14 .given
 
--- src/lib.rt:241:1
 emit-test-returns-5 : (t : ℕ) → emit-test-lts.Need-returns-5 (emit-test-claims t) (emit-test-at t) emit-test.Post
 emit-test-returns-5 t c =
     let u = c .before .before in

@@ -38,7 +38,11 @@ emit-sequence-requires c κs =
     (s .pre .1 .0, omega arith)
 
 same-length : tie.Need-same-length
-same-length c = c .before .out3 .given ∙ c .before .before .before .before .before .out2 .given ∙ c .before .before .before .before .before .before .before .before .before .out .given
+same-length c =
+    let x = c .before in
+    let y = x .before .before .before .before in
+    let z = y .before .before .before .before in
+    x .out3 .given ∙ y .out2 .given ∙ z .out .given
 
 returns : tie.Need-returns
 returns c =
@@ -46,7 +50,8 @@ returns c =
     let q = x .before .before .before .before in
     let p = q .before .before .before .before in
     let s = p .before .before .before .before in
-    emitted-sequence _ _ (s .args .s) (test-some (now (s .args .table)) (s .args .a) (s .args .s) 0 (s .pre .0)) some (p .emit-test .ensures) (q .emit-part .ensures)
+    emitted-sequence _ _ (s .args .s) (test-some (now (s .args .table)) (s .args .a) (s .args .s) 0 (s .pre .0)) some
+    (p .emit-test .ensures) (q .emit-part .ensures)
     (s .pre .1 .1) (x .emit-sequence .ensures .0) (x .emit-sequence .ensures .1)
 
 pub emit-assert-spec : {M : Type 1} → statement M

@@ -43,7 +43,8 @@ returns-3 : tie.Need-returns-3
 returns-3 c =
     let a = c .before .before .before .before .before .args in
     c .refuse .ensures
-    ∙ last-at (a .target) (a .table .now) (c .before .before .lowest-too-deep .result) (c .before .before .before .if1 .left)
+    ∙ last-at (a .target) (a .table .now) (c .before .before .lowest-too-deep .result)
+    (c .before .before .before .if1 .left)
     (c .before .before .lowest-too-deep .ensures) (c .before .if2 .left)
 
 pub check-levels-spec : {M : Type 1} → statement M

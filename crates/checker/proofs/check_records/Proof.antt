@@ -27,7 +27,8 @@ check-shapes-requires c κs =
     let l = languageOf (s .args .target) in
     let t = s .args .table .now in (
       s .pre,
-      none-found (lowestRecord t (λ n. ltb 0 (recordFault l t n))) (c .before .lowest-fault .result) (c .before .lowest-fault .ensures)
+      none-found (lowestRecord t (λ n. ltb 0 (recordFault l t n))) (c .before .lowest-fault .result)
+          (c .before .lowest-fault .ensures)
           (c .if1 .taken),
     )
 
@@ -38,7 +39,8 @@ returns c =
     let l = languageOf (a .target) in
     let t = a .table .now in
     c .check-shapes .ensures
-    ∙ next-none (recordFault l t) (lowestRecord t (λ n. ltb 0 (recordFault l t n))) (c .before .before .lowest-fault .result) (fromShapes l t) (c .before .before .lowest-fault .ensures)
+    ∙ next-none (recordFault l t) (lowestRecord t (λ n. ltb 0 (recordFault l t n)))
+    (c .before .before .lowest-fault .result) (fromShapes l t) (c .before .before .lowest-fault .ensures)
     (c .before .if1 .taken)
 
 record-fault-requires : tie.Need-record-fault-requires
@@ -72,9 +74,13 @@ returns-2 c =
     let l = languageOf (a .target) in
     let t = a .table .now in
     c .refuse .ensures
-    ∙ ap (λ (k : ℕ). checked.Refused k (c .before .before .before .lowest-fault .result)) (c .before .record-fault .ensures)
-    ∙ next-at (recordFault l t) (lowestRecord t (λ n. ltb 0 (recordFault l t n))) (c .before .before .before .lowest-fault .result) (fromShapes l t)
+    ∙ ap (λ (k : ℕ). checked.Refused k (c .before .before .before .lowest-fault .result))
+    (c .before .record-fault .ensures)
+    ∙ next-at (recordFault l t) (lowestRecord t (λ n. ltb 0 (recordFault l t n)))
+    (c .before .before .before .lowest-fault .result) (fromShapes l t)
     (c .before .before .before .lowest-fault .ensures) (c .before .before .if1 .left)
 
 pub check-records-spec : {M : Type 1} → statement M
-check-records-spec = tie.close (tie.spec lowest-fault-requires check-shapes-requires returns record-fault-requires refuse-requires returns-2)
+check-records-spec =
+    tie.close (tie.spec lowest-fault-requires check-shapes-requires returns record-fault-requires refuse-requires
+    returns-2)

@@ -35,7 +35,8 @@ returns c =
     let l = languageOf (a .target) in
     let t = a .table .now in
     c .check-levels .ensures
-    ∙ next-none (λ n. 7) (lowestRecord t (scopeFault l t)) (c .before .before .lowest-out-of-scope .result) (lastRule l t) (c .before .before .lowest-out-of-scope .ensures)
+    ∙ next-none (λ n. 7) (lowestRecord t (scopeFault l t)) (c .before .before .lowest-out-of-scope .result)
+    (lastRule l t) (c .before .before .lowest-out-of-scope .ensures)
     (c .before .if1 .taken)
 
 refuse-requires : tie.Need-refuse-requires
@@ -43,7 +44,12 @@ refuse-requires c κs =
     let s = c .before .before .before in
     let l = languageOf (s .args .target) in
     let t = s .args .table .now in
-    omega (arith, s .pre .few, found-in (scopeFault l t) (recordCount t) (c .before .lowest-out-of-scope .result) (c .before .lowest-out-of-scope .ensures))
+    omega (
+      arith,
+      s .pre .few,
+      found-in (scopeFault l t) (recordCount t) (c .before .lowest-out-of-scope .result)
+          (c .before .lowest-out-of-scope .ensures),
+    )
 
 returns-2 : tie.Need-returns-2
 unfolding fromScopes
@@ -52,8 +58,10 @@ returns-2 c =
     let l = languageOf (a .target) in
     let t = a .table .now in
     c .refuse .ensures
-    ∙ next-at (λ n. 7) (lowestRecord t (scopeFault l t)) (c .before .before .lowest-out-of-scope .result) (lastRule l t) (c .before .before .lowest-out-of-scope .ensures)
+    ∙ next-at (λ n. 7) (lowestRecord t (scopeFault l t)) (c .before .before .lowest-out-of-scope .result)
+    (lastRule l t) (c .before .before .lowest-out-of-scope .ensures)
     (c .before .if1 .left)
 
 pub check-scopes-spec : {M : Type 1} → statement M
-check-scopes-spec = tie.close (tie.spec lowest-out-of-scope-requires check-levels-requires returns refuse-requires returns-2)
+check-scopes-spec =
+    tie.close (tie.spec lowest-out-of-scope-requires check-levels-requires returns refuse-requires returns-2)

@@ -40,7 +40,8 @@ returns c =
     let l = languageOf (a .target) in
     let t = a .table .now in
     c .check-scopes .ensures
-    ∙ next-none (λ n. 6) (lowestRecord t (shapeFault l t)) (c .before .before .lowest-misshapen .result) (fromScopes l t) (c .before .before .lowest-misshapen .ensures)
+    ∙ next-none (λ n. 6) (lowestRecord t (shapeFault l t)) (c .before .before .lowest-misshapen .result)
+    (fromScopes l t) (c .before .before .lowest-misshapen .ensures)
     (c .before .if1 .taken)
 
 refuse-requires : tie.Need-refuse-requires
@@ -48,7 +49,12 @@ refuse-requires c κs =
     let s = c .before .before .before in
     let l = languageOf (s .args .target) in
     let t = s .args .table .now in
-    omega (arith, s .pre .0, found-in (shapeFault l t) (recordCount t) (c .before .lowest-misshapen .result) (c .before .lowest-misshapen .ensures))
+    omega (
+      arith,
+      s .pre .0,
+      found-in (shapeFault l t) (recordCount t) (c .before .lowest-misshapen .result)
+          (c .before .lowest-misshapen .ensures),
+    )
 
 returns-2 : tie.Need-returns-2
 unfolding fromShapes
@@ -57,8 +63,10 @@ returns-2 c =
     let l = languageOf (a .target) in
     let t = a .table .now in
     c .refuse .ensures
-    ∙ next-at (λ n. 6) (lowestRecord t (shapeFault l t)) (c .before .before .lowest-misshapen .result) (fromScopes l t) (c .before .before .lowest-misshapen .ensures)
+    ∙ next-at (λ n. 6) (lowestRecord t (shapeFault l t)) (c .before .before .lowest-misshapen .result)
+    (fromScopes l t) (c .before .before .lowest-misshapen .ensures)
     (c .before .if1 .left)
 
 pub check-shapes-spec : {M : Type 1} → statement M
-check-shapes-spec = tie.close (tie.spec lowest-misshapen-requires check-scopes-requires returns refuse-requires returns-2)
+check-shapes-spec =
+    tie.close (tie.spec lowest-misshapen-requires check-scopes-requires returns refuse-requires returns-2)

@@ -30,7 +30,8 @@ returns-3 c =
     let a = c .before .before .before .before .before .args in
     let l = languageOf (a .target) in
     let t = a .table .now in
-    check-many l t (c .before .before .before .if1 .left) (c .before .before .if2 .left) (omega (arith, c .if3 .taken, c .before .limit .ensures))
+    check-many l t (c .before .before .before .if1 .left) (c .before .before .if2 .left)
+    (omega (arith, c .if3 .taken, c .before .limit .ensures))
 
 check-records-requires : tie.Need-check-records-requires
 check-records-requires c κs =
@@ -45,7 +46,8 @@ returns-4 c =
     let l = languageOf (a .target) in
     let t = a .table .now in
     c .check-records .ensures
-    ∙ check-rest l t (c .before .before .before .before .if1 .left) (c .before .before .before .if2 .left) (omega (arith, c .before .if3 .left, c .before .before .limit .ensures))
+    ∙ check-rest l t (c .before .before .before .before .if1 .left) (c .before .before .before .if2 .left)
+    (omega (arith, c .before .if3 .left, c .before .before .limit .ensures))
 
 pub check-table-spec : {M : Type 1} → statement M
 check-table-spec = tie.close (tie.spec returns returns-2 limit-requires returns-3 check-records-requires returns-4)

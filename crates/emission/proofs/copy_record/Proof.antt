@@ -13,27 +13,21 @@ use Rattle.tables.proofs.literal.Reads as literal-reads
 use Rattle.tables.proofs.mark.Reads as mark-reads
 use Rattle.emission.proofs.emit_record.Reads as emit-record-reads
 
--- src/lib.rt:50:9
 kind-requires : tie.Need-kind-requires
 kind-requires c κs = search needs
 
--- src/lib.rt:51:9
 mark-requires : tie.Need-mark-requires
 mark-requires c κs = search needs
 
--- src/lib.rt:52:47
 literal-requires : tie.Need-literal-requires
 literal-requires c κs = search needs
 
--- src/lib.rt:52:5
 emit-record-requires : tie.Need-emit-record-requires
 emit-record-requires c κs = search needs
 
--- src/lib.rt:44:1
 same-length : tie.Need-same-length
 same-length c = search needs
 
--- src/lib.rt:44:1
 returns : tie.Need-returns
 returns c =
     let x = c .before .before in

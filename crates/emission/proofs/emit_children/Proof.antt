@@ -8,31 +8,24 @@ use Rattle.emission.proofs.emit_children.Reads as reads
 use Rattle.emission.proofs.emit_children.Lts as lts
 use Rattle.words.proofs.write_word.Reads as write-word-reads
 
--- src/lib.rt:14:5
 write-word-requires : tie.Need-write-word-requires
 write-word-requires c κs = search needs
 
--- src/lib.rt:15:28
 add-write-word : tie.Need-add-write-word
 add-write-word c = search needs
 
--- src/lib.rt:15:5
 write-word-requires-2 : tie.Need-write-word-requires-2
 write-word-requires-2 c κs = search needs
 
--- src/lib.rt:16:28
 add-write-word-2 : tie.Need-add-write-word-2
 add-write-word-2 c = search needs
 
--- src/lib.rt:16:5
 write-word-requires-3 : tie.Need-write-word-requires-3
 write-word-requires-3 c κs = search needs
 
--- src/lib.rt:10:1
 same-length : tie.Need-same-length
 same-length c = search needs
 
--- src/lib.rt:10:1
 returns : tie.Need-returns
 returns c =
     let z = c .before .before in

@@ -10,35 +10,27 @@ use Rattle.emission.proofs.copy.Reads as copy-reads
 use Rattle.emission.proofs.emit_record.Reads as emit-record-reads
 use Rattle.emission.proofs.root.Reads as root-reads
 
--- src/lib.rt:78:9
 copy-requires : tie.Need-copy-requires
 copy-requires c κs = search needs
 
--- src/lib.rt:79:9
 copy-requires-2 : tie.Need-copy-requires-2
 copy-requires-2 c κs = search needs
 
--- src/lib.rt:80:37
 root-requires : tie.Need-root-requires
 root-requires c κs = search needs
 
--- src/lib.rt:80:49
 root-requires-2 : tie.Need-root-requires-2
 root-requires-2 c κs = search needs
 
--- src/lib.rt:80:64
 cast-emit-record : tie.Need-cast-emit-record
 cast-emit-record c = search needs
 
--- src/lib.rt:80:5
 emit-record-requires : tie.Need-emit-record-requires
 emit-record-requires c κs = search needs
 
--- src/lib.rt:72:1
 same-length : tie.Need-same-length
 same-length c = search needs
 
--- src/lib.rt:72:1
 returns : tie.Need-returns
 returns c =
     let z = c .before .before in
@@ -47,7 +39,8 @@ returns c =
     let s = x .before .before .before .before in
     let a = s .args in
     part-done (now (a .table)) (a .a) (a .b) _ _ (z .before .before .root .result) (z .before .root2 .result)
-    (s .pre .0) (s .pre .1 .0) (s .pre .1 .1 .1) (x .copy .ensures) (y .copy2 .ensures) (z .before .before .root .ensures)
+    (s .pre .0) (s .pre .1 .0) (s .pre .1 .1 .1) (x .copy .ensures) (y .copy2 .ensures)
+    (z .before .before .root .ensures)
     (z .before .root2 .ensures) (rw (number-literal (a .s) (s .pre .1 .1 .0)) at (z .emit-record .ensures .0))
     (z .emit-record .ensures .1)
 

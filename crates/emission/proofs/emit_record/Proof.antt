@@ -15,47 +15,36 @@ use Rattle.emission.proofs.emit_record.Lts as lts
 use Rattle.emission.proofs.emit_children.Reads as emit-children-reads
 use Rattle.words.proofs.write_i64.Reads as write-i64-reads
 
--- src/lib.rt:25:17
 mul-place : tie.Need-mul-place
 mul-place c = search needs
 
--- src/lib.rt:26:5
 slice-write-out : tie.Need-slice-write-out
 slice-write-out c = search needs
 
--- src/lib.rt:27:9
 add-out : tie.Need-add-out
 add-out c = search needs
 
--- src/lib.rt:27:5
 slice-write-out-2 : tie.Need-slice-write-out-2
 slice-write-out-2 c = simp length-set (omega arith)
 
--- src/lib.rt:28:24
 add-emit-children : tie.Need-add-emit-children
 add-emit-children c = search needs
 
--- src/lib.rt:28:5
 emit-children-requires : tie.Need-emit-children-requires
 emit-children-requires c κs = simp length-set (omega arith)
 
--- src/lib.rt:29:27
 add-write-i64 : tie.Need-add-write-i64
 add-write-i64 c = search needs
 
--- src/lib.rt:29:5
 write-i64-requires : tie.Need-write-i64-requires
 write-i64-requires c κs = let e = simp length-set at (c .before .before .out .given) in omega arith
 
--- src/lib.rt:30:5
 add-result : tie.Need-add-result
 add-result c = search needs
 
--- src/lib.rt:20:1
 same-length : tie.Need-same-length
 same-length c = c .before .out2 .given ∙ simp length-set at (c .before .before .before .before .before .out .given)
 
--- src/lib.rt:20:1
 returns : tie.Need-returns
 returns c =
     let z = c .before .before in

@@ -7,19 +7,15 @@ use Rattle.emission.proofs.emit_sequence.Reads as reads
 use Rattle.emission.proofs.emit_sequence.Lts as lts
 use Rattle.emission.proofs.emit_record.Reads as emit-record-reads
 
--- src/lib.rt:89:47
 cast-emit-record : tie.Need-cast-emit-record
 cast-emit-record c = search needs
 
--- src/lib.rt:89:5
 emit-record-requires : tie.Need-emit-record-requires
 emit-record-requires c κs = search needs
 
--- src/lib.rt:84:1
 same-length : tie.Need-same-length
 same-length c = search needs
 
--- src/lib.rt:84:1
 returns : tie.Need-returns
 returns c =
     let s = c .before .before .before .before .before in

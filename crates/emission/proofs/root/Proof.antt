@@ -6,11 +6,9 @@ use Rattle.emission.proofs.root.Tie as tie
 use Rattle.emission.proofs.root.Reads as reads
 use Rattle.emission.proofs.root.Lts as lts
 
--- src/lib.rt:37:1
 returns : tie.Need-returns
 returns c = rw (eq-eqb _ 0 (c .if1 .taken)) refl
 
--- src/lib.rt:37:1
 returns-2 : tie.Need-returns-2
 returns-2 c = rw (ne-eqb _ 0 (c .if1 .left)) refl
 

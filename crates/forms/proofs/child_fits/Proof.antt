@@ -20,13 +20,15 @@ returns-2 c =
 returns-3 : tie.Need-returns-3
 returns-3 c =
     let a = c .before .before .before .before .args in
-    child-zero (languageOf (a .target)) (a .table .now) (a .n) (a .digit) (a .x) (c .before .before .if1 .left) (c .before .if2 .left)
+    child-zero (languageOf (a .target)) (a .table .now) (a .n) (a .digit) (a .x) (c .before .before .if1 .left)
+    (c .before .if2 .left)
     (c .if3 .taken)
 
 returns-4 : tie.Need-returns-4
 returns-4 c =
     let a = c .before .before .before .before .before .args in
-    λ h. child-late (languageOf (a .target)) (a .table .now) (a .n) (a .digit) (a .x) (c .before .before .before .if1 .left)
+    λ h. child-late (languageOf (a .target)) (a .table .now) (a .n) (a .digit) (a .x)
+    (c .before .before .before .if1 .left)
     (c .before .before .if2 .left) (c .if4 .taken)
 
 kind-requires : tie.Need-kind-requires
@@ -38,7 +40,8 @@ form-of-requires c κs = search needs
 returns-5 : tie.Need-returns-5
 returns-5 c =
     let a = c .before .before .before .before .before .before .before .args in
-    λ h. child-sort (languageOf (a .target)) (a .table .now) (a .n) (a .digit) (a .x) (c .before .before .before .before .before .if1 .left)
+    λ h. child-sort (languageOf (a .target)) (a .table .now) (a .n) (a .digit) (a .x)
+    (c .before .before .before .before .before .if1 .left)
     (c .before .before .before .before .if2 .left) (c .before .before .if4 .left) (c .form-of .result)
     (subst (λ (k : ℕ). Coded (languageOf (a .target)) k (c .form-of .result)) (c .before .kind .ensures)
     (c .form-of .ensures))

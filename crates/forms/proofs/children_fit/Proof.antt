@@ -33,11 +33,15 @@ returns c =
     let t = a .table .now in
     λ h.
     let p = there (a .form) t (a .n) h in
-    at-child l t (a .n) (a .form / 16 % 16) _ (childC t (a .n)) _ (c .before .child-c .ensures) (c .child-fits3 .ensures) (p .2)
+    at-child l t (a .n) (a .form / 16 % 16) _ (childC t (a .n)) _ (c .before .child-c .ensures)
+    (c .child-fits3 .ensures) (p .2)
     ∙ third _ _ _
-    (sym (at-child l t (a .n) (a .form / 4096 % 16) _ (childA t (a .n)) _ (c .before .before .before .before .before .before .before .child-a .ensures)
-    (c .before .before .before .before .before .before .child-fits .ensures) (p .0)) ∙ c .before .before .before .before .before .if1 .taken)
-    (sym (at-child l t (a .n) (a .form / 256 % 16) _ (childB t (a .n)) _ (c .before .before .before .before .child-b .ensures)
+    (sym (at-child l t (a .n) (a .form / 4096 % 16) _ (childA t (a .n)) _
+    (c .before .before .before .before .before .before .before .child-a .ensures)
+    (c .before .before .before .before .before .before .child-fits .ensures) (p .0))
+    ∙ c .before .before .before .before .before .if1 .taken)
+    (sym (at-child l t (a .n) (a .form / 256 % 16) _ (childB t (a .n)) _
+    (c .before .before .before .before .child-b .ensures)
     (c .before .before .before .child-fits2 .ensures) (p .1)) ∙ c .before .before .if2 .taken)
 
 returns-2 : tie.Need-returns-2
@@ -48,7 +52,8 @@ returns-2 c =
     λ h.
     let p = there (a .form) t (a .n) h in
     second-fails _ _ _
-    (sym (at-child l t (a .n) (a .form / 4096 % 16) _ (childA t (a .n)) _ (c .before .before .before .before .before .child-a .ensures)
+    (sym (at-child l t (a .n) (a .form / 4096 % 16) _ (childA t (a .n)) _
+    (c .before .before .before .before .before .child-a .ensures)
     (c .before .before .before .before .child-fits .ensures) (p .0)) ∙ c .before .before .before .if1 .taken)
     (sym (at-child l t (a .n) (a .form / 256 % 16) _ (childB t (a .n)) _ (c .before .before .child-b .ensures)
     (c .before .child-fits2 .ensures) (p .1)) ∙ c .if2 .left)

@@ -40,23 +40,31 @@ are-there-requires c κs = search needs
 returns : tie.Need-returns
 returns c =
     let a = c .before .before .before .before .before .before .before .before .before .before .before .args in
-    let mark = ap (fieldFits (fieldFrom (a .form / 65536 % 16))) (c .before .before .before .before .before .before .before .before .before .mark .ensures) in
+    let mark = ap (fieldFits (fieldFrom (a .form / 65536 % 16)))
+    (c .before .before .before .before .before .before .before .before .before .mark .ensures) in
     let z = c .before .before .before .before .before .before .literal in
-    let literal = ap (literalFits (literalFrom (a .form % 16))) (toZ-ofZ w64 (z .result) (record { sfits = z .ok }) ∙ z .ensures) in
+    let literal = ap (literalFits (literalFrom (a .form % 16)))
+    (toZ-ofZ w64 (z .result) (record { sfits = z .ok }) ∙ z .ensures) in
     c .are-there .ensures
-    ∙ (λ i. fieldsThere (a .form) (c .before .before .before .child-a .ensures i) (c .before .before .child-b .ensures i)
+    ∙ (λ i. fieldsThere (a .form) (c .before .before .before .child-a .ensures i)
+    (c .before .before .child-b .ensures i)
     (c .before .child-c .ensures i))
-    ∙ third _ _ _ (sym (c .before .before .before .before .before .before .before .before .field-fits .ensures ∙ mark) ∙ c .before .before .before .before .before .before .before .if1 .taken)
-    (sym (c .before .before .before .before .before .literal-fits .ensures ∙ literal) ∙ c .before .before .before .before .if2 .taken)
+    ∙ third _ _ _ (sym (c .before .before .before .before .before .before .before .before .field-fits .ensures ∙ mark)
+    ∙ c .before .before .before .before .before .before .before .if1 .taken)
+    (sym (c .before .before .before .before .before .literal-fits .ensures ∙ literal)
+    ∙ c .before .before .before .before .if2 .taken)
     ∙ sym (fields-as (a .form) (a .table .now) (a .n))
 
 returns-2 : tie.Need-returns-2
 returns-2 c =
     let a = c .before .before .before .before .before .before .before .args in
-    let mark = ap (fieldFits (fieldFrom (a .form / 65536 % 16))) (c .before .before .before .before .before .mark .ensures) in
+    let mark = ap (fieldFits (fieldFrom (a .form / 65536 % 16)))
+    (c .before .before .before .before .before .mark .ensures) in
     let z = c .before .before .literal in
-    let literal = ap (literalFits (literalFrom (a .form % 16))) (toZ-ofZ w64 (z .result) (record { sfits = z .ok }) ∙ z .ensures) in
-    second-fails _ _ _ (sym (c .before .before .before .before .field-fits .ensures ∙ mark) ∙ c .before .before .before .if1 .taken)
+    let literal = ap (literalFits (literalFrom (a .form % 16)))
+    (toZ-ofZ w64 (z .result) (record { sfits = z .ok }) ∙ z .ensures) in
+    second-fails _ _ _ (sym (c .before .before .before .before .field-fits .ensures ∙ mark)
+    ∙ c .before .before .before .if1 .taken)
     (sym (c .before .literal-fits .ensures ∙ literal) ∙ c .if2 .left)
     ∙ sym (fields-as (a .form) (a .table .now) (a .n))
 

@@ -30,7 +30,8 @@ returns c = inside (c .before .before .args .target) true (c .before .before .ar
 
 returns-2 : tie.Need-returns-2
 returns-2 c =
-    outside (c .before .before .args .target) true (c .before .before .args .kind) (c .before .if1 .taken) (c .if2 .left)
+    outside (c .before .before .args .target) true (c .before .before .args .kind) (c .before .if1 .taken)
+    (c .if2 .left)
 
 mul-result-2 : tie.Need-mul-result-2
 mul-result-2 c = search needs
@@ -43,7 +44,8 @@ returns-3 c = inside (c .before .before .args .target) false (c .before .before 
 
 returns-4 : tie.Need-returns-4
 returns-4 c =
-    outside (c .before .before .args .target) false (c .before .before .args .kind) (c .before .if1 .left) (c .if3 .left)
+    outside (c .before .before .args .target) false (c .before .before .args .kind) (c .before .if1 .left)
+    (c .if3 .left)
 
 pub form-of-spec : {M : Type 1} → statement M
 form-of-spec =

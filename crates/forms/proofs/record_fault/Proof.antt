@@ -40,7 +40,8 @@ returns-2 c =
     let t = a .table .now in
     let x = c .before .before .before .before .form-of .result in
     let k : Coded l (kindOf t (a .n)) x =
-    subst (λ (k : ℕ). Coded l k x) (c .before .before .before .before .before .kind .ensures) (c .before .before .before .before .form-of .ensures) in
+    subst (λ (k : ℕ). Coded l k x) (c .before .before .before .before .before .kind .ensures)
+    (c .before .before .before .before .form-of .ensures) in
     sym (fault-some l t (a .n) x k (c .before .before .before .if1 .left)
     ∙ ap (λ (b : Bool). cond b (cond (childrenFit l t (a .n) (entry 0 x) (recordAt t (a .n))) 0 5) 4)
     (sym (c .before .before .fields-fit .ensures) ∙ not-true _ (c .if2 .taken)))
@@ -52,10 +53,13 @@ returns-3 c =
     let t = a .table .now in
     let x = c .before .before .before .before .before .form-of .result in
     let k : Coded l (kindOf t (a .n)) x =
-    subst (λ (k : ℕ). Coded l k x) (c .before .before .before .before .before .before .kind .ensures) (c .before .before .before .before .before .form-of .ensures) in
-    let fit : fieldsFit (entry 0 x) (recordAt t (a .n)) ≡ true = sym (c .before .before .before .fields-fit .ensures) ∙ not-false _ (c .before .if2 .left) in
+    subst (λ (k : ℕ). Coded l k x) (c .before .before .before .before .before .before .kind .ensures)
+    (c .before .before .before .before .before .form-of .ensures) in
+    let fit : fieldsFit (entry 0 x) (recordAt t (a .n)) ≡ true = sym (c .before .before .before .fields-fit .ensures)
+    ∙ not-false _ (c .before .if2 .left) in
     sym (fault-some l t (a .n) x k (c .before .before .before .before .if1 .left)
-    ∙ (λ i. cond (fit i) (cond ((sym (c .before .before .children-fit .ensures fit) ∙ not-true _ (c .if3 .taken)) i) 0 5) 4))
+    ∙ (λ i. cond (fit i) (cond ((sym (c .before .before .children-fit .ensures fit) ∙ not-true _ (c .if3 .taken)) i) 0
+    5) 4))
 
 returns-4 : tie.Need-returns-4
 returns-4 c =
@@ -64,10 +68,13 @@ returns-4 c =
     let t = a .table .now in
     let x = c .before .before .before .before .before .form-of .result in
     let k : Coded l (kindOf t (a .n)) x =
-    subst (λ (k : ℕ). Coded l k x) (c .before .before .before .before .before .before .kind .ensures) (c .before .before .before .before .before .form-of .ensures) in
-    let fit : fieldsFit (entry 0 x) (recordAt t (a .n)) ≡ true = sym (c .before .before .before .fields-fit .ensures) ∙ not-false _ (c .before .if2 .left) in
+    subst (λ (k : ℕ). Coded l k x) (c .before .before .before .before .before .before .kind .ensures)
+    (c .before .before .before .before .before .form-of .ensures) in
+    let fit : fieldsFit (entry 0 x) (recordAt t (a .n)) ≡ true = sym (c .before .before .before .fields-fit .ensures)
+    ∙ not-false _ (c .before .if2 .left) in
     sym (fault-some l t (a .n) x k (c .before .before .before .before .if1 .left)
-    ∙ (λ i. cond (fit i) (cond ((sym (c .before .before .children-fit .ensures fit) ∙ not-false _ (c .if3 .left)) i) 0 5) 4))
+    ∙ (λ i. cond (fit i) (cond ((sym (c .before .before .children-fit .ensures fit) ∙ not-false _ (c .if3 .left)) i) 0
+    5) 4))
 
 pub record-fault-spec : {M : Type 1} → statement M
 record-fault-spec =

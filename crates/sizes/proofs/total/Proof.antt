@@ -11,15 +11,12 @@ use Rattle.sizes.proofs.copies_of_a.Reads as copies-of-a-reads
 use Rattle.sizes.proofs.copies_of_b.Reads as copies-of-b-reads
 use Rattle.sizes.proofs.own_records.Reads as own-records-reads
 
--- src/lib.rt:139:5
 own-records-requires : tie.Need-own-records-requires
 own-records-requires c κs = search needs
 
--- src/lib.rt:139:25
 copies-of-a-requires : tie.Need-copies-of-a-requires
 copies-of-a-requires c κs = search needs
 
--- src/lib.rt:139:25
 mul-result : tie.Need-mul-result
 mul-result c =
     let s = c .before .before in
@@ -28,7 +25,6 @@ mul-result c =
     let e = ap (λ (x : ℕ). x * s .args .a) (c .copies-of-a .ensures) in
     record { fits = omega arith }
 
--- src/lib.rt:139:5
 add-result : tie.Need-add-result
 add-result c =
     let s = c .before .before in
@@ -37,11 +33,9 @@ add-result c =
     let e = ap (λ (x : ℕ). x * s .args .a) (c .copies-of-a .ensures) in
     record { fits = omega arith }
 
--- src/lib.rt:139:49
 copies-of-b-requires : tie.Need-copies-of-b-requires
 copies-of-b-requires c κs = search needs
 
--- src/lib.rt:139:49
 mul-result-2 : tie.Need-mul-result-2
 mul-result-2 c =
     let s = c .before .before .before in
@@ -51,7 +45,6 @@ mul-result-2 c =
     let f = ap (λ (x : ℕ). x * s .args .b) (c .copies-of-b .ensures) in
     record { fits = omega arith }
 
--- src/lib.rt:139:5
 add-result-2 : tie.Need-add-result-2
 add-result-2 c =
     let s = c .before .before .before in
@@ -61,7 +54,6 @@ add-result-2 c =
     let f = ap (λ (x : ℕ). x * s .args .b) (c .copies-of-b .ensures) in
     record { fits = omega arith }
 
--- src/lib.rt:139:5
 add-result-3 : tie.Need-add-result-3
 add-result-3 c =
     let s = c .before .before .before in
@@ -71,7 +63,6 @@ add-result-3 c =
     let f = ap (λ (x : ℕ). x * s .args .b) (c .copies-of-b .ensures) in
     record { fits = omega arith }
 
--- src/lib.rt:135:1
 returns : tie.Need-returns
 returns c =
     let s = c .before .before .before in

@@ -53,22 +53,54 @@ emit-statement-below t =
     emit-statement.Pre
 
 abbrev emit-statement-claims : ℕ → emit-statement-lts.Claims
-emit-statement-claims t = (kind-reads.Asked, kind-reads.Learnt, child-a-reads.Asked, child-a-reads.Learnt, child-b-reads.Asked, child-b-reads.Learnt, emit-statement-below t, emit-statement.Post, emit-sequence-reads.Asked, emit-sequence-reads.Learnt, child-c-reads.Asked, child-c-reads.Learnt, copy-reads.Asked, copy-reads.Learnt, emit-record-reads.Asked, emit-record-reads.Learnt, mark-reads.Asked, mark-reads.Learnt, emit-over-reads.Asked, emit-over-reads.Learnt, emit-part-reads.Asked, emit-part-reads.Learnt, emit-ending-reads.Asked, emit-ending-reads.Learnt, emit-simple-reads.Asked, emit-simple-reads.Learnt)
+emit-statement-claims t = (
+  kind-reads.Asked,
+  kind-reads.Learnt,
+  child-a-reads.Asked,
+  child-a-reads.Learnt,
+  child-b-reads.Asked,
+  child-b-reads.Learnt,
+  emit-statement-below t,
+  emit-statement.Post,
+  emit-sequence-reads.Asked,
+  emit-sequence-reads.Learnt,
+  child-c-reads.Asked,
+  child-c-reads.Learnt,
+  copy-reads.Asked,
+  copy-reads.Learnt,
+  emit-record-reads.Asked,
+  emit-record-reads.Learnt,
+  mark-reads.Asked,
+  mark-reads.Learnt,
+  emit-over-reads.Asked,
+  emit-over-reads.Learnt,
+  emit-part-reads.Asked,
+  emit-part-reads.Learnt,
+  emit-ending-reads.Asked,
+  emit-ending-reads.Learnt,
+  emit-simple-reads.Asked,
+  emit-simple-reads.Learnt,
+)
 
--- src/lib.rt:660:11
-emit-statement-kind-requires : (t : ℕ) → emit-statement-lts.Need-kind-requires (emit-statement-claims t) (emit-statement-at t) emit-statement.Post
-emit-statement-kind-requires t c κs = let s = c .before .before in statement-law (now (s .args .table)) (s .args .n) (s .pre .1 .0) .within
+emit-statement-kind-requires : (t : ℕ)
+    → emit-statement-lts.Need-kind-requires (emit-statement-claims t) (emit-statement-at t) emit-statement.Post
+emit-statement-kind-requires t c κs =
+    let s = c .before .before in statement-law (now (s .args .table)) (s .args .n) (s .pre .1 .0) .within
 
--- src/lib.rt:662:17
-emit-statement-child-a-requires : (t : ℕ) → emit-statement-lts.Need-child-a-requires (emit-statement-claims t) (emit-statement-at t) emit-statement.Post
-emit-statement-child-a-requires t c κs = let s = c .before .before .before .before in statement-law (now (s .args .table)) (s .args .n) (s .pre .1 .0) .within
+emit-statement-child-a-requires : (t : ℕ)
+    → emit-statement-lts.Need-child-a-requires (emit-statement-claims t) (emit-statement-at t) emit-statement.Post
+emit-statement-child-a-requires t c κs =
+    let s = c .before .before .before .before in statement-law (now (s .args .table)) (s .args .n)
+    (s .pre .1 .0) .within
 
--- src/lib.rt:663:17
-emit-statement-child-b-requires : (t : ℕ) → emit-statement-lts.Need-child-b-requires (emit-statement-claims t) (emit-statement-at t) emit-statement.Post
-emit-statement-child-b-requires t c κs = let s = c .before .before .before .before .before in statement-law (now (s .args .table)) (s .args .n) (s .pre .1 .0) .within
+emit-statement-child-b-requires : (t : ℕ)
+    → emit-statement-lts.Need-child-b-requires (emit-statement-claims t) (emit-statement-at t) emit-statement.Post
+emit-statement-child-b-requires t c κs =
+    let s = c .before .before .before .before .before in statement-law (now (s .args .table)) (s .args .n)
+    (s .pre .1 .0) .within
 
--- src/lib.rt:664:17
-emit-statement-emit-statement-requires : (t : ℕ) → emit-statement-lts.Need-emit-statement-requires (emit-statement-claims t) (emit-statement-at t) emit-statement.Post
+emit-statement-emit-statement-requires : (t : ℕ) → emit-statement-lts.Need-emit-statement-requires
+    (emit-statement-claims t) (emit-statement-at t) emit-statement.Post
 emit-statement-emit-statement-requires t c κs =
     let b = c .before in
     let m = b .before .before in
@@ -85,7 +117,6 @@ emit-statement-emit-statement-requires t c κs =
     let low₂ = law .1 in
     rw (b .before .child-a .ensures) (omega arith, (law .2, omega arith))
 
--- src/lib.rt:665:17
 emit-statement-emit-statement-requires-2 :
     (t : ℕ) → emit-statement-lts.Need-emit-statement-requires-2 (
       kind-reads.Asked,
@@ -133,8 +164,8 @@ emit-statement-emit-statement-requires-2 t c κs =
     let same = c .before .before .out .given in
     rw (x .before .before .child-b .ensures) (omega arith, (law .3, omega arith))
 
--- src/lib.rt:666:13
-emit-statement-emit-sequence-requires : (t : ℕ) → emit-statement-lts.Need-emit-sequence-requires (emit-statement-claims t) (emit-statement-at t) emit-statement.Post
+emit-statement-emit-sequence-requires : (t : ℕ) → emit-statement-lts.Need-emit-sequence-requires
+    (emit-statement-claims t) (emit-statement-at t) emit-statement.Post
 emit-statement-emit-sequence-requires t c κs =
     let y = c .before .before .before in
     let x = y .before .before .before .before in
@@ -156,20 +187,26 @@ emit-statement-emit-sequence-requires t c κs =
     let same₂ = c .before .before .out2 .given in
     (small, omega arith)
 
--- src/lib.rt:669:17
-emit-statement-child-a-requires-2 : (t : ℕ) → emit-statement-lts.Need-child-a-requires-2 (emit-statement-claims t) (emit-statement-at t) emit-statement.Post
-emit-statement-child-a-requires-2 t c κs = let s = c .before .before .before .before in statement-law (now (s .args .table)) (s .args .n) (s .pre .1 .0) .within
+emit-statement-child-a-requires-2 : (t : ℕ)
+    → emit-statement-lts.Need-child-a-requires-2 (emit-statement-claims t) (emit-statement-at t) emit-statement.Post
+emit-statement-child-a-requires-2 t c κs =
+    let s = c .before .before .before .before in statement-law (now (s .args .table)) (s .args .n)
+    (s .pre .1 .0) .within
 
--- src/lib.rt:670:17
-emit-statement-child-b-requires-2 : (t : ℕ) → emit-statement-lts.Need-child-b-requires-2 (emit-statement-claims t) (emit-statement-at t) emit-statement.Post
-emit-statement-child-b-requires-2 t c κs = let s = c .before .before .before .before .before in statement-law (now (s .args .table)) (s .args .n) (s .pre .1 .0) .within
+emit-statement-child-b-requires-2 : (t : ℕ)
+    → emit-statement-lts.Need-child-b-requires-2 (emit-statement-claims t) (emit-statement-at t) emit-statement.Post
+emit-statement-child-b-requires-2 t c κs =
+    let s = c .before .before .before .before .before in statement-law (now (s .args .table)) (s .args .n)
+    (s .pre .1 .0) .within
 
--- src/lib.rt:671:17
-emit-statement-child-c-requires : (t : ℕ) → emit-statement-lts.Need-child-c-requires (emit-statement-claims t) (emit-statement-at t) emit-statement.Post
-emit-statement-child-c-requires t c κs = let s = c .before .before .before .before .before .before in statement-law (now (s .args .table)) (s .args .n) (s .pre .1 .0) .within
+emit-statement-child-c-requires : (t : ℕ)
+    → emit-statement-lts.Need-child-c-requires (emit-statement-claims t) (emit-statement-at t) emit-statement.Post
+emit-statement-child-c-requires t c κs =
+    let s = c .before .before .before .before .before .before in statement-law (now (s .args .table)) (s .args .n)
+    (s .pre .1 .0) .within
 
--- src/lib.rt:672:17
-emit-statement-copy-requires : (t : ℕ) → emit-statement-lts.Need-copy-requires (emit-statement-claims t) (emit-statement-at t) emit-statement.Post
+emit-statement-copy-requires : (t : ℕ)
+    → emit-statement-lts.Need-copy-requires (emit-statement-claims t) (emit-statement-at t) emit-statement.Post
 emit-statement-copy-requires t c κs =
     let d = c .before in
     let m = d .before .before .before in
@@ -186,7 +223,6 @@ emit-statement-copy-requires t c κs =
     let low₂ = law .1 in
     rw (d .before .before .child-a2 .ensures) (inr (law .2), omega arith)
 
--- src/lib.rt:673:17
 emit-statement-emit-statement-requires-3 :
     (t : ℕ) → emit-statement-lts.Need-emit-statement-requires-3 (
       kind-reads.Asked,
@@ -234,7 +270,6 @@ emit-statement-emit-statement-requires-3 t c κs =
     let same = c .before .before .out4 .given in
     rw (x .before .before .before .child-b2 .ensures) (omega arith, (law .3, omega arith))
 
--- src/lib.rt:674:17
 emit-statement-emit-statement-requires-4 :
     (t : ℕ) → emit-statement-lts.Need-emit-statement-requires-4 (
       kind-reads.Asked,
@@ -285,8 +320,8 @@ emit-statement-emit-statement-requires-4 t c κs =
     let same₂ = c .before .before .out5 .given in
     rw (x .before .before .child-c .ensures) (omega arith, (law .4, omega arith))
 
--- src/lib.rt:675:49
-emit-statement-cast-emit-record : (t : ℕ) → emit-statement-lts.Need-cast-emit-record (emit-statement-claims t) (emit-statement-at t) emit-statement.Post
+emit-statement-cast-emit-record : (t : ℕ)
+    → emit-statement-lts.Need-cast-emit-record (emit-statement-claims t) (emit-statement-at t) emit-statement.Post
 emit-statement-cast-emit-record t c =
     let z = c .before .before .before in
     let y = z .before .before .before .before in
@@ -302,8 +337,8 @@ emit-statement-cast-emit-record t c =
     let small = number-small T n l in
     record { sfits = omega arith }
 
--- src/lib.rt:675:13
-emit-statement-emit-record-requires : (t : ℕ) → emit-statement-lts.Need-emit-record-requires (emit-statement-claims t) (emit-statement-at t) emit-statement.Post
+emit-statement-emit-record-requires : (t : ℕ)
+    → emit-statement-lts.Need-emit-record-requires (emit-statement-claims t) (emit-statement-at t) emit-statement.Post
 emit-statement-emit-record-requires t c κs =
     let z = c .before .before .before in
     let y = z .before .before .before .before in
@@ -328,16 +363,20 @@ emit-statement-emit-record-requires t c κs =
     let same₃ = c .before .before .out6 .given in
     omega arith
 
--- src/lib.rt:678:17
-emit-statement-child-a-requires-3 : (t : ℕ) → emit-statement-lts.Need-child-a-requires-3 (emit-statement-claims t) (emit-statement-at t) emit-statement.Post
-emit-statement-child-a-requires-3 t c κs = let s = c .before .before .before .before in statement-law (now (s .args .table)) (s .args .n) (s .pre .1 .0) .within
+emit-statement-child-a-requires-3 : (t : ℕ)
+    → emit-statement-lts.Need-child-a-requires-3 (emit-statement-claims t) (emit-statement-at t) emit-statement.Post
+emit-statement-child-a-requires-3 t c κs =
+    let s = c .before .before .before .before in statement-law (now (s .args .table)) (s .args .n)
+    (s .pre .1 .0) .within
 
--- src/lib.rt:679:17
-emit-statement-child-b-requires-3 : (t : ℕ) → emit-statement-lts.Need-child-b-requires-3 (emit-statement-claims t) (emit-statement-at t) emit-statement.Post
-emit-statement-child-b-requires-3 t c κs = let s = c .before .before .before .before .before in statement-law (now (s .args .table)) (s .args .n) (s .pre .1 .0) .within
+emit-statement-child-b-requires-3 : (t : ℕ)
+    → emit-statement-lts.Need-child-b-requires-3 (emit-statement-claims t) (emit-statement-at t) emit-statement.Post
+emit-statement-child-b-requires-3 t c κs =
+    let s = c .before .before .before .before .before in statement-law (now (s .args .table)) (s .args .n)
+    (s .pre .1 .0) .within
 
--- src/lib.rt:680:17
-emit-statement-copy-requires-2 : (t : ℕ) → emit-statement-lts.Need-copy-requires-2 (emit-statement-claims t) (emit-statement-at t) emit-statement.Post
+emit-statement-copy-requires-2 : (t : ℕ)
+    → emit-statement-lts.Need-copy-requires-2 (emit-statement-claims t) (emit-statement-at t) emit-statement.Post
 emit-statement-copy-requires-2 t c κs =
     let b = c .before in
     let m = b .before .before in
@@ -353,7 +392,6 @@ emit-statement-copy-requires-2 t c κs =
     let low = law .0 in
     rw (b .before .child-a3 .ensures) (inr (law .1), omega arith)
 
--- src/lib.rt:681:17
 emit-statement-emit-statement-requires-5 :
     (t : ℕ) → emit-statement-lts.Need-emit-statement-requires-5 (
       kind-reads.Asked,
@@ -400,8 +438,8 @@ emit-statement-emit-statement-requires-5 t c κs =
     let same = c .before .before .out8 .given in
     rw (x .before .before .child-b3 .ensures) (omega arith, (law .2, omega arith))
 
--- src/lib.rt:682:49
-emit-statement-cast-emit-record-2 : (t : ℕ) → emit-statement-lts.Need-cast-emit-record-2 (emit-statement-claims t) (emit-statement-at t) emit-statement.Post
+emit-statement-cast-emit-record-2 : (t : ℕ)
+    → emit-statement-lts.Need-cast-emit-record-2 (emit-statement-claims t) (emit-statement-at t) emit-statement.Post
 emit-statement-cast-emit-record-2 t c =
     let y = c .before .before .before in
     let x = y .before .before .before .before in
@@ -416,8 +454,8 @@ emit-statement-cast-emit-record-2 t c =
     let small = number-small T n l in
     record { sfits = omega arith }
 
--- src/lib.rt:682:13
-emit-statement-emit-record-requires-2 : (t : ℕ) → emit-statement-lts.Need-emit-record-requires-2 (emit-statement-claims t) (emit-statement-at t) emit-statement.Post
+emit-statement-emit-record-requires-2 : (t : ℕ) → emit-statement-lts.Need-emit-record-requires-2
+    (emit-statement-claims t) (emit-statement-at t) emit-statement.Post
 emit-statement-emit-record-requires-2 t c κs =
     let y = c .before .before .before in
     let x = y .before .before .before .before in
@@ -438,16 +476,20 @@ emit-statement-emit-record-requires-2 t c κs =
     let same₂ = c .before .before .out9 .given in
     omega arith
 
--- src/lib.rt:685:17
-emit-statement-child-a-requires-4 : (t : ℕ) → emit-statement-lts.Need-child-a-requires-4 (emit-statement-claims t) (emit-statement-at t) emit-statement.Post
-emit-statement-child-a-requires-4 t c κs = let s = c .before .before .before .before in statement-law (now (s .args .table)) (s .args .n) (s .pre .1 .0) .within
+emit-statement-child-a-requires-4 : (t : ℕ)
+    → emit-statement-lts.Need-child-a-requires-4 (emit-statement-claims t) (emit-statement-at t) emit-statement.Post
+emit-statement-child-a-requires-4 t c κs =
+    let s = c .before .before .before .before in statement-law (now (s .args .table)) (s .args .n)
+    (s .pre .1 .0) .within
 
--- src/lib.rt:686:17
-emit-statement-mark-requires : (t : ℕ) → emit-statement-lts.Need-mark-requires (emit-statement-claims t) (emit-statement-at t) emit-statement.Post
-emit-statement-mark-requires t c κs = let s = c .before .before .before .before .before in statement-law (now (s .args .table)) (s .args .n) (s .pre .1 .0) .within
+emit-statement-mark-requires : (t : ℕ)
+    → emit-statement-lts.Need-mark-requires (emit-statement-claims t) (emit-statement-at t) emit-statement.Post
+emit-statement-mark-requires t c κs =
+    let s = c .before .before .before .before .before in statement-law (now (s .args .table)) (s .args .n)
+    (s .pre .1 .0) .within
 
--- src/lib.rt:687:17
-emit-statement-emit-over-requires : (t : ℕ) → emit-statement-lts.Need-emit-over-requires (emit-statement-claims t) (emit-statement-at t) emit-statement.Post
+emit-statement-emit-over-requires : (t : ℕ)
+    → emit-statement-lts.Need-emit-over-requires (emit-statement-claims t) (emit-statement-at t) emit-statement.Post
 emit-statement-emit-over-requires t c κs =
     let m = c .before .before .before in
     let s = m .before .before .before .before in
@@ -462,8 +504,8 @@ emit-statement-emit-over-requires t c κs =
     let low = law .0 in
     (small, omega arith)
 
--- src/lib.rt:688:17
-emit-statement-emit-over-requires-2 : (t : ℕ) → emit-statement-lts.Need-emit-over-requires-2 (emit-statement-claims t) (emit-statement-at t) emit-statement.Post
+emit-statement-emit-over-requires-2 : (t : ℕ)
+    → emit-statement-lts.Need-emit-over-requires-2 (emit-statement-claims t) (emit-statement-at t) emit-statement.Post
 emit-statement-emit-over-requires-2 t c κs =
     let p = c .before .before .before in
     let m = p .before .before .before .before in
@@ -481,8 +523,8 @@ emit-statement-emit-over-requires-2 t c κs =
     let same0 = c .before .before .out11 .given in
     (small, omega arith)
 
--- src/lib.rt:689:17
-emit-statement-emit-part-requires : (t : ℕ) → emit-statement-lts.Need-emit-part-requires (emit-statement-claims t) (emit-statement-at t) emit-statement.Post
+emit-statement-emit-part-requires : (t : ℕ)
+    → emit-statement-lts.Need-emit-part-requires (emit-statement-claims t) (emit-statement-at t) emit-statement.Post
 emit-statement-emit-part-requires t c κs =
     let q = c .before .before .before in
     let p = q .before .before .before .before in
@@ -503,7 +545,6 @@ emit-statement-emit-part-requires t c κs =
     let same1 = c .before .before .out12 .given in
     (inl refl, (inl refl, (small, omega arith)))
 
--- src/lib.rt:690:17
 emit-statement-emit-statement-requires-6 :
     (t : ℕ) → emit-statement-lts.Need-emit-statement-requires-6 (
       kind-reads.Asked,
@@ -556,8 +597,8 @@ emit-statement-emit-statement-requires-6 t c κs =
     let same2 = c .before .before .out13 .given in
     rw (p .before .before .before .child-a4 .ensures) (omega arith, (law .1, omega arith))
 
--- src/lib.rt:691:17
-emit-statement-emit-ending-requires : (t : ℕ) → emit-statement-lts.Need-emit-ending-requires (emit-statement-claims t) (emit-statement-at t) emit-statement.Post
+emit-statement-emit-ending-requires : (t : ℕ)
+    → emit-statement-lts.Need-emit-ending-requires (emit-statement-claims t) (emit-statement-at t) emit-statement.Post
 emit-statement-emit-ending-requires t c κs =
     let y = c .before .before .before in
     let x = y .before .before .before .before in
@@ -584,7 +625,6 @@ emit-statement-emit-ending-requires t c κs =
     let same3 = c .before .before .out14 .given in
     (small, omega arith)
 
--- src/lib.rt:692:17
 emit-statement-emit-sequence-requires-2 :
     (t : ℕ) → emit-statement-lts.Need-emit-sequence-requires-2 (
       kind-reads.Asked,
@@ -643,7 +683,6 @@ emit-statement-emit-sequence-requires-2 t c κs =
     let same4 = c .before .before .out15 .given in
     (small, omega arith)
 
--- src/lib.rt:693:17
 emit-statement-emit-sequence-requires-3 :
     (t : ℕ) → emit-statement-lts.Need-emit-sequence-requires-3 (
       kind-reads.Asked,
@@ -705,7 +744,6 @@ emit-statement-emit-sequence-requires-3 t c κs =
     let same5 = c .before .before .out16 .given in
     (small, omega arith)
 
--- src/lib.rt:694:17
 emit-statement-emit-sequence-requires-4 :
     (t : ℕ) → emit-statement-lts.Need-emit-sequence-requires-4 (
       kind-reads.Asked,
@@ -770,7 +808,6 @@ emit-statement-emit-sequence-requires-4 t c κs =
     let same6 = c .before .before .out17 .given in
     (small, omega arith)
 
--- src/lib.rt:695:17
 emit-statement-emit-sequence-requires-5 :
     (t : ℕ) → emit-statement-lts.Need-emit-sequence-requires-5 (
       kind-reads.Asked,
@@ -838,8 +875,8 @@ emit-statement-emit-sequence-requires-5 t c κs =
     let same7 = c .before .before .out18 .given in
     (small, omega arith)
 
--- src/lib.rt:696:49
-emit-statement-cast-emit-record-3 : (t : ℕ) → emit-statement-lts.Need-cast-emit-record-3 (emit-statement-claims t) (emit-statement-at t) emit-statement.Post
+emit-statement-cast-emit-record-3 : (t : ℕ)
+    → emit-statement-lts.Need-cast-emit-record-3 (emit-statement-claims t) (emit-statement-at t) emit-statement.Post
 emit-statement-cast-emit-record-3 t c =
     let i = c .before .before .before in
     let h = i .before .before .before .before in
@@ -861,8 +898,8 @@ emit-statement-cast-emit-record-3 t c =
     let small = number-small T n l in
     record { sfits = omega arith }
 
--- src/lib.rt:696:13
-emit-statement-emit-record-requires-3 : (t : ℕ) → emit-statement-lts.Need-emit-record-requires-3 (emit-statement-claims t) (emit-statement-at t) emit-statement.Post
+emit-statement-emit-record-requires-3 : (t : ℕ) → emit-statement-lts.Need-emit-record-requires-3
+    (emit-statement-claims t) (emit-statement-at t) emit-statement.Post
 emit-statement-emit-record-requires-3 t c κs =
     let i = c .before .before .before in
     let h = i .before .before .before .before in
@@ -904,8 +941,8 @@ emit-statement-emit-record-requires-3 t c κs =
     let same8 = c .before .before .out19 .given in
     omega arith
 
--- src/lib.rt:698:14
-emit-statement-emit-simple-requires : (t : ℕ) → emit-statement-lts.Need-emit-simple-requires (emit-statement-claims t) (emit-statement-at t) emit-statement.Post
+emit-statement-emit-simple-requires : (t : ℕ)
+    → emit-statement-lts.Need-emit-simple-requires (emit-statement-claims t) (emit-statement-at t) emit-statement.Post
 emit-statement-emit-simple-requires t c κs =
     let m = c .before in
     let s = m .before .before .before .before in
@@ -922,12 +959,16 @@ emit-statement-emit-simple-requires t c κs =
       ),
     )
 
--- src/lib.rt:656:1
-emit-statement-same-length : (t : ℕ) → emit-statement-lts.Need-same-length (emit-statement-claims t) (emit-statement-at t) emit-statement.Post
-emit-statement-same-length t c = c .before .out3 .given ∙ c .before .before .before .before .before .out2 .given ∙ c .before .before .before .before .before .before .before .before .before .out .given
+emit-statement-same-length : (t : ℕ)
+    → emit-statement-lts.Need-same-length (emit-statement-claims t) (emit-statement-at t) emit-statement.Post
+emit-statement-same-length t c =
+    let x = c .before in
+    let y = x .before .before .before .before in
+    let z = y .before .before .before .before in
+    x .out3 .given ∙ y .out2 .given ∙ z .out .given
 
--- src/lib.rt:656:1
-emit-statement-returns : (t : ℕ) → emit-statement-lts.Need-returns (emit-statement-claims t) (emit-statement-at t) emit-statement.Post
+emit-statement-returns : (t : ℕ)
+    → emit-statement-lts.Need-returns (emit-statement-claims t) (emit-statement-at t) emit-statement.Post
 emit-statement-returns t c =
     let z = c .before .before in
     let y = z .before .before .before .before in
@@ -945,16 +986,22 @@ emit-statement-returns t c =
     let b = x .before .before .child-b .ensures in
     let E = law .4 ∙ (λ i. sequenceTree n (copyAt T (sym a i)) (copyAt T (sym b i))) in
     emitted-as E
-    (emitted-sequence _ _ n (rw a (statement-has T (childA T n) (law .2))) (rw b (statement-has T (childB T n) (law .3)))
+    (emitted-sequence _ _ n (rw a (statement-has T (childA T n) (law .2)))
+    (rw b (statement-has T (childB T n) (law .3)))
     (x .emit-statement .ensures) (y .emit-statement2 .ensures) (subst (Room (now (s .args .out)) (s .args .at)) E room)
     (z .emit-sequence .ensures .0) (z .emit-sequence .ensures .1))
 
--- src/lib.rt:656:1
-emit-statement-same-length-2 : (t : ℕ) → emit-statement-lts.Need-same-length-2 (emit-statement-claims t) (emit-statement-at t) emit-statement.Post
-emit-statement-same-length-2 t c = c .before .out7 .given ∙ c .before .before .before .before .before .out6 .given ∙ c .before .before .before .before .before .before .before .before .before .out5 .given ∙ c .before .before .before .before .before .before .before .before .before .before .before .before .before .out4 .given
+emit-statement-same-length-2 : (t : ℕ)
+    → emit-statement-lts.Need-same-length-2 (emit-statement-claims t) (emit-statement-at t) emit-statement.Post
+emit-statement-same-length-2 t c =
+    let x = c .before in
+    let y = x .before .before .before .before in
+    let z = y .before .before .before .before in
+    let u = z .before .before .before .before in
+    x .out7 .given ∙ y .out6 .given ∙ z .out5 .given ∙ u .out4 .given
 
--- src/lib.rt:656:1
-emit-statement-returns-2 : (t : ℕ) → emit-statement-lts.Need-returns-2 (emit-statement-claims t) (emit-statement-at t) emit-statement.Post
+emit-statement-returns-2 : (t : ℕ)
+    → emit-statement-lts.Need-returns-2 (emit-statement-claims t) (emit-statement-at t) emit-statement.Post
 emit-statement-returns-2 t c =
     let w = c .before .before in
     let z = w .before .before .before .before in
@@ -974,19 +1021,24 @@ emit-statement-returns-2 t c =
     let d = x .before .before .child-c .ensures in
     let E = law .5 ∙ (λ i. node 45 0 (pos n) 0 (copyAt T (sym a i)) (copyAt T (sym b i)) (copyAt T (sym d i))) in
     emitted-as E
-    (emitted-node _ _ 45 0 (pos n) 0 _ _ _ (x .copy .ensures) (y .emit-statement3 .ensures) (z .emit-statement4 .ensures)
+    (emitted-node _ _ 45 0 (pos n) 0 _ _ _ (x .copy .ensures) (y .emit-statement3 .ensures)
+    (z .emit-statement4 .ensures)
     (subst (Room (now (s .args .out)) (s .args .at)) E room)
     (root-some (rw a (copy-has T (childA T n) (law .2))) (x .copy .ensures))
     (root-some (rw b (statement-has T (childB T n) (law .3))) (y .emit-statement3 .ensures))
     (field-some 0 (rw d (statement-has T (childC T n) (law .4))) (z .emit-statement4 .ensures))
     (rw (number-literal n small) at (w .emit-record .ensures .0)) (w .emit-record .ensures .1))
 
--- src/lib.rt:656:1
-emit-statement-same-length-3 : (t : ℕ) → emit-statement-lts.Need-same-length-3 (emit-statement-claims t) (emit-statement-at t) emit-statement.Post
-emit-statement-same-length-3 t c = c .before .out10 .given ∙ c .before .before .before .before .before .out9 .given ∙ c .before .before .before .before .before .before .before .before .before .out8 .given
+emit-statement-same-length-3 : (t : ℕ)
+    → emit-statement-lts.Need-same-length-3 (emit-statement-claims t) (emit-statement-at t) emit-statement.Post
+emit-statement-same-length-3 t c =
+    let x = c .before in
+    let y = x .before .before .before .before in
+    let z = y .before .before .before .before in
+    x .out10 .given ∙ y .out9 .given ∙ z .out8 .given
 
--- src/lib.rt:656:1
-emit-statement-returns-3 : (t : ℕ) → emit-statement-lts.Need-returns-3 (emit-statement-claims t) (emit-statement-at t) emit-statement.Post
+emit-statement-returns-3 : (t : ℕ)
+    → emit-statement-lts.Need-returns-3 (emit-statement-claims t) (emit-statement-at t) emit-statement.Post
 emit-statement-returns-3 t c =
     let w = c .before .before in
     let y = w .before .before .before .before in
@@ -1010,12 +1062,24 @@ emit-statement-returns-3 t c =
     (root-some (rw b (statement-has T (childB T n) (law .2))) (y .emit-statement5 .ensures)) refl
     (rw (number-literal n small) at (w .emit-record2 .ensures .0)) (w .emit-record2 .ensures .1))
 
--- src/lib.rt:656:1
-emit-statement-same-length-4 : (t : ℕ) → emit-statement-lts.Need-same-length-4 (emit-statement-claims t) (emit-statement-at t) emit-statement.Post
-emit-statement-same-length-4 t c = c .before .out20 .given ∙ c .before .before .before .before .before .out19 .given ∙ c .before .before .before .before .before .before .before .before .before .out18 .given ∙ c .before .before .before .before .before .before .before .before .before .before .before .before .before .out17 .given ∙ c .before .before .before .before .before .before .before .before .before .before .before .before .before .before .before .before .before .out16 .given ∙ c .before .before .before .before .before .before .before .before .before .before .before .before .before .before .before .before .before .before .before .before .before .out15 .given ∙ c .before .before .before .before .before .before .before .before .before .before .before .before .before .before .before .before .before .before .before .before .before .before .before .before .before .out14 .given ∙ c .before .before .before .before .before .before .before .before .before .before .before .before .before .before .before .before .before .before .before .before .before .before .before .before .before .before .before .before .before .out13 .given ∙ c .before .before .before .before .before .before .before .before .before .before .before .before .before .before .before .before .before .before .before .before .before .before .before .before .before .before .before .before .before .before .before .before .before .out12 .given ∙ c .before .before .before .before .before .before .before .before .before .before .before .before .before .before .before .before .before .before .before .before .before .before .before .before .before .before .before .before .before .before .before .before .before .before .before .before .before .out11 .given
+emit-statement-same-length-4 : (t : ℕ)
+    → emit-statement-lts.Need-same-length-4 (emit-statement-claims t) (emit-statement-at t) emit-statement.Post
+emit-statement-same-length-4 t c =
+    let x = c .before in
+    let y = x .before .before .before .before in
+    let z = y .before .before .before .before in
+    let u = z .before .before .before .before in
+    let v = u .before .before .before .before in
+    let w = v .before .before .before .before in
+    let a = w .before .before .before .before in
+    let b = a .before .before .before .before in
+    let d = b .before .before .before .before in
+    let e = d .before .before .before .before in
+    x .out20 .given ∙ y .out19 .given ∙ z .out18 .given ∙ u .out17 .given ∙ v .out16 .given ∙ w .out15 .given
+    ∙ a .out14 .given ∙ b .out13 .given ∙ d .out12 .given ∙ e .out11 .given
 
--- src/lib.rt:656:1
-emit-statement-returns-4 : (t : ℕ) → emit-statement-lts.Need-returns-4 (emit-statement-claims t) (emit-statement-at t) emit-statement.Post
+emit-statement-returns-4 : (t : ℕ)
+    → emit-statement-lts.Need-returns-4 (emit-statement-claims t) (emit-statement-at t) emit-statement.Post
 emit-statement-returns-4 t c =
     let r = c .before .before in
     let i = r .before .before .before .before in
@@ -1058,12 +1122,12 @@ emit-statement-returns-4 t c =
     (emitted-over _ _ 47 (p .before .before .mark .result) (pos n) some whole R
     (rw (number-literal n small) at (r .emit-record3 .ensures .0)) (r .emit-record3 .ensures .1))
 
--- src/lib.rt:656:1
-emit-statement-same-length-5 : (t : ℕ) → emit-statement-lts.Need-same-length-5 (emit-statement-claims t) (emit-statement-at t) emit-statement.Post
+emit-statement-same-length-5 : (t : ℕ)
+    → emit-statement-lts.Need-same-length-5 (emit-statement-claims t) (emit-statement-at t) emit-statement.Post
 emit-statement-same-length-5 t c = c .before .out21 .given
 
--- src/lib.rt:656:1
-emit-statement-returns-5 : (t : ℕ) → emit-statement-lts.Need-returns-5 (emit-statement-claims t) (emit-statement-at t) emit-statement.Post
+emit-statement-returns-5 : (t : ℕ)
+    → emit-statement-lts.Need-returns-5 (emit-statement-claims t) (emit-statement-at t) emit-statement.Post
 emit-statement-returns-5 t c = c .before .before .emit-simple .ensures
 
 pub +emit-statement-spec : {M : Type 1} → statement M

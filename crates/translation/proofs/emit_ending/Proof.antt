@@ -36,7 +36,11 @@ emit-sequence-requires c κs =
     (s .pre .0, omega arith)
 
 same-length : tie.Need-same-length
-same-length c = c .before .out3 .given ∙ c .before .before .before .before .before .out2 .given ∙ c .before .before .before .before .before .before .before .before .before .out .given
+same-length c =
+    let x = c .before in
+    let y = x .before .before .before .before in
+    let z = y .before .before .before .before in
+    x .out3 .given ∙ y .out2 .given ∙ z .out .given
 
 returns : tie.Need-returns
 returns c =

@@ -11,27 +11,21 @@ use Rattle.translation.proofs.emit_fetch.Reads as reads
 use Rattle.translation.proofs.emit_fetch.Lts as lts
 use Rattle.emission.proofs.emit_record.Reads as emit-record-reads
 
--- src/lib.rt:170:9
 emit-record-requires : tie.Need-emit-record-requires
 emit-record-requires c κs = search needs
 
--- src/lib.rt:171:9
 emit-record-requires-2 : tie.Need-emit-record-requires-2
 emit-record-requires-2 c κs = search needs
 
--- src/lib.rt:172:41
 cast-emit-record : tie.Need-cast-emit-record
 cast-emit-record c = search needs
 
--- src/lib.rt:172:5
 emit-record-requires-3 : tie.Need-emit-record-requires-3
 emit-record-requires-3 c κs = search needs
 
--- src/lib.rt:166:1
 same-length : tie.Need-same-length
 same-length c = search needs
 
--- src/lib.rt:166:1
 returns : tie.Need-returns
 returns c =
     let z = c .before .before in

@@ -114,8 +114,16 @@ emit-sequence-requires-3 c κs =
     (s .pre .1 .1 .0, omega arith)
 
 same-length : tie.Need-same-length
-same-length c = c .before .out7 .given ∙ c .before .before .before .before .before .out6 .given ∙ c .before .before .before .before .before .before .before .before .before .out5 .given ∙ c .before .before .before .before .before .before .before .before .before .before .before .before .before .out4 .given ∙ c .before .before .before .before .before .before .before .before .before .before .before .before .before .before .before .before .before .out3 .given ∙ c .before .before .before .before .before .before .before .before .before .before .before .before .before .before .before .before .before .before .before .before .before .out2 .given
-    ∙ c .before .before .before .before .before .before .before .before .before .before .before .before .before .before .before .before .before .before .before .before .before .before .before .before .before .out .given
+same-length c =
+    let x = c .before in
+    let y = x .before .before .before .before in
+    let z = y .before .before .before .before in
+    let u = z .before .before .before .before in
+    let v = u .before .before .before .before in
+    let w = v .before .before .before .before in
+    let a = w .before .before .before .before in
+    x .out7 .given ∙ y .out6 .given ∙ z .out5 .given ∙ u .out4 .given ∙ v .out3 .given ∙ w .out2 .given
+    ∙ a .out .given
 
 returns : tie.Need-returns
 returns c =

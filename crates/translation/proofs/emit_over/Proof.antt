@@ -12,23 +12,18 @@ use Rattle.translation.proofs.emit_over.Reads as reads
 use Rattle.translation.proofs.emit_over.Lts as lts
 use Rattle.emission.proofs.emit_record.Reads as emit-record-reads
 
--- src/lib.rt:161:9
 emit-record-requires : tie.Need-emit-record-requires
 emit-record-requires c κs = search needs
 
--- src/lib.rt:162:46
 cast-emit-record : tie.Need-cast-emit-record
 cast-emit-record c = search needs
 
--- src/lib.rt:162:5
 emit-record-requires-2 : tie.Need-emit-record-requires-2
 emit-record-requires-2 c κs = search needs
 
--- src/lib.rt:157:1
 same-length : tie.Need-same-length
 same-length c = search needs
 
--- src/lib.rt:157:1
 returns : tie.Need-returns
 returns c =
     let y = c .before .before in

@@ -12,14 +12,12 @@ use Rattle.translation.proofs.emit_saved.Lts as lts
 use Rattle.emission.proofs.emit_part.Reads as emit-part-reads
 use Rattle.emission.proofs.emit_sequence.Reads as emit-sequence-reads
 
--- src/lib.rt:182:9
 emit-part-requires : tie.Need-emit-part-requires
 emit-part-requires c κs =
     let s = c .before .before .before in
     let room = s .pre .1 .1 .1 in
     (s .pre .0, (inl refl, (s .pre .1 .1 .0, omega arith)))
 
--- src/lib.rt:183:9
 emit-part-requires-2 : tie.Need-emit-part-requires-2
 emit-part-requires-2 c κs =
     let p = c .before .before .before in
@@ -29,7 +27,6 @@ emit-part-requires-2 c κs =
     let same = c .before .before .out .given in
     (s .pre .0, (s .pre .1 .0, (s .pre .1 .1 .0, omega arith)))
 
--- src/lib.rt:184:9
 emit-part-requires-3 : tie.Need-emit-part-requires-3
 emit-part-requires-3 c κs =
     let q = c .before .before .before in
@@ -42,19 +39,15 @@ emit-part-requires-3 c κs =
     let same₂ = q .before .before .before .out .given in
     (inl refl, (inl refl, (s .pre .1 .1 .0, omega arith)))
 
--- src/lib.rt:185:9
 emit-sequence-requires : tie.Need-emit-sequence-requires
 emit-sequence-requires c κs = search needs
 
--- src/lib.rt:186:5
 emit-sequence-requires-2 : tie.Need-emit-sequence-requires-2
 emit-sequence-requires-2 c κs = search needs
 
--- src/lib.rt:176:1
 same-length : tie.Need-same-length
 same-length c = search needs
 
--- src/lib.rt:176:1
 returns : tie.Need-returns
 returns c =
     let z = c .before .before in

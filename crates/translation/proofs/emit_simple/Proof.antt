@@ -21,19 +21,18 @@ use Rattle.translation.proofs.emit_new.Reads as emit-new-reads
 use Rattle.emission.proofs.emit_part.Reads as emit-part-reads
 use Rattle.translation.proofs.emit_saved.Reads as emit-saved-reads
 
--- src/lib.rt:332:9
 child-a-requires : tie.Need-child-a-requires
-child-a-requires c κs = let s = c .before .before in statement-law (now (s .args .table)) (s .args .n) (s .pre .0) .within
+child-a-requires c κs =
+    let s = c .before .before in statement-law (now (s .args .table)) (s .args .n) (s .pre .0) .within
 
--- src/lib.rt:333:9
 child-b-requires : tie.Need-child-b-requires
-child-b-requires c κs = let s = c .before .before .before in statement-law (now (s .args .table)) (s .args .n) (s .pre .0) .within
+child-b-requires c κs =
+    let s = c .before .before .before in statement-law (now (s .args .table)) (s .args .n) (s .pre .0) .within
 
--- src/lib.rt:334:11
 kind-requires : tie.Need-kind-requires
-kind-requires c κs = let s = c .before .before .before .before in statement-law (now (s .args .table)) (s .args .n) (s .pre .0) .within
+kind-requires c κs =
+    let s = c .before .before .before .before in statement-law (now (s .args .table)) (s .args .n) (s .pre .0) .within
 
--- src/lib.rt:335:15
 emit-part-requires : tie.Need-emit-part-requires
 emit-part-requires c κs =
     let m = c .before in
@@ -47,7 +46,6 @@ emit-part-requires c κs =
     let room = s .pre .1 .1 in
     (inl refl, (inl refl, (number-small T n l, omega arith)))
 
--- src/lib.rt:336:15
 emit-saved-requires : tie.Need-emit-saved-requires
 emit-saved-requires c κs =
     let m = c .before in
@@ -59,9 +57,9 @@ emit-saved-requires c κs =
     let r = assign-tree T n (statement-sort T n l) k in
     let size = ap treeSize (r .2) in
     let room = s .pre .1 .1 in
-    rw (m .before .before .before .child-a .ensures, m .before .before .child-b .ensures) (r .0, (r .1, (number-small T n l, omega arith)))
+    rw (m .before .before .before .child-a .ensures, m .before .before .child-b .ensures)
+    (r .0, (r .1, (number-small T n l, omega arith)))
 
--- src/lib.rt:337:15
 emit-new-requires : tie.Need-emit-new-requires
 emit-new-requires c κs =
     let m = c .before in
@@ -73,9 +71,9 @@ emit-new-requires c κs =
     let r = new-tree T n (statement-sort T n l) k in
     let size = ap treeSize (r .2) in
     let room = s .pre .1 .1 in
-    rw (m .before .before .before .child-a .ensures, m .before .before .child-b .ensures) (r .0, (r .1, (number-small T n l, omega arith)))
+    rw (m .before .before .before .child-a .ensures, m .before .before .child-b .ensures)
+    (r .0, (r .1, (number-small T n l, omega arith)))
 
--- src/lib.rt:338:15
 emit-saved-requires-2 : tie.Need-emit-saved-requires-2
 emit-saved-requires-2 c κs =
     let m = c .before in
@@ -89,7 +87,6 @@ emit-saved-requires-2 c κs =
     let room = s .pre .1 .1 in
     rw (m .before .before .before .child-a .ensures) (r .0, (inl refl, (number-small T n l, omega arith)))
 
--- src/lib.rt:339:14
 emit-assert-requires : tie.Need-emit-assert-requires
 emit-assert-requires c κs =
     let m = c .before in
@@ -98,18 +95,17 @@ emit-assert-requires c κs =
     let n = s .args .n in
     let l = s .pre .0 in
     let e = m .before .kind .ensures in
-    let k = last-kind T n l (s .pre .1 .0) (λ d. m .match .rest .0 .0 .0 .1 (e ∙ d)) (λ d. m .match .rest .0 .0 .1 (e ∙ d))
+    let k = last-kind T n l (s .pre .1 .0) (λ d. m .match .rest .0 .0 .0 .1 (e ∙ d))
+    (λ d. m .match .rest .0 .0 .1 (e ∙ d))
     (λ d. m .match .rest .0 .1 (e ∙ d)) (λ d. m .match .rest .1 (e ∙ d)) in
     let r = assert-tree T n (statement-sort T n l) k in
     let size = ap treeSize r in
     let room = s .pre .1 .1 in
     rw (m .before .before .before .child-a .ensures) (assert-levels T n l k, (number-small T n l, omega arith))
 
--- src/lib.rt:328:1
 same-length : tie.Need-same-length
 same-length c = search needs
 
--- src/lib.rt:328:1
 returns : tie.Need-returns
 returns c =
     let x = c .before .before in
@@ -121,11 +117,9 @@ returns c =
     let k = sym (m .before .kind .ensures) ∙ m .match .keys1 in
     emitted-as (skip-tree T n (statement-sort T n l) k) (x .emit-part .ensures)
 
--- src/lib.rt:328:1
 same-length-2 : tie.Need-same-length-2
 same-length-2 c = search needs
 
--- src/lib.rt:328:1
 returns-2 : tie.Need-returns-2
 returns-2 c =
     let x = c .before .before in
@@ -136,14 +130,13 @@ returns-2 c =
     let l = s .pre .0 in
     let k = sym (m .before .kind .ensures) ∙ m .match .keys2 in
     let r = assign-tree T n (statement-sort T n l) k in
-    emitted-as (r .2 ∙ (λ i. savedTree T n 60 41 70 (sym (m .before .before .before .child-a .ensures) i) (sym (m .before .before .child-b .ensures) i)))
+    emitted-as (r .2 ∙ (λ i. savedTree T n 60 41 70 (sym (m .before .before .before .child-a .ensures) i)
+    (sym (m .before .before .child-b .ensures) i)))
     (x .emit-saved .ensures)
 
--- src/lib.rt:328:1
 same-length-3 : tie.Need-same-length-3
 same-length-3 c = search needs
 
--- src/lib.rt:328:1
 returns-3 : tie.Need-returns-3
 returns-3 c =
     let x = c .before .before in
@@ -154,14 +147,13 @@ returns-3 c =
     let l = s .pre .0 in
     let k = sym (m .before .kind .ensures) ∙ m .match .keys3 in
     let r = new-tree T n (statement-sort T n l) k in
-    emitted-as (r .2 ∙ (λ i. newTree T n (sym (m .before .before .before .child-a .ensures) i) (sym (m .before .before .child-b .ensures) i)))
+    emitted-as (r .2 ∙ (λ i. newTree T n (sym (m .before .before .before .child-a .ensures) i)
+    (sym (m .before .before .child-b .ensures) i)))
     (x .emit-new .ensures)
 
--- src/lib.rt:328:1
 same-length-4 : tie.Need-same-length-4
 same-length-4 c = search needs
 
--- src/lib.rt:328:1
 returns-4 : tie.Need-returns-4
 returns-4 c =
     let x = c .before .before in
@@ -172,13 +164,12 @@ returns-4 c =
     let l = s .pre .0 in
     let k = sym (m .before .kind .ensures) ∙ m .match .keys4 in
     let r = free-tree T n (statement-sort T n l) k in
-    emitted-as (r .1 ∙ (λ i. savedTree T n 61 43 69 (sym (m .before .before .before .child-a .ensures) i) 0)) (x .emit-saved2 .ensures)
+    emitted-as (r .1 ∙ (λ i. savedTree T n 61 43 69 (sym (m .before .before .before .child-a .ensures) i) 0))
+    (x .emit-saved2 .ensures)
 
--- src/lib.rt:328:1
 same-length-5 : tie.Need-same-length-5
 same-length-5 c = search needs
 
--- src/lib.rt:328:1
 returns-5 : tie.Need-returns-5
 returns-5 c =
     let x = c .before .before in
@@ -188,10 +179,12 @@ returns-5 c =
     let n = s .args .n in
     let l = s .pre .0 in
     let e = m .before .kind .ensures in
-    let k = last-kind T n l (s .pre .1 .0) (λ d. m .match .rest .0 .0 .0 .1 (e ∙ d)) (λ d. m .match .rest .0 .0 .1 (e ∙ d))
+    let k = last-kind T n l (s .pre .1 .0) (λ d. m .match .rest .0 .0 .0 .1 (e ∙ d))
+    (λ d. m .match .rest .0 .0 .1 (e ∙ d))
     (λ d. m .match .rest .0 .1 (e ∙ d)) (λ d. m .match .rest .1 (e ∙ d)) in
     emitted-as
-    (assert-tree T n (statement-sort T n l) k ∙ (λ i. assertTree T n (sym (m .before .before .before .child-a .ensures) i)))
+    (assert-tree T n (statement-sort T n l) k ∙ (λ i. assertTree T n
+    (sym (m .before .before .before .child-a .ensures) i)))
     (x .emit-assert .ensures)
 
 pub emit-simple-spec : {M : Type 1} → statement M

@@ -69,7 +69,13 @@ emit-sequence-requires-2 c κs =
     (s .pre .0, omega arith)
 
 same-length : tie.Need-same-length
-same-length c = c .before .out5 .given ∙ c .before .before .before .before .before .out4 .given ∙ c .before .before .before .before .before .before .before .before .before .out3 .given ∙ c .before .before .before .before .before .before .before .before .before .before .before .before .before .out2 .given ∙ c .before .before .before .before .before .before .before .before .before .before .before .before .before .before .before .before .before .out .given
+same-length c =
+    let x = c .before in
+    let y = x .before .before .before .before in
+    let z = y .before .before .before .before in
+    let u = z .before .before .before .before in
+    let v = u .before .before .before .before in
+    x .out5 .given ∙ y .out4 .given ∙ z .out3 .given ∙ u .out2 .given ∙ v .out .given
 
 returns : tie.Need-returns
 returns c =

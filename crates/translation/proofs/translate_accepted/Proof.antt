@@ -10,11 +10,14 @@ use Rattle.translation.proofs.translate_accepted.Lts as lts
 use Rattle.translation.proofs.emit_statement.Reads as emit-statement-reads
 use Rattle.sizes.proofs.tree_size.Reads as tree-size-reads
 
--- src/lib.rt:714:9
 tree-size-requires : tie.Need-tree-size-requires
-tree-size-requires c κs = let s = c .before .before in (accepted-sorted (now (s .args .table)) (s .pre), accepted-size (now (s .args .table)) (s .pre))
+tree-size-requires c κs =
+    let s = c .before .before in (
+      accepted-sorted (now (s .args .table)) (s .pre),
+      accepted-size
+          (now (s .args .table)) (s .pre),
+    )
 
--- src/lib.rt:715:20
 mul-if1 : tie.Need-mul-if1
 mul-if1 c =
     let s = c .before .before .before in
@@ -22,13 +25,12 @@ mul-if1 c =
     let e = c .tree-size .ensures in
     record { fits = omega arith }
 
--- src/lib.rt:716:9
 returns : tie.Need-returns
 returns c =
     let s = c .before .before .before .before in
-    too-short (now (s .args .table)) (s .pre) (now (s .args .out)) (rw (c .before .tree-size .ensures) at (c .if1 .taken))
+    too-short (now (s .args .table)) (s .pre) (now (s .args .out))
+    (rw (c .before .tree-size .ensures) at (c .if1 .taken))
 
--- src/lib.rt:718:9
 emit-statement-requires : tie.Need-emit-statement-requires
 emit-statement-requires c κs =
     let s = c .before .before .before .before .before in
@@ -36,7 +38,6 @@ emit-statement-requires c κs =
     let f = c .before .if1 .left in
     (accepted-statement (now (s .args .table)) (s .pre), omega arith)
 
--- src/lib.rt:719:33
 cast-t11 : tie.Need-cast-t11
 cast-t11 c =
     let s = c .before .before .before .before .before .before .before .before in
@@ -44,17 +45,16 @@ cast-t11 c =
     let e = c .before .before .emit-statement .ensures .count in
     record { fits = omega arith }
 
--- src/lib.rt:708:1
 same-length : tie.Need-same-length
 same-length c = search needs
 
--- src/lib.rt:708:1
 returns-2 : tie.Need-returns-2
 returns-2 c =
     let s = c .before .before .before .before .before .before .before .before in
     let e = c .before .before .before .before .before .tree-size .ensures in
     let f = c .before .before .before .before .if1 .left in
-    long-enough (now (s .args .table)) (s .pre) (now (s .args .out)) _ _ (omega arith) (c .before .before .emit-statement .ensures)
+    long-enough (now (s .args .table)) (s .pre) (now (s .args .out)) _ _ (omega arith)
+    (c .before .before .emit-statement .ensures)
 
 pub translate-accepted-spec : {M : Type 1} → statement M
 translate-accepted-spec =

@@ -38,9 +38,12 @@ returns c =
     let t = a .table .now in
     let x = c .before .before .before .before .before .form-of .result in
     let k : Coded l (kindOf t (a .n)) x =
-    subst (λ (k : ℕ). Coded l k x) (c .before .before .before .before .before .before .kind .ensures) (c .before .before .before .before .before .form-of .ensures) in
-    counted-more l t x (a .n) (c .before .before .before .before .child-a .result) (c .before .before .before .child-b .result) (c .before .before .child-c .result)
-    (a .notes .now) (c .count-children .last .0) (omega arith) k (c .before .before .before .before .child-a .ensures) (c .before .before .before .child-b .ensures)
+    subst (λ (k : ℕ). Coded l k x) (c .before .before .before .before .before .before .kind .ensures)
+    (c .before .before .before .before .before .form-of .ensures) in
+    counted-more l t x (a .n) (c .before .before .before .before .child-a .result)
+    (c .before .before .before .child-b .result) (c .before .before .child-c .result)
+    (a .notes .now) (c .count-children .last .0) (omega arith) k (c .before .before .before .before .child-a .ensures)
+    (c .before .before .before .child-b .ensures)
     (c .before .before .child-c .ensures) (c .count-children .ensures) (s .pre .2)
 
 pub count-record-spec : {M : Type 1} → statement M

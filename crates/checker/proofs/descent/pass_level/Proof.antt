@@ -61,8 +61,10 @@ returns c =
     c .put-children .ensures ∙ (λ i. putThree x (ea i) (eb i) (ec i) u v w (a .notes .now)) in
     subst (λ (m : List ℕ). Given source t (a .n) f (a .notes .now) m) (sym put)
     (given-three source t (a .n) x k u v w f (a .notes .now) (s .pre .1)
-    (c .before .before .before .before .before .level-below .ensures ∙ (λ i. levelBelow (kind i) (eqb (eb i) (ea i)) (a .level)))
-    (c .before .before .before .before .level-below2 .ensures ∙ (λ i. levelBelow (kind i) (eqb (eb i) (eb i)) (a .level)))
+    (c .before .before .before .before .before .level-below .ensures
+    ∙ (λ i. levelBelow (kind i) (eqb (eb i) (ea i)) (a .level)))
+    (c .before .before .before .before .level-below2 .ensures
+    ∙ (λ i. levelBelow (kind i) (eqb (eb i) (eb i)) (a .level)))
     (c .before .before .before .level-below3 .ensures ∙ (λ i. levelBelow (kind i) (eqb (eb i) (ec i)) (a .level))))
 
 pub pass-level-spec : {M : Type 1} → statement M

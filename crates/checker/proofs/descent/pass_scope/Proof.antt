@@ -38,11 +38,13 @@ returns c =
     let x = c .before .before .before .before .before .form-of .result in
     let f : ℕ → ℕ = λ j. a .scope in
     let k : Coded l (kindOf t (a .n)) x =
-    subst (λ (k : ℕ). Coded l k x) (c .before .before .before .before .before .before .kind .ensures) (c .before .before .before .before .before .form-of .ensures) in
+    subst (λ (k : ℕ). Coded l k x) (c .before .before .before .before .before .before .kind .ensures)
+    (c .before .before .before .before .before .form-of .ensures) in
     let put : c .put-children .last .0 ≡ putThree x (childA t (a .n)) (childB t (a .n)) (childC t (a .n)) (a .scope)
     (a .scope) (a .scope) (a .notes .now) =
     c .put-children .ensures
-    ∙ (λ i. putThree x (c .before .before .before .before .child-a .ensures i) (c .before .before .before .child-b .ensures i) (c .before .before .child-c .ensures i)
+    ∙ (λ i. putThree x (c .before .before .before .before .child-a .ensures i)
+    (c .before .before .before .child-b .ensures i) (c .before .before .child-c .ensures i)
     (a .scope) (a .scope) (a .scope) (a .notes .now)) in
     subst (λ (m : List ℕ). Given l t (a .n) f (a .notes .now) m) (sym put)
     (given-three l t (a .n) x k (a .scope) (a .scope) (a .scope) f (a .notes .now) (s .pre .1) refl refl refl)

@@ -25,12 +25,14 @@ add-result-2 c = search needs
 returns-2 : tie.Need-returns-2
 returns-2 c =
     let a = c .before .before .before .before .args in
-    named-binary (a .kind) (a .level) (sym (c .before .before .before .is-unary .ensures) ∙ c .before .before .if1 .left) (sym (c .before .is-binary .ensures) ∙ c .if2 .taken)
+    named-binary (a .kind) (a .level) (sym (c .before .before .before .is-unary .ensures)
+    ∙ c .before .before .if1 .left) (sym (c .before .is-binary .ensures) ∙ c .if2 .taken)
 
 returns-3 : tie.Need-returns-3
 returns-3 c =
     let a = c .before .before .before .before .args in
-    named-other (a .kind) (a .level) (sym (c .before .before .before .is-unary .ensures) ∙ c .before .before .if1 .left) (sym (c .before .is-binary .ensures) ∙ c .if2 .left)
+    named-other (a .kind) (a .level) (sym (c .before .before .before .is-unary .ensures)
+    ∙ c .before .before .if1 .left) (sym (c .before .is-binary .ensures) ∙ c .if2 .left)
 
 pub highest-named-spec : {M : Type 1} → statement M
 highest-named-spec =

@@ -16,7 +16,8 @@ returns c =
 returns-2 : tie.Need-returns-2
 returns-2 c =
     let a = c .before .before .args in
-    deep-when (a .kind) (a .level) true false (le-leb 20 (a .kind) (c .before .if1 .left)) (lt-leb (a .kind) 35 (c .if2 .taken))
+    deep-when (a .kind) (a .level) true false (le-leb 20 (a .kind) (c .before .if1 .left))
+    (lt-leb (a .kind) 35 (c .if2 .taken))
 
 highest-named-requires : tie.Need-highest-named-requires
 highest-named-requires c κs = search needs
@@ -25,7 +26,8 @@ returns-3 : tie.Need-returns-3
 returns-3 c =
     let a = c .before .before .before .args in
     ap (leb 64) (c .highest-named .ensures)
-    ∙ deep-when (a .kind) (a .level) true true (le-leb 20 (a .kind) (c .before .before .if1 .left)) (le-leb (a .kind) 35 (c .before .if2 .left))
+    ∙ deep-when (a .kind) (a .level) true true (le-leb 20 (a .kind) (c .before .before .if1 .left))
+    (le-leb (a .kind) 35 (c .before .if2 .left))
 
 pub is-too-deep-spec : {M : Type 1} → statement M
 is-too-deep-spec = tie.close (tie.spec returns returns-2 highest-named-requires returns-3)

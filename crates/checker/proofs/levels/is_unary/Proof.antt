@@ -22,13 +22,15 @@ returns-3 c =
 returns-4 : tie.Need-returns-4
 returns-4 c =
     let k = c .before .before .before .before .args .kind in
-    unary-range k false (sym (ap (λ (b : Bool). b && leb k 23) (lt-leb 21 k (c .if4 .taken)))) (c .before .before .before .if1 .left)
+    unary-range k false (sym (ap (λ (b : Bool). b && leb k 23) (lt-leb 21 k (c .if4 .taken))))
+    (c .before .before .before .if1 .left)
     (c .before .before .if2 .left) (c .before .if3 .left)
 
 returns-5 : tie.Need-returns-5
 returns-5 c =
     let k = c .before .before .before .before .args .kind in
-    unary-range k (leb k 23) (sym (ap (λ (b : Bool). b && leb k 23) (le-leb 21 k (c .if4 .left)))) (c .before .before .before .if1 .left)
+    unary-range k (leb k 23) (sym (ap (λ (b : Bool). b && leb k 23) (le-leb 21 k (c .if4 .left))))
+    (c .before .before .before .if1 .left)
     (c .before .before .if2 .left) (c .before .if3 .left)
 
 pub is-unary-spec : {M : Type 1} → statement M

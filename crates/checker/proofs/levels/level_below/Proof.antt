@@ -25,7 +25,8 @@ add-result-2 c = search needs
 returns-2 : tie.Need-returns-2
 returns-2 c =
     let a = c .before .before .before .before .before .args in
-    below-second (a .kind) (a .level) (a .second) (sym (c .before .before .before .before .is-unary .ensures) ∙ c .before .before .before .if1 .left)
+    below-second (a .kind) (a .level) (a .second) (sym (c .before .before .before .before .is-unary .ensures)
+    ∙ c .before .before .before .if1 .left)
     (sym (c .before .before .is-binary .ensures) ∙ c .before .if2 .taken) (c .if3 .taken)
 
 add-result-3 : tie.Need-add-result-3
@@ -34,7 +35,8 @@ add-result-3 c = search needs
 returns-3 : tie.Need-returns-3
 returns-3 c =
     let a = c .before .before .before .before .before .args in
-    below-first (a .kind) (a .level) (a .second) (sym (c .before .before .before .before .is-unary .ensures) ∙ c .before .before .before .if1 .left)
+    below-first (a .kind) (a .level) (a .second) (sym (c .before .before .before .before .is-unary .ensures)
+    ∙ c .before .before .before .if1 .left)
     (sym (c .before .before .is-binary .ensures) ∙ c .before .if2 .taken) (c .if3 .left)
 
 is-joint-requires : tie.Need-is-joint-requires
@@ -43,14 +45,18 @@ is-joint-requires c κs = search needs
 returns-4 : tie.Need-returns-4
 returns-4 c =
     let a = c .before .before .before .before .before .before .args in
-    below-joint (a .kind) (a .level) (a .second) (sym (c .before .before .before .before .before .is-unary .ensures) ∙ c .before .before .before .before .if1 .left)
-    (sym (c .before .before .before .is-binary .ensures) ∙ c .before .before .if2 .left) (sym (c .before .is-joint .ensures) ∙ c .if4 .taken)
+    below-joint (a .kind) (a .level) (a .second) (sym (c .before .before .before .before .before .is-unary .ensures)
+    ∙ c .before .before .before .before .if1 .left)
+    (sym (c .before .before .before .is-binary .ensures) ∙ c .before .before .if2 .left)
+    (sym (c .before .is-joint .ensures) ∙ c .if4 .taken)
 
 returns-5 : tie.Need-returns-5
 returns-5 c =
     let a = c .before .before .before .before .before .before .args in
-    below-none (a .kind) (a .level) (a .second) (sym (c .before .before .before .before .before .is-unary .ensures) ∙ c .before .before .before .before .if1 .left)
-    (sym (c .before .before .before .is-binary .ensures) ∙ c .before .before .if2 .left) (sym (c .before .is-joint .ensures) ∙ c .if4 .left)
+    below-none (a .kind) (a .level) (a .second) (sym (c .before .before .before .before .before .is-unary .ensures)
+    ∙ c .before .before .before .before .if1 .left)
+    (sym (c .before .before .before .is-binary .ensures) ∙ c .before .before .if2 .left)
+    (sym (c .before .is-joint .ensures) ∙ c .if4 .left)
 
 pub level-below-spec : {M : Type 1} → statement M
 level-below-spec =

@@ -19,7 +19,8 @@ count-child-requires-2 c κs =
     let s = c .before .before .before in
     let a = s .args in
     let room : Room 65534 (c .before .count-child .last .0) =
-    room-more (fieldFrom (a .form / 4096 % 16)) (a .a) (a .notes .now) _ 65533 (c .before .count-child .ensures) (s .pre) in
+    room-more (fieldFrom (a .form / 4096 % 16)) (a .a) (a .notes .now) _ 65533 (c .before .count-child .ensures)
+    (s .pre) in
     (room .0, omega (arith, room .1 (a .b)))
 
 count-child-requires-3 : tie.Need-count-child-requires-3
@@ -27,7 +28,8 @@ count-child-requires-3 c κs =
     let s = c .before .before .before .before .before in
     let a = s .args in
     let room : Room 65534 (c .before .before .before .count-child .last .0) =
-    room-more (fieldFrom (a .form / 4096 % 16)) (a .a) (a .notes .now) _ 65533 (c .before .before .before .count-child .ensures) (s .pre) in
+    room-more (fieldFrom (a .form / 4096 % 16)) (a .a) (a .notes .now) _ 65533
+    (c .before .before .before .count-child .ensures) (s .pre) in
     let more : Room 65535 (c .before .count-child2 .last .0) =
     room-more (fieldFrom (a .form / 256 % 16)) (a .b) (c .before .before .before .count-child .last .0)
     (c .before .count-child2 .last .0) 65534 (c .before .count-child2 .ensures) room in

@@ -34,7 +34,8 @@ returns : tie.Need-returns
 returns c =
     let a = c .before .before .before .before .before .before .args in
     c .put-child3 .ensures
-    ∙ ap (λ (l : List ℕ). putIn (fieldFrom (a .form / 16 % 16)) (a .c) (a .w) l) (c .before .before .put-child2 .ensures)
+    ∙ ap (λ (l : List ℕ). putIn (fieldFrom (a .form / 16 % 16)) (a .c) (a .w) l)
+    (c .before .before .put-child2 .ensures)
     ∙ ap (λ (l : List ℕ). putIn (fieldFrom (a .form / 16 % 16)) (a .c) (a .w)
     (putIn (fieldFrom (a .form / 256 % 16)) (a .b) (a .v) l)) (c .before .before .before .before .put-child .ensures)
 

@@ -20,7 +20,8 @@ returns c =
     let l = languageOf (a .target) in
     let t = a .table .now in
     let x = c .form-of .result in
-    let k : Coded l (kindOf t (a .n)) x = subst (λ (k : ℕ). Coded l k x) (c .before .kind .ensures) (c .form-of .ensures) in
+    let k : Coded l (kindOf t (a .n)) x = subst (λ (k : ℕ). Coded l k x) (c .before .kind .ensures)
+    (c .form-of .ensures) in
     λ h. shape-last l t (a .n) x (c .before .before .if1 .taken) k
 
 returns-2 : tie.Need-returns-2

@@ -49,7 +49,8 @@ loop-again c =
     let l = c .before .before .before .loop in (
       omega arith,
       lowest-down (fault (a .target) (a .table .now)) (recordCount (a .table .now)) (l .n) (l .found)
-          (c .lower .result) _ (c .before .before .loop-test .taken) (l .inv .0) (ap (ltb 0) (c .before .record-fault .ensures))
+          (c .lower .result) _ (c .before .before .loop-test .taken) (l .inv .0)
+          (ap (ltb 0) (c .before .record-fault .ensures))
           (c .lower .ensures) (l .inv .1),
     )
 

@@ -125,8 +125,10 @@ loop-again c =
     let below : (y : ℕ) → bit r y ≡ ((eqb (kindOf t (e .n)) 47 && eqb (markOf t (e .n)) y) || bit scope y) =
     λ y. c .before .before .scope-below .ensures y ∙ (λ i. (eqb (ek i) 47 && eqb (em i) y) || bit scope y) in (
       omega arith,
-      known-down (Scoped l t) l t passed (s .pre .few) (e .n) (λ j. r) (e .notes) (c .pass-scope .last .1 .1 .1 .1 .0) taken
-          (e .inv .0) (c .pass-scope .ensures) (λ j p. scoped-child l t passed (e .n) j scope r p here below) (e .inv .1),
+      known-down (Scoped l t) l t passed (s .pre .few) (e .n) (λ j. r) (e .notes)
+          (c .pass-scope .last .1 .1 .1 .1 .0) taken
+          (e .inv .0) (c .pass-scope .ensures) (λ j p. scoped-child l t passed (e .n) j scope r p here below)
+          (e .inv .1),
       lowest-down (scopeFault l t) (recordCount t) (e .n) (e .found) (c .before .before .before .lower .result)
           (c .before .before .before .before .is-out-of-scope .result) taken (e .inv .0)
           (c .before .before .before .before .is-out-of-scope .ensures ∙ (λ i. outOfScope (ek i) (em i) scope)

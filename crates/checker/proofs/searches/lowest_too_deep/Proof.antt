@@ -97,11 +97,14 @@ loop-again c =
     let ek = c .before .before .before .before .kind .ensures in (
       omega arith,
       known-down (Levelled t) source t passed (s .pre .few) (e .n)
-          (λ j. levelBelow (kindOf t (e .n)) (eqb (childB t (e .n)) j) level) (e .notes) (c .pass-level .last .1 .1 .1 .0)
+          (λ j. levelBelow (kindOf t (e .n)) (eqb (childB t (e .n)) j) level) (e .notes)
+          (c .pass-level .last .1 .1 .1 .0)
           taken (e .inv .0) (c .pass-level .ensures) (λ j p. levelled-child t passed (e .n) j level p here) (e .inv .1),
-      lowest-down (levelFault t) (recordCount t) (e .n) (e .found) (c .before .before .lower .result) (c .before .before .before .is-too-deep .result)
+      lowest-down (levelFault t) (recordCount t) (e .n) (e .found) (c .before .before .lower .result)
+          (c .before .before .before .is-too-deep .result)
           taken (e .inv .0)
-          (c .before .before .before .is-too-deep .ensures ∙ ap (λ (k : ℕ). tooDeep k level) ek ∙ levelled-fault t (e .n) level here)
+          (c .before .before .before .is-too-deep .ensures ∙ ap (λ (k : ℕ). tooDeep k level) ek
+          ∙ levelled-fault t (e .n) level here)
           (c .before .before .lower .ensures) (e .inv .2),
     )
 

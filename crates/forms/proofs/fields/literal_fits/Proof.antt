@@ -51,14 +51,16 @@ returns-4 c =
     let s = c .before .before .before in
     let a = s .args in
     second (leZ (pos 1)) (λ z. leZ z (pos 256)) (a .z) (s .fits .z) (c .if4 .taken)
-    ∙ as-literal (a .digit) (a .z) _ (literal-statement (a .digit) (c .before .before .if1 .left) (c .before .if3 .left))
+    ∙ as-literal (a .digit) (a .z) _ (literal-statement (a .digit) (c .before .before .if1 .left)
+    (c .before .if3 .left))
 
 returns-5 : tie.Need-returns-5
 returns-5 c =
     let s = c .before .before .before in
     let a = s .args in
     refused (leZ (pos 1)) (λ z. leZ z (pos 256)) (a .z) (s .fits .z) (c .if4 .left)
-    ∙ as-literal (a .digit) (a .z) _ (literal-statement (a .digit) (c .before .before .if1 .left) (c .before .if3 .left))
+    ∙ as-literal (a .digit) (a .z) _ (literal-statement (a .digit) (c .before .before .if1 .left)
+    (c .before .if3 .left))
 
 pub literal-fits-spec : {M : Type 1} → statement M
 literal-fits-spec = tie.close (tie.spec returns returns-2 returns-3 returns-4 returns-5)
