@@ -14,10 +14,12 @@ demo: build/recorder
 test:
 	@tests/gate.sh
 
-# The C host.
-build/recorder: $(wildcard host/*.c host/*.h) include/recorder.h $(LIBRARY)
+# The C host, and the same with the compiler's sanitizers.
+build/recorder build/recorder-checked: $(wildcard host/*.c host/*.h) include/recorder.h $(LIBRARY)
 	@mkdir -p build
 	@gcc $(HOST_FLAGS) -Iinclude -o $@ $(wildcard host/*.c) $(LIBRARY)
+
+build/recorder-checked: HOST_FLAGS += -g -fsanitize=address,undefined -fno-sanitize-recover=all
 
 $(LIBRARY): $(LIBRARY_FILES)
 	@mkdir -p build

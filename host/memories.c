@@ -8,6 +8,8 @@
 #include "number.h"
 #include "recorder.h"
 
+enum { BLOCKS_BYTES = RECORDER_NAMES * RECORDER_BLOCK_BYTES };
+
 /* How a memory's parts are read: its states, and its units (cells or marks) behind the block records. */
 struct layout {
     const char *title;
@@ -50,7 +52,7 @@ static const struct layout OBSERVATION = {
 
 static const uint8_t *unit_at(const struct layout *layout, const uint8_t *memory, size_t index)
 {
-    return memory + RECORDER_NAMES * RECORDER_BLOCK_BYTES + index * layout->unit_bytes;
+    return memory + BLOCKS_BYTES + index * layout->unit_bytes;
 }
 
 /* "cell 3" or "cells 3 to 7", `end` being the first that no longer counts. */
