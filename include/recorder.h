@@ -10,7 +10,12 @@
  *   - allocates nothing, keeps nothing, and calls nothing but memcpy and memset. Calls may be made from several threads
  *     at once, each with buffers of its own to write to;
  *   - asks for pointers that are not null, also where a length is 0, and for buffers that do not overlap. Alignment
- *     does not matter. Lengths count bytes.
+ *     does not matter. Lengths count bytes;
+ *   - comes to an end: the work of a run is bounded by its table and its fuel.
+ *
+ * Stack: 128 KiB are enough for the checkers and the translator, 256 KiB for the plain run and 2 MiB for the watched
+ * run, whatever the table. Tests run the deepest tables in threads with so much; no proof speaks of the stack. A loop
+ * takes no more stack for more turns.
  *
  * All numbers in tables, inputs and memories are little-endian. The layouts stand below; docs/FORMATS.md has the kinds
  * of records one by one.
@@ -123,20 +128,20 @@ enum recorder_number {
 };
 
 /* Checks a source or a target table: 0 with record 0 where it is accepted.
- * Refusals: 1 to 8 for a source table, 1 to 7 for a target table. STACK_CHECK
+ * Refusals: 1 to 8 for a source table, 1 to 7 for a target table.
  */
 recorder_answer recorder_check_source(const uint8_t *table, size_t table_len);
 recorder_answer recorder_check_target(const uint8_t *table, size_t table_len);
 
 /* Translates a source table into the lent output, child-first: 0 with the record count. Bytes past the translation stay
  * as they were. recorder_check_target accepts every translation.
- * Refusals: 1 to 8, then 20. STACK_TRANSLATE
+ * Refusals: 1 to 8, then 20.
  */
 recorder_answer recorder_translate(const uint8_t *table, size_t table_len, uint8_t *out, size_t out_len);
 
 /* Runs a source table on 1 to 256 inputs, with fuel for its while tests: one unit goes for each. The run clears the
  * memory first, so what it held counts for nothing; afterwards it is as the run left it at its ending.
- * Refusals: 1 to 8, 9, then 21. Endings: 0, 30 to 33, 40 to 47. STACK_PLAIN
+ * Refusals: 1 to 8, 9, then 21. Endings: 0, 30 to 33, 40 to 47.
  */
 recorder_answer recorder_run_plain(const uint8_t *table, size_t table_len, const uint8_t *inputs, size_t inputs_len,
                                    uint32_t fuel, uint8_t *memory, size_t memory_len);
@@ -147,7 +152,7 @@ recorder_answer recorder_run_plain(const uint8_t *table, size_t table_len, const
  * With the translation of an accepted source table, equal inputs and equal fuel the answer and the execution memory are
  * those of the plain run. After ending 0 or 33 the observation memory mirrors the execution memory: block states 0, 1,
  * 2, 3 there are 0, 1, 1, 2 here with equal first and length, and a mark is 1 where the cell holds an integer or a
- * pointer. STACK_WATCHED
+ * pointer.
  */
 recorder_answer recorder_run_watched(const uint8_t *table, size_t table_len, const uint8_t *inputs, size_t inputs_len,
                                      uint32_t fuel, uint8_t *memory, size_t memory_len, uint8_t *observation,
