@@ -5,11 +5,13 @@ export CARGO_TARGET_DIR := $(CURDIR)/build/cargo
 LIBRARY := target/staticlib/librecorder.a
 LIBRARY_FILES := crates.txt $(shell find crates -type f -not -path '*/must-fail/*')
 HOST_FLAGS := -std=c11 -O2 -Wall -Wextra -Wpedantic -Wconversion -Wshadow -Werror
+EXAMPLE := examples/two-assertions.txt
 
 .PHONY: demo test
 
 demo: build/recorder
-	@build/recorder demo examples/two-assertions.txt --inputs 7,9 --fuel 100
+	@sed -n '/^# number/q; s/^# \{0,1\}//p' $(EXAMPLE)
+	@build/recorder demo $(EXAMPLE) --inputs 7,9 --fuel 100
 
 test:
 	@tests/gate.sh

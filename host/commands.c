@@ -17,12 +17,18 @@ static uint8_t plain_memory[LENT_ROOM];
 static uint8_t watched_memory[LENT_ROOM];
 static uint8_t observation[LENT_ROOM];
 
+static void tell_records(const char *what, size_t length)
+{
+    size_t records = length / RECORDER_RECORD_BYTES;
+    printf("%s, %zu record%s\n", what, records, records == 1 ? "" : "s");
+}
+
 static int check(bool is_target)
 {
     recorder_answer answer = is_target ? recorder_check_target(read_in.bytes, read_in.length)
                                        : recorder_check_source(read_in.bytes, read_in.length);
     if (answer.number == RECORDER_DONE)
-        printf("check: accepted, records %zu\n", read_in.length / RECORDER_RECORD_BYTES);
+        tell_records("check: accepted", read_in.length);
     return tell_refusal("check", answer);
 }
 
@@ -40,7 +46,7 @@ static size_t length_of(recorder_answer translated)
 static int tell_translation(recorder_answer answer)
 {
     if (answer.number == RECORDER_DONE)
-        printf("translation: records %" PRIu32 "\n", answer.record);
+        tell_records("translation: done", length_of(answer));
     return tell_refusal("translation", answer);
 }
 
@@ -141,19 +147,23 @@ static int run_both(const struct arguments *given, size_t target_length)
     return STATUS_DONE;
 }
 
+static void print_titled(const char *title, const uint8_t *bytes, size_t length)
+{
+    printf("%s (number, kind, mark, A, B, C, literal)\n", title);
+    table_print(bytes, length);
+}
+
 int demo_command(const struct arguments *given)
 {
     int status = table_read(given->file, &read_in);
     if (status != STATUS_DONE)
         return status;
-    printf("one line a record: number, kind, mark, A, B, C, literal\n\n");
-    table_print(read_in.bytes, read_in.length);
+    print_titled("source table", read_in.bytes, read_in.length);
     status = check(false);
     if (status != STATUS_DONE)
         return status;
     recorder_answer translated = translate(LENT_ROOM);
-    printf("\n");
-    table_print(target, length_of(translated));
+    print_titled("\ntarget table", target, length_of(translated));
     tell_translation(translated);
     printf("\n");
     return run_both(given, length_of(translated));

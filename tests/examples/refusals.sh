@@ -53,7 +53,7 @@ done
 
 # The lent buffers, tried after the inputs, and the observation memory last.
 expect 20 'refusal 20 (output shorter than the translation)' translate examples/P1.txt --output-bytes 111
-expect 0 'translation: records 7' translate examples/P1.txt --output-bytes 112
+expect 0 'translation: done, 7 records' translate examples/P1.txt --output-bytes 112
 for bytes in 0 18423 18425; do
     expect 21 'refusal 21 (execution memory not 18424 bytes)' run examples/P1.txt --memory-bytes "$bytes"
     expect 21 'refusal 21 (' watch examples/P1.txt --memory-bytes "$bytes" --observation-bytes 0
