@@ -18,11 +18,23 @@ fn check(compiled: Check, second: Check, table: &[u8], margin: usize, what: Argu
 }
 
 pub fn check_source(table: &[u8], margin: usize, what: Arguments) -> u32 {
-    check(library::check_source, checker::check_source, table, margin, what)
+    check(
+        library::check_source,
+        checker::check_source,
+        table,
+        margin,
+        what,
+    )
 }
 
 pub fn check_target(table: &[u8], margin: usize, what: Arguments) -> u32 {
-    check(library::check_target, checker::check_target, table, margin, what)
+    check(
+        library::check_target,
+        checker::check_target,
+        table,
+        margin,
+        what,
+    )
 }
 
 /// With these bytes in the output before the call.
@@ -31,7 +43,12 @@ pub fn translate(table: &[u8], output: &[u8], margin: usize, what: Arguments) ->
     let mut lent_output = Lent::new(output, margin);
     let mut expected = output.to_vec();
     let answer = library::translate(lent_table.bytes(), lent_output.bytes_mut());
-    assert_eq!(answer, translator::translate(table, &mut expected), "{what}, output {}", output.len());
+    assert_eq!(
+        answer,
+        translator::translate(table, &mut expected),
+        "{what}, output {}",
+        output.len()
+    );
     lent_table.assert_is(table, "table", what);
     lent_output.assert_is(&expected, "output", what);
     answer.number

@@ -33,7 +33,10 @@ impl Lent {
 
     /// Every byte is as expected, and the guards are untouched.
     pub fn assert_is(&self, expected: &[u8], name: &str, what: Arguments) {
-        assert!(self.bytes() == expected, "{what}: bytes of the {name} differ");
+        assert!(
+            self.bytes() == expected,
+            "{what}: bytes of the {name} differ"
+        );
         let (before, rest) = self.bytes.split_at(self.margin);
         let after = &rest[expected.len()..];
         let untouched = before.iter().chain(after).all(|&byte| byte == GUARD);

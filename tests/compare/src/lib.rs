@@ -20,7 +20,10 @@ where
     let mut generator = Generator::new(seed);
     let mut found = BTreeSet::new();
     for case in 0..cases {
-        found.extend(compare(&mut generator, format_args!("seed {seed}, case {case}")));
+        found.extend(compare(
+            &mut generator,
+            format_args!("seed {seed}, case {case}"),
+        ));
     }
     found
 }

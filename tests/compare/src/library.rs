@@ -14,7 +14,12 @@ struct Returned {
 extern "C" {
     fn recorder_check_source(table: *const u8, table_len: usize) -> Returned;
     fn recorder_check_target(table: *const u8, table_len: usize) -> Returned;
-    fn recorder_translate(table: *const u8, table_len: usize, out: *mut u8, out_len: usize) -> Returned;
+    fn recorder_translate(
+        table: *const u8,
+        table_len: usize,
+        out: *mut u8,
+        out_len: usize,
+    ) -> Returned;
     fn recorder_run_plain(
         table: *const u8,
         table_len: usize,
@@ -27,7 +32,12 @@ extern "C" {
 }
 
 fn answer(returned: Returned) -> Answer {
-    Answer::ending(returned.number, returned.record, returned.fuel, returned.free_cells)
+    Answer::ending(
+        returned.number,
+        returned.record,
+        returned.fuel,
+        returned.free_cells,
+    )
 }
 
 pub fn check_source(table: &[u8]) -> Answer {
@@ -41,9 +51,7 @@ pub fn check_target(table: &[u8]) -> Answer {
 
 pub fn translate(table: &[u8], out: &mut [u8]) -> Answer {
     // The two slices do not overlap, as a shared and an exclusive reference.
-    answer(unsafe {
-        recorder_translate(table.as_ptr(), table.len(), out.as_mut_ptr(), out.len())
-    })
+    answer(unsafe { recorder_translate(table.as_ptr(), table.len(), out.as_mut_ptr(), out.len()) })
 }
 
 pub fn run_plain(table: &[u8], inputs: &[u8], fuel: u32, memory: &mut [u8]) -> Answer {

@@ -9,7 +9,11 @@ const TABLES: u64 = 50_000;
 #[test]
 fn accepted_sources() {
     let found = numbers(11, TABLES, |generator, what| {
-        [agree::check_source(&generator.accepted_source(), GUARDED, what)]
+        [agree::check_source(
+            &generator.accepted_source(),
+            GUARDED,
+            what,
+        )]
     });
     assert_eq!(found, BTreeSet::from([0]));
 }
@@ -17,7 +21,11 @@ fn accepted_sources() {
 #[test]
 fn damaged_sources() {
     let found = numbers(12, TABLES, |generator, what| {
-        [agree::check_source(&generator.damaged_source(), GUARDED, what)]
+        [agree::check_source(
+            &generator.damaged_source(),
+            GUARDED,
+            what,
+        )]
     });
     assert_eq!(found, (0..=8).collect());
 }
@@ -33,7 +41,11 @@ fn accepted_targets() {
 #[test]
 fn damaged_targets() {
     let found = numbers(14, TABLES, |generator, what| {
-        [agree::check_target(&generator.damaged_target(), GUARDED, what)]
+        [agree::check_target(
+            &generator.damaged_target(),
+            GUARDED,
+            what,
+        )]
     });
     assert_eq!(found, (0..=7).collect());
 }

@@ -24,9 +24,8 @@ fn translator() {
     numbers(52, CASES, |generator, what| {
         let table = generator.source_case().table;
         let exact = translation(&table).map_or(16, |translation| translation.records.len() * 16);
-        [exact - 1, exact, exact + 40].map(|length| {
-            agree::translate(&table, &generator.random.bytes(length), EXACT, what)
-        })
+        [exact - 1, exact, exact + 40]
+            .map(|length| agree::translate(&table, &generator.random.bytes(length), EXACT, what))
     });
 }
 

@@ -39,7 +39,9 @@ fn source_in_small_stacks(table: Vec<u8>, fuel: u32) {
 fn plain_in_small_stack(table: Vec<u8>, fuel: u32) -> Answer {
     let given = inputs(&[7, 9]);
     let mut memory = vec![0; EXECUTION_BYTES];
-    in_stack_of(PLAIN_STACK, move || library::run_plain(&table, &given, fuel, &mut memory))
+    in_stack_of(PLAIN_STACK, move || {
+        library::run_plain(&table, &given, fuel, &mut memory)
+    })
 }
 
 #[test]
@@ -103,7 +105,10 @@ fn deepest_mixture() {
 
 fn target_in_small_stack(table: Vec<u8>) {
     assert_eq!(checker::check_target(&table), Answer::ACCEPTED);
-    assert_eq!(in_stack_of(CHECK_STACK, move || library::check_target(&table)), Answer::ACCEPTED);
+    assert_eq!(
+        in_stack_of(CHECK_STACK, move || library::check_target(&table)),
+        Answer::ACCEPTED
+    );
 }
 
 /// 4,095 records below the last, each the child of the next.
