@@ -27,26 +27,25 @@ static void set_inputs(const int64_t *numbers, size_t count, struct arguments *i
     into->inputs_length = count * RECORDER_INPUT_BYTES;
 }
 
+/* Reads numbers with commas between them; an empty list is one of no inputs. */
 static int read_inputs(const char *option, const char *value, struct arguments *into)
 {
     int64_t numbers[INPUTS_ROOM / RECORDER_INPUT_BYTES];
     size_t count = 0;
     const char *rest = value;
-    /* An empty list is one of no inputs. */
-    while (*value != '\0') {
+    bool is_more = *value != '\0';
+    while (is_more) {
         char number[32];
         size_t length = strcspn(rest, ",");
         if (count == sizeof numbers / sizeof numbers[0])
             return bad_value(option, value, "at most 512 numbers");
-        if (length >= sizeof number)
-            return bad_value(option, value, "numbers of 64 bits with commas between them");
-        memcpy(number, rest, length);
-        number[length] = '\0';
+        size_t copied = length < sizeof number ? length : 0;
+        memcpy(number, rest, copied);
+        number[copied] = '\0';
         if (!number_from_text(number, INT64_MIN, INT64_MAX, &numbers[count]))
             return bad_value(option, value, "numbers of 64 bits with commas between them");
         count++;
-        if (rest[length] == '\0')
-            break;
+        is_more = rest[length] == ',';
         rest += length + 1;
     }
     set_inputs(numbers, count, into);
@@ -157,7 +156,7 @@ static int read_option(const struct command *command, int count, char *const *wo
     return option->read(name, words[*at], into);
 }
 
-int arguments_read(const struct command *command, int count, char *const *words, struct arguments *into)
+static void set_defaults(struct arguments *into)
 {
     *into = (struct arguments){
         .fuel = DEFAULT_FUEL,
@@ -166,6 +165,11 @@ int arguments_read(const struct command *command, int count, char *const *words,
         .observation_length = RECORDER_OBSERVATION_BYTES,
     };
     set_inputs(DEFAULT_INPUTS, sizeof DEFAULT_INPUTS / sizeof DEFAULT_INPUTS[0], into);
+}
+
+int arguments_read(const struct command *command, int count, char *const *words, struct arguments *into)
+{
+    set_defaults(into);
     for (int at = 0; at < count; at++) {
         bool is_option = strncmp(words[at], "--", 2) == 0;
         int status = is_option ? read_option(command, count, words, &at, into) : read_file(command, words[at], into);

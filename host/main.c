@@ -30,7 +30,7 @@ static const char USAGE[] =
     "  --observation-bytes N   lend a watched run N bytes of observation memory\n"
     "\n"
     "The exit status is the number of the refusal or the ending, 0 where there is none;\n"
-    "64 wrong usage, 65 the file is no table, 66 a file cannot be read, 70 the runs of a\n"
+    "64 wrong usage, 65 a file is no table or too long, 66 a file cannot be read, 70 the runs of a\n"
     "demo part, 73 a file cannot be written.\n";
 
 enum { RUN_OPTIONS = OPTION_INPUTS | OPTION_FUEL | OPTION_MEMORY };

@@ -5,7 +5,7 @@
 enum {
     STATUS_DONE = 0,
     STATUS_USAGE = 64,  /* wrong command, missing or wrong argument */
-    STATUS_TABLE = 65,  /* the file's text is no table, or the file is too long */
+    STATUS_TABLE = 65,  /* a file is no table, or longer than what may be lent */
     STATUS_READ = 66,   /* a file cannot be read */
     STATUS_PARTED = 70, /* demo: plain and watched run came out differently */
     STATUS_WRITE = 73   /* a file or the standard output cannot be written */

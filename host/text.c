@@ -50,32 +50,53 @@ static char *next_word(char **rest)
     return length == 0 ? NULL : word;
 }
 
+/* Reads one field of a record from a word, or from none where the line has ended. */
+static bool field_from_word(const struct field *field, const char *word, int64_t *value, struct place where)
+{
+    if (word == NULL) {
+        fprintf(complain(where), "%s is missing; a record is: number kind mark A B C literal\n", field->name);
+        return false;
+    }
+    if (!number_from_text(word, field->low, field->high, value)) {
+        fprintf(complain(where), "'%s' is no %s, a number from %" PRId64 " to %" PRId64 "\n", word, field->name,
+                field->low, field->high);
+        return false;
+    }
+    return true;
+}
+
 /* Reads the fields of record `number` from a line that has at least one word. */
 static bool record_from_line(char *line, size_t number, uint8_t *record, struct place where)
 {
     for (size_t at = 0; at < FIELD_COUNT; at++) {
-        const struct field *field = &FIELDS[at];
-        const char *word = next_word(&line);
         int64_t value = 0;
-        if (word == NULL) {
-            fprintf(complain(where), "%s is missing; a record is: number kind mark A B C literal\n", field->name);
+        if (!field_from_word(&FIELDS[at], next_word(&line), &value, where))
             return false;
-        }
-        if (!number_from_text(word, field->low, field->high, &value)) {
-            fprintf(complain(where), "'%s' is no %s, a number from %" PRId64 " to %" PRId64 "\n", word, field->name,
-                    field->low, field->high);
-            return false;
-        }
         if (at == 0 && (uint64_t)value != number) {
             fprintf(complain(where), "the record is numbered %" PRId64 ", and its place is %zu\n", value, number);
             return false;
         }
-        number_to_bytes(value, record + field->at, field->width);
+        number_to_bytes(value, record + FIELDS[at].at, FIELDS[at].width);
     }
     const char *word = next_word(&line);
     if (word != NULL)
         fprintf(complain(where), "'%s' stands after the literal\n", word);
     return word == NULL;
+}
+
+/* Adds the record of a line, if it has one. */
+static bool add_line(char *line, struct table *into, struct place where)
+{
+    line[strcspn(line, "#")] = '\0';
+    if (line[strspn(line, SPACES)] == '\0')
+        return true;
+    if (into->length + RECORDER_RECORD_BYTES > sizeof into->bytes) {
+        fprintf(complain(where), "more records than any table has\n");
+        return false;
+    }
+    uint8_t *record = into->bytes + into->length;
+    into->length += RECORDER_RECORD_BYTES;
+    return record_from_line(line, into->length / RECORDER_RECORD_BYTES, record, where);
 }
 
 int table_from_text(FILE *file, const char *path, struct table *into)
@@ -89,16 +110,7 @@ int table_from_text(FILE *file, const char *path, struct table *into)
             fprintf(complain(where), "longer than %zu characters\n", sizeof line - 2);
             return STATUS_TABLE;
         }
-        line[strcspn(line, "#")] = '\0';
-        if (line[strspn(line, SPACES)] == '\0')
-            continue;
-        if (into->length + RECORDER_RECORD_BYTES > sizeof into->bytes) {
-            fprintf(complain(where), "more records than any table has\n");
-            return STATUS_TABLE;
-        }
-        uint8_t *record = into->bytes + into->length;
-        into->length += RECORDER_RECORD_BYTES;
-        if (!record_from_line(line, into->length / RECORDER_RECORD_BYTES, record, where))
+        if (!add_line(line, into, where))
             return STATUS_TABLE;
     }
     return STATUS_DONE;

@@ -4,6 +4,13 @@
  * the watched run runs that with an observation memory beside the execution memory. Link target/staticlib/librecorder.a
  * (`rt check recorder && rt staticlib recorder` write it; x86-64). host/ is a program over this header.
  *
+ *     uint8_t target[RECORDER_TRANSLATION_BYTES];
+ *     uint8_t memory[RECORDER_MEMORY_BYTES], observation[RECORDER_OBSERVATION_BYTES];
+ *     recorder_answer answer = recorder_translate(table, table_len, target, sizeof target);
+ *     if (answer.number == RECORDER_DONE)
+ *         answer = recorder_run_watched(target, (size_t)answer.record * RECORDER_RECORD_BYTES, inputs, inputs_len,
+ *                                       fuel, memory, sizeof memory, observation, sizeof observation);
+ *
  * Every function
  *   - takes any bytes, of any length: a wrong table, wrong inputs and wrong buffers are refused by number;
  *   - returns one recorder_answer and, when it refuses, writes no lent byte;
