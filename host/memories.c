@@ -10,6 +10,9 @@
 
 enum { BLOCKS_BYTES = RECORDER_NAMES * RECORDER_BLOCK_BYTES };
 
+_Static_assert(RECORDER_MEMORY_BYTES == BLOCKS_BYTES + RECORDER_CELLS * RECORDER_CELL_BYTES, "execution memory");
+_Static_assert(RECORDER_OBSERVATION_BYTES == BLOCKS_BYTES + RECORDER_CELLS, "observation memory");
+
 /* How a memory's parts are read: its states, and its units (cells or marks) behind the block records. */
 struct layout {
     const char *title;
