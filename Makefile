@@ -2,10 +2,29 @@
 # make test: the gate, which .ci/run calls.
 export CARGO_TARGET_DIR := $(CURDIR)/build/cargo
 
+LIBRARY := target/staticlib/librecorder.a
+LIBRARY_FILES := crates.txt $(shell find crates -type f -not -path '*/must-fail/*')
+HOST_FLAGS := -std=c11 -O2 -Wall -Wextra -Wpedantic -Wconversion -Wshadow -Werror
+EXAMPLE := examples/two-assertions.txt
+
 .PHONY: demo test
 
-demo:
-	@cargo run --release --offline --quiet --manifest-path tests/reference/Cargo.toml --example demo
+demo: build/recorder
+	@sed -n '/^# number/q; s/^# \{0,1\}//p' $(EXAMPLE)
+	@build/recorder demo $(EXAMPLE) --inputs 7,9 --fuel 100
 
 test:
 	@tests/gate.sh
+
+# The C host, and the same with the compiler's sanitizers.
+build/recorder build/recorder-checked: $(wildcard host/*.c host/*.h) include/recorder.h $(LIBRARY)
+	@mkdir -p build
+	@gcc $(HOST_FLAGS) -Iinclude -o $@ $(wildcard host/*.c) $(LIBRARY)
+
+build/recorder-checked: HOST_FLAGS += -g -fsanitize=address,undefined -fno-sanitize-recover=all
+
+$(LIBRARY): $(LIBRARY_FILES)
+	@mkdir -p build
+	@echo "proving and compiling the library, which takes some minutes the first time (build/library.log)"
+	@(rt check recorder && rt staticlib recorder) > build/library.log 2>&1 || (tail build/library.log; exit 1)
+	@touch $@

@@ -1,7 +1,31 @@
-/* The watched recorder's checker, translator and plain run, for a C host. The library is librecorder.a (`rt staticlib recorder`).
+/* The watched recorder for a C host: two checkers, a translator, a plain run and a watched run.
  *
- * A table is records of 16 bytes without a header, numbered from 1: kind, mark, children A, B, C in two bytes each,
- * and a signed 64-bit literal, all little-endian. docs/FORMATS.md lists the kinds.
+ * A channel program comes as a source table. The plain run runs it. The translator turns it into a target table, and
+ * the watched run runs that with an observation memory beside the execution memory. Link target/staticlib/librecorder.a
+ * (`rt check recorder && rt staticlib recorder` write it; x86-64). host/ is a program over this header.
+ *
+ *     uint8_t target[RECORDER_TRANSLATION_BYTES];
+ *     uint8_t memory[RECORDER_MEMORY_BYTES], observation[RECORDER_OBSERVATION_BYTES];
+ *     recorder_answer answer = recorder_translate(table, table_len, target, sizeof target);
+ *     if (answer.number == RECORDER_DONE)
+ *         answer = recorder_run_watched(target, (size_t)answer.record * RECORDER_RECORD_BYTES, inputs, inputs_len,
+ *                                       fuel, memory, sizeof memory, observation, sizeof observation);
+ *
+ * Every function
+ *   - takes any bytes, of any length: a wrong table, wrong inputs and wrong buffers are refused by number;
+ *   - returns one recorder_answer and, when it refuses, writes no lent byte;
+ *   - allocates nothing, keeps nothing, and calls nothing but memcpy and memset. Calls may be made from several threads
+ *     at once, each with buffers of its own to write to;
+ *   - asks for pointers that are not null, also where a length is 0, and for buffers that do not overlap. Alignment
+ *     does not matter. Lengths count bytes;
+ *   - comes to an end: the work of a run is bounded by its table and its fuel.
+ *
+ * Stack: 128 KiB are enough for the checkers and the translator, 256 KiB for the plain run and 2 MiB for the watched
+ * run, whatever the table. Tests run the deepest tables in threads with so much; no proof speaks of the stack. A loop
+ * takes no more stack for more turns.
+ *
+ * All numbers in tables, inputs and memories are little-endian. The layouts stand below; docs/FORMATS.md has the kinds
+ * of records one by one.
  */
 #ifndef RECORDER_H
 #define RECORDER_H
@@ -9,54 +33,140 @@
 #include <stddef.h>
 #include <stdint.h>
 
+#ifdef __cplusplus
+extern "C" {
+#endif
+
+/* Sizes. */
+enum {
+    RECORDER_RECORD_BYTES = 16,
+    RECORDER_SOURCE_RECORDS = 256,       /* at most, in a source table */
+    RECORDER_TARGET_RECORDS = 4096,      /* at most, in a target table */
+    RECORDER_TRANSLATION_BYTES = 57344,  /* hold any translation: at most 14 records from each source record */
+    RECORDER_INPUT_BYTES = 8,            /* an input is a signed 64-bit number */
+    RECORDER_INPUTS = 256,               /* at most; at least 1 */
+    RECORDER_NAMES = 255,                /* block names run from 1 to 255 */
+    RECORDER_CELLS = 1024,               /* and as many marks */
+    RECORDER_BLOCK_BYTES = 8,            /* a block record, in both memories */
+    RECORDER_CELL_BYTES = 16,
+    RECORDER_MEMORY_BYTES = 18424,       /* 255 block records of 8, then 1,024 cells of 16 */
+    RECORDER_OBSERVATION_BYTES = 3064    /* 255 block records of 8, then 1,024 marks of 1 */
+};
+
+/* A table: records of 16 bytes without a header, numbered from 1.
+ *
+ *   byte 0       kind
+ *   byte 1       mark
+ *   bytes 2-3    child A, a record number; 0 is none
+ *   bytes 4-5    child B
+ *   bytes 6-7    child C
+ *   bytes 8-15   literal, signed
+ *
+ * Children have smaller numbers than their parent, the last record is a statement, and each other record is a child
+ * exactly once. Fields that a kind does not name are zero. In a target table the literal of a statement is the number
+ * of the source statement that it came from.
+ *
+ * Execution memory: a block record for each name, name 1 first, then the cells, cell 0 first.
+ *
+ *   block: byte 0     state: 0 unused, 1 live and fixed, 2 live and freeable, 3 dead
+ *          byte 1     0
+ *          bytes 2-3  first cell         (0 unless live)
+ *          bytes 4-5  length in cells    (0 unless live)
+ *          bytes 6-7  0
+ *   cell:  byte 0     kind: 0 free, 1 undefined, 2 integer, 3 pointer
+ *          byte 1     owner: the name of its block       (0 when free)
+ *          byte 2     the name pointed to                (0 unless a pointer)
+ *          bytes 3-7  0
+ *          bytes 8-15 the integer, or the pointer's offset, signed
+ *
+ * Observation memory: block records with state 0 unused, 1 live, 2 dead, and otherwise alike, the first counting marks;
+ * then the marks, 1 where the cell is initialised and else 0.
+ *
+ * Block 1 is variable 0: one cell, pointing to block 2, which holds the inputs. Neither can be freed.
+ */
+
 /* What every function returns, by value. */
 typedef struct recorder_answer {
-    uint32_t number;     /* 0, or the number of a refusal or an ending */
+    uint32_t number;     /* 0, or the number of a refusal or an ending: enum recorder_number */
     uint32_t record;     /* the refused record, 0 where there is none; a translation's record count; or the source
                           * statement at which a run ended, 0 where it finished */
     uint32_t fuel;       /* a run's fuel left, else 0 */
     uint32_t free_cells; /* a run's free cells, else 0 */
 } recorder_answer;
 
-/* Checks a table of any bytes and any length; nothing is written and nothing is kept. An accepted table is answered 0
- * with record 0. Refusals are tried in this order; within one number the lowest record is named, and 3 to 5 are tried
- * record by record:
- *   1  length 0 or no multiple of 16
- *   2  too many records: over 256 in a source table, over 4,096 in a target table
- *   3  kind not in the language
- *   4  mark, operator, query, literal or child presence against the rules
- *   5  child not smaller or of the wrong sort
- *   6  shape: the last record is no statement, or another is not a child exactly once
- *   7  variable used out of scope, or let while in scope
- *   8  (source tables) a term or predicate whose own target records name a temporary above 63
+/* The numbers that an answer may carry. */
+enum recorder_number {
+    RECORDER_DONE = 0, /* accepted, translated, or the run finished */
+
+    /* Refusals because of the input. They are tried in this order; within one number the lowest record is named, and 3
+     * to 5 are tried record by record. 1, 2 and 9 name no record. */
+    RECORDER_BAD_LENGTH = 1,       /* table: length 0 or no multiple of 16 */
+    RECORDER_TOO_MANY_RECORDS = 2,
+    RECORDER_BAD_KIND = 3,         /* kind not in the language */
+    RECORDER_BAD_FIELD = 4,        /* mark, operator, query, literal or child presence against the rules */
+    RECORDER_BAD_CHILD = 5,        /* child not smaller or of the wrong sort */
+    RECORDER_BAD_SHAPE = 6,        /* the last record is no statement, or another is not a child exactly once */
+    RECORDER_BAD_SCOPE = 7,        /* variable used out of scope, or let while in scope */
+    RECORDER_TOO_DEEP = 8,         /* source table: a term or predicate needs a temporary above 63 */
+    RECORDER_BAD_INPUTS = 9,       /* no multiple of 8 bytes, none, or over 256 */
+
+    /* Refusals because of a lent buffer, tried after those. They name no record. */
+    RECORDER_SHORT_OUTPUT = 20,    /* output shorter than the translation */
+    RECORDER_BAD_MEMORY = 21,      /* execution memory not 18,424 bytes */
+    RECORDER_BAD_OBSERVATION = 22, /* observation memory not 3,064 bytes */
+
+    /* Endings of a run. */
+    RECORDER_NO_CELLS = 30,        /* no run of free cells long enough */
+    RECORDER_NO_NAMES = 31,        /* all names given */
+    RECORDER_NO_FUEL = 32,         /* fuel is 0 at a while test */
+    RECORDER_ASSERTION_FALSE = 33,
+    RECORDER_WRONG_SORT = 40,      /* wrong sort of value */
+    RECORDER_UNDEFINED_READ = 41,  /* undefined cell read */
+    RECORDER_NO_CELL = 42,         /* cell in a dead block or outside */
+    RECORDER_OVERFLOW = 43,
+    RECORDER_ZERO_DIVISOR = 44,
+    RECORDER_BAD_SIZE = 45,        /* size below 1 */
+    RECORDER_BAD_FREE = 46,        /* free of a pointer to anything but the first cell of a live freeable block */
+    RECORDER_NOT_LIVE = 47,        /* base, offset or length of a block not live */
+
+    /* Endings of a watched run only, and never of a translation's. */
+    RECORDER_CONTRADICTION = 48,   /* call that contradicts the observation memory's record */
+    RECORDER_EMPTY_TEMPORARY = 49
+};
+
+/* Checks a source or a target table: 0 with record 0 where it is accepted.
+ * Refusals: 1 to 8 for a source table, 1 to 7 for a target table.
  */
 recorder_answer recorder_check_source(const uint8_t *table, size_t table_len);
 recorder_answer recorder_check_target(const uint8_t *table, size_t table_len);
 
-/* Translates a source table into the lent output: 16 bytes a record, child-first. The answer is 0 and the record count;
- * bytes past the translation stay. At most 14 target records come from each source record, so 57,344 bytes hold any
- * translation. Refusals: 1 to 8 as above, then
- *   20 output shorter than the translation
- * A refused call writes no byte of the output. The table and the output must not overlap.
+/* Translates a source table into the lent output, child-first: 0 with the record count. Bytes past the translation stay
+ * as they were. recorder_check_target accepts every translation.
+ * Refusals: 1 to 8, then 20.
  */
 recorder_answer recorder_translate(const uint8_t *table, size_t table_len, uint8_t *out, size_t out_len);
 
-/* Runs a source table on 1 to 256 inputs of 8 bytes each, with fuel for its while tests. The memory is 18,424 bytes,
- * laid out as docs/FORMATS.md says; a run clears it first, and what it held counts for nothing.
- * Refusals: 1 to 8 as above, then
- *   9  inputs no multiple of 8 bytes, none, or over 256
- *   21 memory not 18,424 bytes
- * A refused call writes no byte of the memory. Endings:
- *   0  finished (statement 0)             41 undefined cell read
- *   30 no run of free cells long enough   42 cell in a dead block or outside
- *   31 all names given                    43 overflow
- *   32 fuel is 0 at a while test          44 zero divisor
- *   33 assertion false                    45 size below 1
- *   40 wrong sort of value                46 free of anything but a freeable block's first cell
- *                                         47 base, offset or length of a block not live
- * The buffers must not overlap. The call's own frames hold some 84 KiB; the descent of the table adds to that.
+/* Runs a source table on 1 to 256 inputs, with fuel for its while tests: one unit goes for each. The run clears the
+ * memory first, so what it held counts for nothing; afterwards it is as the run left it at its ending.
+ * Refusals: 1 to 8, 9, then 21. Endings: 0, 30 to 33, 40 to 47.
  */
 recorder_answer recorder_run_plain(const uint8_t *table, size_t table_len, const uint8_t *inputs, size_t inputs_len,
                                    uint32_t fuel, uint8_t *memory, size_t memory_len);
+
+/* Runs a target table, a translation or any other, on both memories, which it clears first.
+ * Refusals: 1 to 7, 9, 21, then 22. Endings: 0, 30 to 33, 40 to 49.
+ *
+ * With the translation of an accepted source table, equal inputs and equal fuel the answer and the execution memory are
+ * those of the plain run. After ending 0 or 33 the observation memory mirrors the execution memory: block states 0, 1,
+ * 2, 3 there are 0, 1, 1, 2 here with equal first and length, and a mark is 1 where the cell holds an integer or a
+ * pointer.
+ */
+recorder_answer recorder_run_watched(const uint8_t *table, size_t table_len, const uint8_t *inputs, size_t inputs_len,
+                                     uint32_t fuel, uint8_t *memory, size_t memory_len, uint8_t *observation,
+                                     size_t observation_len);
+
+#ifdef __cplusplus
+}
+#endif
 
 #endif

@@ -17,5 +17,6 @@ cargo test --release --offline --manifest-path tests/reference/Cargo.toml
 # The compiled library against the second implementation.
 rt staticlib recorder
 cargo test --release --offline --manifest-path tests/compare/Cargo.toml
+tests/valgrind.sh
 
 echo "$verdict"

@@ -1,51 +1,65 @@
 //! The compiled checker answers as the second implementation does.
 
-use reference::generator::Generator;
-use reference::{checker, Answer};
+use compare::lent::GUARDED;
+use compare::{agree, numbers};
 use std::collections::BTreeSet;
 
 const TABLES: u64 = 50_000;
 
-type Check = fn(&[u8]) -> Answer;
-type Make = fn(&mut Generator) -> Vec<u8>;
-
-/// Compares on seeded tables and returns the numbers that came.
-fn compare(compiled: Check, second: Check, make: Make, seed: u64) -> BTreeSet<u32> {
-    let mut generator = Generator::new(seed);
-    let mut numbers = BTreeSet::new();
-    for case in 0..TABLES {
-        let table = make(&mut generator);
-        let expected = second(&table);
-        assert_eq!(compiled(&table), expected, "seed {seed}, case {case}, table {table:?}");
-        numbers.insert(expected.number);
-    }
-    numbers
-}
-
 #[test]
 fn accepted_sources() {
-    let make: Make = |generator| generator.accepted_source();
-    let numbers = compare(compare::check_source, checker::check_source, make, 11);
-    assert_eq!(numbers, BTreeSet::from([0]));
+    let found = numbers(11, TABLES, |generator, what| {
+        [agree::check_source(
+            &generator.accepted_source(),
+            GUARDED,
+            what,
+        )]
+    });
+    assert_eq!(found, BTreeSet::from([0]));
 }
 
 #[test]
 fn damaged_sources() {
-    let make: Make = |generator| generator.damaged_source();
-    let numbers = compare(compare::check_source, checker::check_source, make, 12);
-    assert_eq!(numbers, (0..=8).collect());
+    let found = numbers(12, TABLES, |generator, what| {
+        [agree::check_source(
+            &generator.damaged_source(),
+            GUARDED,
+            what,
+        )]
+    });
+    assert_eq!(found, (0..=8).collect());
 }
 
 #[test]
 fn accepted_targets() {
-    let make: Make = |generator| generator.target();
-    let numbers = compare(compare::check_target, checker::check_target, make, 13);
-    assert_eq!(numbers, BTreeSet::from([0]));
+    let found = numbers(13, TABLES, |generator, what| {
+        [agree::check_target(&generator.target(), GUARDED, what)]
+    });
+    assert_eq!(found, BTreeSet::from([0]));
 }
 
 #[test]
 fn damaged_targets() {
-    let make: Make = |generator| generator.damaged_target();
-    let numbers = compare(compare::check_target, checker::check_target, make, 14);
-    assert_eq!(numbers, (0..=7).collect());
+    let found = numbers(14, TABLES, |generator, what| {
+        [agree::check_target(
+            &generator.damaged_target(),
+            GUARDED,
+            what,
+        )]
+    });
+    assert_eq!(found, (0..=7).collect());
+}
+
+/// Tables of the other language: no table belongs to both, as their statements' literals differ.
+#[test]
+fn tables_of_the_other_language() {
+    let found = numbers(15, TABLES, |generator, what| {
+        let source = generator.accepted_source();
+        let target = generator.target();
+        [
+            agree::check_target(&source, GUARDED, what),
+            agree::check_source(&target, GUARDED, what),
+        ]
+    });
+    assert_eq!(found, BTreeSet::from([2, 3, 4]));
 }

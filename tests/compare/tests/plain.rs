@@ -1,35 +1,11 @@
 //! The compiled plain run answers and leaves the memory as the second implementation does.
 
+use compare::lent::GUARDED;
+use compare::{agree, numbers};
 use reference::generator::{Case, Generator};
-use reference::host::GUARD;
-use reference::plain::run_plain;
 use std::collections::BTreeSet;
 
 const CASES: u64 = 100_000;
-const MARGIN: usize = 64;
-
-/// The answer's number; bytes past the memory are guards that stay.
-fn compare(case: &Case, what: &str) -> u32 {
-    let length = case.memory.len();
-    let mut expected = case.memory.clone();
-    let mut compiled = case.memory.clone();
-    compiled.resize(length + MARGIN, GUARD);
-    let second = run_plain(&case.table, &case.inputs, case.fuel, &mut expected);
-    let lent = &mut compiled[..length];
-    let answer = compare::run_plain(&case.table, &case.inputs, case.fuel, lent);
-    assert_eq!(answer, second, "{what}");
-    assert!(compiled[..length] == expected[..], "{what}: memories differ");
-    let guards = compiled[length..].iter().all(|&byte| byte == GUARD);
-    assert!(guards, "{what}: bytes past the memory");
-    answer.number
-}
-
-fn numbers(make: fn(&mut Generator) -> Case, seed: u64) -> BTreeSet<u32> {
-    let mut generator = Generator::new(seed);
-    (0..CASES)
-        .map(|case| compare(&make(&mut generator), &format!("seed {seed}, case {case}")))
-        .collect()
-}
 
 /// An accepted program with inputs, fuel and a memory that are not refused.
 fn accepted(generator: &mut Generator) -> Case {
@@ -46,13 +22,18 @@ fn accepted(generator: &mut Generator) -> Case {
 
 #[test]
 fn accepted_programs_reach_every_ending() {
+    let found = numbers(31, CASES, |generator, what| {
+        [agree::run_plain(&accepted(generator), GUARDED, what)]
+    });
     let endings = BTreeSet::from([0, 30, 31, 32, 33, 40, 41, 42, 43, 44, 45, 46, 47]);
-    assert_eq!(numbers(accepted, 31), endings);
+    assert_eq!(found, endings);
 }
 
 #[test]
 fn whole_cases_reach_every_refusal() {
-    let found = numbers(|generator| generator.source_case(), 32);
+    let found = numbers(32, CASES, |generator, what| {
+        [agree::run_plain(&generator.source_case(), GUARDED, what)]
+    });
     let refusals: BTreeSet<u32> = (1..=9).chain([21]).collect();
     assert!(found.is_superset(&refusals), "reached {found:?}");
 }

@@ -1,0 +1,72 @@
+#include "words.h"
+
+#include <inttypes.h>
+#include <stdio.h>
+
+static const struct {
+    uint32_t number;
+    const char *words;
+} NUMBERS[] = {
+    {RECORDER_DONE, "finished"},
+    {RECORDER_BAD_LENGTH, "the table's length is 0 or no multiple of 16 bytes"},
+    {RECORDER_TOO_MANY_RECORDS, "too many records"},
+    {RECORDER_BAD_KIND, "kind not in the language"},
+    {RECORDER_BAD_FIELD, "mark, operator, query, literal or child presence against the rules"},
+    {RECORDER_BAD_CHILD, "child not smaller or of the wrong sort"},
+    {RECORDER_BAD_SHAPE, "the last record is no statement, or another is not a child exactly once"},
+    {RECORDER_BAD_SCOPE, "variable used out of scope, or let while in scope"},
+    {RECORDER_TOO_DEEP, "term or predicate that needs a temporary above 63"},
+    {RECORDER_BAD_INPUTS, "inputs no multiple of 8 bytes, none, or over 256"},
+    {RECORDER_SHORT_OUTPUT, "output shorter than the translation"},
+    {RECORDER_BAD_MEMORY, "execution memory not 18424 bytes"},
+    {RECORDER_BAD_OBSERVATION, "observation memory not 3064 bytes"},
+    {RECORDER_NO_CELLS, "no run of free cells long enough"},
+    {RECORDER_NO_NAMES, "all names given"},
+    {RECORDER_NO_FUEL, "no fuel at a while test"},
+    {RECORDER_ASSERTION_FALSE, "assertion false"},
+    {RECORDER_WRONG_SORT, "wrong sort of value"},
+    {RECORDER_UNDEFINED_READ, "undefined cell read"},
+    {RECORDER_NO_CELL, "cell in a dead block or outside"},
+    {RECORDER_OVERFLOW, "overflow"},
+    {RECORDER_ZERO_DIVISOR, "zero divisor"},
+    {RECORDER_BAD_SIZE, "size below 1"},
+    {RECORDER_BAD_FREE, "free of anything but the first cell of a live freeable block"},
+    {RECORDER_NOT_LIVE, "base, offset or length of a block not live"},
+    {RECORDER_CONTRADICTION, "call that contradicts the observation memory"},
+    {RECORDER_EMPTY_TEMPORARY, "empty temporary"},
+};
+
+static const char *in_words(uint32_t number)
+{
+    for (size_t at = 0; at < sizeof NUMBERS / sizeof NUMBERS[0]; at++)
+        if (NUMBERS[at].number == number)
+            return NUMBERS[at].words;
+    return "a number that the header does not have";
+}
+
+bool is_refusal(recorder_answer answer)
+{
+    return answer.number >= RECORDER_BAD_LENGTH && answer.number <= RECORDER_BAD_OBSERVATION;
+}
+
+int tell_refusal(const char *what, recorder_answer answer)
+{
+    if (is_refusal(answer)) {
+        printf("%s: refusal %" PRIu32, what, answer.number);
+        if (answer.record != 0)
+            printf(" at record %" PRIu32, answer.record);
+        printf(" (%s)\n", in_words(answer.number));
+    }
+    return (int)answer.number;
+}
+
+int tell_run(const char *what, recorder_answer answer)
+{
+    if (is_refusal(answer))
+        return tell_refusal(what, answer);
+    printf("%s: ending %" PRIu32 " (%s)", what, answer.number, in_words(answer.number));
+    if (answer.number != RECORDER_DONE)
+        printf(" at statement %" PRIu32, answer.record);
+    printf(", fuel left %" PRIu32 ", free cells %" PRIu32 "\n", answer.fuel, answer.free_cells);
+    return (int)answer.number;
+}

@@ -1,0 +1,18 @@
+/* Answers in words. */
+#ifndef HOST_WORDS_H
+#define HOST_WORDS_H
+
+#include <stdbool.h>
+
+#include "recorder.h"
+
+/* Whether the answer is a refusal: neither 0 nor an ending. */
+bool is_refusal(recorder_answer answer);
+
+/* Prints a refusal, or nothing where the number is none; either way returns the exit status, which is the number. */
+int tell_refusal(const char *what, recorder_answer answer);
+
+/* Prints a run's answer, a refusal or an ending, and returns the exit status. */
+int tell_run(const char *what, recorder_answer answer);
+
+#endif

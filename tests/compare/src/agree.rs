@@ -1,0 +1,70 @@
+//! One call of the library and of the second implementation on the same case: the answers and
+//! every byte of every lent buffer are equal. Each function returns the answer's number.
+
+use crate::lent::Lent;
+use crate::library;
+use reference::generator::Case;
+use reference::{checker, plain, translator, Answer};
+use std::fmt::Arguments;
+
+type Check = fn(&[u8]) -> Answer;
+
+fn check(compiled: Check, second: Check, table: &[u8], margin: usize, what: Arguments) -> u32 {
+    let lent = Lent::new(table, margin);
+    let answer = compiled(lent.bytes());
+    assert_eq!(answer, second(table), "{what}, table {table:?}");
+    lent.assert_is(table, "table", what);
+    answer.number
+}
+
+pub fn check_source(table: &[u8], margin: usize, what: Arguments) -> u32 {
+    check(
+        library::check_source,
+        checker::check_source,
+        table,
+        margin,
+        what,
+    )
+}
+
+pub fn check_target(table: &[u8], margin: usize, what: Arguments) -> u32 {
+    check(
+        library::check_target,
+        checker::check_target,
+        table,
+        margin,
+        what,
+    )
+}
+
+/// With these bytes in the output before the call.
+pub fn translate(table: &[u8], output: &[u8], margin: usize, what: Arguments) -> u32 {
+    let lent_table = Lent::new(table, margin);
+    let mut lent_output = Lent::new(output, margin);
+    let mut expected = output.to_vec();
+    let answer = library::translate(lent_table.bytes(), lent_output.bytes_mut());
+    assert_eq!(
+        answer,
+        translator::translate(table, &mut expected),
+        "{what}, output {}",
+        output.len()
+    );
+    lent_table.assert_is(table, "table", what);
+    lent_output.assert_is(&expected, "output", what);
+    answer.number
+}
+
+/// What the plain run leaves of a case; the observation is not lent.
+pub fn run_plain(case: &Case, margin: usize, what: Arguments) -> u32 {
+    let table = Lent::new(&case.table, margin);
+    let inputs = Lent::new(&case.inputs, margin);
+    let mut memory = Lent::new(&case.memory, margin);
+    let mut expected = case.memory.clone();
+    let answer = library::run_plain(table.bytes(), inputs.bytes(), case.fuel, memory.bytes_mut());
+    let second = plain::run_plain(&case.table, &case.inputs, case.fuel, &mut expected);
+    assert_eq!(answer, second, "{what}");
+    table.assert_is(&case.table, "table", what);
+    inputs.assert_is(&case.inputs, "inputs", what);
+    memory.assert_is(&expected, "memory", what);
+    answer.number
+}

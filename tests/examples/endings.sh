@@ -1,0 +1,55 @@
+# Both runs of every example end as `expected` has it; sourced by tests/examples.sh.
+while read -r name inputs fuel number statement left free; do
+    place=''
+    [ "$number" -eq 0 ] || place=" at statement $statement"
+    for run in run watch; do
+        expect "$number" "$place, fuel left $left, free cells $free" \
+            "$run" "examples/$name.txt" --inputs "$inputs" --fuel "$fuel"
+        expect "$number" ": ending $number (" "$run" "examples/$name.txt" --inputs "$inputs" --fuel "$fuel"
+    done
+    expect 0 'both runs have the same answer and the same execution memory' \
+        demo "examples/$name.txt" --inputs "$inputs" --fuel "$fuel"
+done < <(grep -v '^#' tests/examples/expected)
+
+for file in examples/*.txt; do
+    name=$(basename "$file" .txt)
+    grep -q "^$name " tests/examples/expected || fail "$name has no expected ending"
+    grep -q '^# Teaches: ' "$file" || fail "$file does not say what it teaches"
+    expect 0 'accepted' check "$file"
+done
+
+# The listing that document 01 has of P1, from the text and from the table's bytes.
+"$program" pack examples/P1.txt "$scratch/P1" || fail "pack"
+diff tests/examples/P1.listing <("$program" list examples/P1.txt)
+diff tests/examples/P1.listing <("$program" list "$scratch/P1")
+
+# A translation written to a file is accepted as a target table, and runs as the source does.
+"$program" translate examples/two-assertions.txt "$scratch/target" >"$scratch/said" || fail "translate"
+expect 0 'accepted' check --target "$scratch/target"
+expect 33 'at statement 29' watch --target "$scratch/target"
+
+# What the runs left in the memories.
+shows $'  block 2: live and fixed\n    cell 1: 4\n    cell 2: -4\n    cell 3: 3\n    cell 4: 0\n' \
+    run examples/P2.txt --inputs 0,0,0,0
+shows $'    cell 1: -3\n    cell 2: 9\n' run examples/P3.txt
+shows $'    cell 0: pointer to block 4, offset 0\n' run examples/P9.txt
+shows $'  block 4: live and freeable\n    cells 3 to 7: undefined\n  dead names: 3\n' run examples/P9.txt
+shows $'  block 5: live\n    mark 4: initialised\n    mark 5: not initialised\n  dead names: 4\n' \
+    watch examples/two-assertions.txt
+shows $'observation memory\n  block 1: live\n    mark 0: initialised\n' watch examples/P1.txt
+shows $'  dead names: 3 to 255\n' run examples/R1.txt
+
+# Endings that only a hand-made target has: a block stored twice, and an empty temporary.
+stored_twice=$(table stored-twice <<'END'
+1 10 0 0 0 0 0   # v0
+2 60 0 1 0 0 9   # t0 = &v0
+3  1 0 0 0 0 1   # 1
+4 61 1 3 0 0 9   # t1 = 1
+5 68 0 0 0 0 9   # store block t0 of length t1
+6 44 0 4 5 0 9
+7 44 0 2 6 0 9
+END
+)
+expect 48 'ending 48 (call that contradicts the observation memory) at statement 9' watch --target "$stored_twice"
+empty=$(table empty <<<'1 67 5 0 0 0 3')
+expect 49 'ending 49 (empty temporary) at statement 3' watch --target "$empty"
