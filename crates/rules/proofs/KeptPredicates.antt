@@ -113,7 +113,7 @@ module _ (O : Observation → Type 0) (v : ObservationInvariant O) where
       (recordBlock-keeps (markAll (recordBlock emptyObservation 1 1) 1 1) 2 n
       (markAll-keeps (recordBlock emptyObservation 1 1) 1 1 (recordBlock-keeps emptyObservation 1 1 h)))
 
-empty-inside : InsideObservation emptyObservation
+pub empty-inside : InsideObservation emptyObservation
 empty-inside = record {
   observation-fits = record {
     record-count = length-replicate nameCount recorded.Unused;
