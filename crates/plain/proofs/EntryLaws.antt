@@ -1,21 +1,16 @@
 -- The entry: the table with bytes behind it, the start, and what is copied out.
-use Prim.Native.Nat.{ℕ, zero, suc, _+_, _/_, _%_, _≤_, _<_}
+use Prim.Native.Nat.{ℕ, _+_, _≤_}
 use native.Mathlib.Nat.{le-refl}
 use native.Mathlib.Omega.{arith}
-use mathlib.Core.Bool.{Bool, true, false, not, _||_, false≢true}
-use mathlib.Core.List.{List, [], _∷_, _++_, append-nil}
-use mathlib.Core.Logic.{_≢_}
+use mathlib.Core.Bool.{Bool, true, false}
+use mathlib.Core.List.{List}
 use mathlib.Core.Path.{_≡_, refl, sym, ap, _∙_, subst}
-use borrow.Author.Tests.{eq-eqb, ne-eqb, eqb-true, ltb-true, ltb-false}
-use lib.Dec.{eqb, ltb}
-use lib.ListN.{length, drop, getD, set, replicate}
-use lib.Seq.{paste, drop-length, take-length}
+use lib.ListN.{length, drop}
 use Rattle.rules.specs.Words.{put}
 use Rattle.rules.specs.Records.{recordCount}
-use Rattle.rules.specs.Kinds.{source, statement}
+use Rattle.rules.specs.Kinds.{source}
 use Rattle.rules.specs.Checker.{check, inputsFault, memoryFault}
-use Rattle.rules.specs.Nodes.{sortOfNode, sourceStatement, nodeAt, sourceProgram}
-use Rattle.rules.specs.Trees.{Statement}
+use Rattle.rules.specs.Nodes.{sourceStatement, sourceProgram}
 use Rattle.rules.specs.Memory.{Memory, countFree, startMemory}
 use Rattle.rules.specs.Plain.{Outcome, finished, ended, run, startVariables}
 use Rattle.rules.specs.Layout.{memoryOf, memoryImage}
@@ -23,58 +18,34 @@ use Rattle.rules.specs.Answers.{answer, inputsOf, endingOf, memoryAfter, plainO
 use Rattle.rules.specs.declared.Answer.{Answer}
 use Rattle.rules.specs.declared.Checked.{Checked}
 use Rattle.rules.specs.declared.Checked.the-variants as checked
-use Rattle.rules.proofs.Acceptance.{Accepted, accepted-says}
-use Rattle.rules.proofs.AcceptedTrees.{accepted-last}
-use Rattle.rules.proofs.Sound.{startScope, SoundStatement}
-use Rattle.rules.proofs.SoundSource.{sound-source}
+use Rattle.rules.proofs.Sound.{startScope}
+use Rattle.rules.proofs.AcceptedPrograms.{accepted-program, padded-program}
 use Rattle.rules.proofs.Fits.{FitsMemory}
-use Rattle.rules.proofs.Rows.{getD-zero}
 use Rattle.rules.proofs.LayoutLaws.{memory-back}
 use Rattle.rules.proofs.Reachable.{startVariables-fit}
 use Rattle.rules.proofs.ReachableRoundTrip.{start-inside, plain-round-trip}
 use Rattle.rules.proofs.Padding.{node-padded}
 use Rattle.rules.proofs.PlainArms.{statementAt}
-use Rattle.evaluation.specs.State.{variablesOf}
-use Rattle.plain.specs.declared.Ended.{Ended}
-use Rattle.plain.specs.Running.{Ready, result, resultOf, Ran, AnsweredBy}
+use Rattle.statements.specs.declared.Ended.{Ended}
+use Rattle.plain.specs.Running.{Ready, resultOf, Ran, AnsweredBy}
 use Rattle.plain.proofs.Laws.{ran-is}
 
--- ---- copies
-pub paste-put : (l b : List ℕ) → paste l 0 b (length b) ≡ put l 0 b
-paste-put l b = ap (λ (x : List ℕ). x ++ drop (0 + length b) l) (take-length b)
-
-pub put-all : (l b : List ℕ) → length l ≡ length b → put l 0 b ≡ b
-put-all l b e =
-    let z : 0 + length b ≡ length l = omega (arith, e) in
-    ap (λ (x : List ℕ). b ++ x) (ap (λ (k : ℕ). drop k l) z ∙ drop-length l) ∙ append-nil b
-
 -- ---- the start
-pub variables-start : variablesOf (set (replicate 64 0) 0 1) ≡ startVariables
-variables-start = λ i y. at y i
-  where
-    at : (y : ℕ) → getD (set (replicate 64 0) 0 1) y 0 ≡ startVariables y
-    at zero = refl
-    at (suc y) = getD-zero 63 y
-
 module _ (t l : List ℕ) (h : check source t ≡ checked.Accepted) where
-  accepted : Accepted source t
-  accepted = accepted-says source t h
-
   pub table-length : length t ≤ 65536
-  table-length = omega (arith, accepted .whole, accepted .not-too-many)
-
-  same-node : nodeAt source (put l 0 t) (recordCount t) ≡ nodeAt source t (recordCount t)
-  same-node = node-padded t (drop (0 + length t) l) source (recordCount t) (le-refl (recordCount t))
+  table-length = let a = accepted-program source t h in omega (arith, a .whole, a .not-too-many)
 
   pub same-program : statementAt (put l 0 t) (recordCount t) ≡ sourceProgram t
-  same-program = ap sourceStatement same-node
+  same-program =
+      ap sourceStatement (node-padded t (drop (0 + length t) l) source (recordCount t) (le-refl (recordCount t)))
 
   pub ready-start : (m : Memory) → FitsMemory m → Ready (put l 0 t) (recordCount t) startVariables m
   ready-start m f =
+      let p = padded-program source t (drop (0 + length t) l) h in
       record {
-        is = ap (sortOfNode source) same-node ∙ accepted-last source t accepted;
+        is = p .is;
         scope = startScope;
-        sound = subst (λ (s : Statement). SoundStatement s startScope) (sym same-program) (sound-source t h);
+        sound = p .sound;
         names = startVariables-fit;
         fits = f;
       }
@@ -102,7 +73,7 @@ module _ (i : List ℕ) (e : inputsFault i ≡ false) (l : List ℕ) (s : l ≡ 
       let o = plainOutcome t i f in
       let v : Ran o r l l₁ = ran-is (ap (λ (m : Memory). run (sourceProgram t) startVariables m f) (sym start-view)) w in
       ap length (v .memory .exact (s ∙ ap memoryImage (sym start-view)) ∙ ap memoryImage (v .memory .view))
-      ∙ plain-round-trip t i f (sound-source t h) e .image-length
+      ∙ plain-round-trip t i f (accepted-program source t h .last .sound) e .image-length
 
   pub entry-ends : (t : List ℕ) (f : ℕ) (r : Ended) (l₁ : List ℕ) (k : ℕ) (exit : List ℕ)
       → Ran (run (sourceProgram t) startVariables (memoryOf l) f) r l l₁ → k ≡ countFree (memoryOf l₁ .cells)
@@ -119,43 +90,6 @@ module _ (i : List ℕ) (e : inputsFault i ≡ false) (l : List ℕ) (s : l ≡ 
         memory =
             x ∙ v .memory .exact (s ∙ ap memoryImage (sym start-view)) ∙ ap memoryImage (v .memory .view);
       }
-
--- ---- the inputs' rule
-pub not-eights : (i : List ℕ) → length i % 8 ≢ 0 → true ≡ inputsFault i
-not-eights i d = sym (ap (λ (b : Bool). not b || eqb (length i) 0 || ltb 256 (length i / 8)) (ne-eqb (length i % 8) 0 d))
-
-pub no-inputs : (i : List ℕ) → length i % 8 ≡ 0 → length i ≡ 0 → true ≡ inputsFault i
-no-inputs i d e =
-    sym (λ j. not (eq-eqb (length i % 8) 0 d j) || eq-eqb (length i) 0 e j || ltb 256 (length i / 8))
-
-pub some-inputs : (i : List ℕ) → length i % 8 ≡ 0 → length i ≢ 0 → ltb 256 (length i / 8) ≡ inputsFault i
-some-inputs i d e =
-    sym (λ j. not (eq-eqb (length i % 8) 0 d j) || ne-eqb (length i) 0 e j || ltb 256 (length i / 8))
-
--- a memory of another length, and of the right one
-pub memory-refused : (m : List ℕ) → length m ≢ 18424 → memoryFault m ≡ true
-memory-refused m d = ap not (ne-eqb (length m) 18424 d)
-
-pub memory-accepted : (m : List ℕ) → length m ≡ 18424 → memoryFault m ≡ false
-memory-accepted m d = ap not (eq-eqb (length m) 18424 d)
-
-pub memory-whole : (m : List ℕ) → memoryFault m ≡ false → length m ≡ 18424
-memory-whole m h = eqb-true (length m) 18424 (go (eqb (length m) 18424) h)
-  where
-    go : (b : Bool) → not b ≡ false → b ≡ true
-    go true e = refl
-    go false e = absurd (false≢true (sym e))
-
-pub inputs-short : (i : List ℕ) → inputsFault i ≡ false → length i ≤ 2048
-inputs-short i h =
-    go (eqb (length i % 8) 0) (eqb (length i) 0) (ltb 256 (length i / 8)) refl refl h
-  where
-    go : (a b c : Bool) → eqb (length i % 8) 0 ≡ a → ltb 256 (length i / 8) ≡ c → (not a || b || c) ≡ false → length i ≤ 2048
-    go true b false p q e =
-        omega (arith, eqb-true (length i % 8) 0 p, ltb-false 256 (length i / 8) q)
-    go true true true p q e = absurd (false≢true (sym e))
-    go true false true p q e = absurd (false≢true (sym e))
-    go false b c p q e = absurd (false≢true (sym e))
 
 -- ---- the rules 9 and 21
 module _ (t i : List ℕ) (f : ℕ) (m : List ℕ) where

@@ -5,8 +5,7 @@ use mathlib.Core.Bool.{Bool, true, false, cond}
 use mathlib.Core.List.{List}
 use mathlib.Core.Logic.{_≢_, _⊎_, inl, inr}
 use mathlib.Core.Path.{_≡_, refl, sym, ap, ap₂, _∙_, subst}
-use borrow.Author.Tests.{eq-eqb, ne-eqb}
-use lib.Dec.{eqb}
+use borrow.Author.Tests.{ne-eqb}
 use Rattle.rules.specs.Memory.{Memory, Change, changed, stopped}
 use Rattle.rules.specs.Evaluation.{Variables}
 use Rattle.rules.specs.Trees.{Statement}
@@ -18,18 +17,10 @@ use Rattle.rules.specs.declared.Test.the-variants as test
 use Rattle.rules.proofs.Keeping.{Ending}
 use Rattle.rules.proofs.Endings.{PlainEnds, run-endings}
 use Rattle.memory.specs.Changes.{Becomes}
-use Rattle.plain.specs.declared.Ended.{Ended}
-use Rattle.plain.specs.Running.{result, resultOf, concluded, assertNumber, Does, Ran}
-
--- ---- changes of the bytes, one after the other
-pub becomes-same : {l : List ℕ} {m : Memory} → memoryOf l ≡ m → Becomes l l m
-becomes-same e = record { view = e; exact = λ x. x }
-
-pub becomes-is : {a b : List ℕ} {m m₁ : Memory} → m ≡ m₁ → Becomes a b m → Becomes a b m₁
-becomes-is e h = record { view = h .view ∙ e; exact = h .exact }
-
-pub becomes-then : {a b c : List ℕ} {m m₁ : Memory} → Becomes a b m → Becomes b c m₁ → Becomes a c m₁
-becomes-then p q = record { view = q .view; exact = λ x. q .exact (p .exact x) }
+use Rattle.statements.specs.declared.Ended.{Ended}
+use Rattle.statements.proofs.ChangeLaws.{becomes-same, becomes-then}
+use Rattle.statements.specs.Ending.{result, concluded, assertNumber, Does}
+use Rattle.plain.specs.Running.{resultOf, Ran}
 
 -- ---- outcomes
 pub ran-is : {o p : Outcome} {r : Ended} {a b : List ℕ} → o ≡ p → Ran p r a b → Ran o r a b

@@ -1,6 +1,5 @@
 -- Laws for the proofs of the plain run.
 pub mod Laws
-pub mod ChangeLaws
 pub mod ReadyLaws
 pub mod MemberLaws
 pub mod EntryLaws

@@ -1,14 +1,9 @@
 -- From what the parts of a statement with parts do to what it does.
 use Prim.Native.Nat.{ℕ, zero, suc, _-_, _<_, _≤_}
 use native.Mathlib.Omega.{arith}
-use mathlib.Core.Bool.{Bool, true, false, cond, false≢true}
 use mathlib.Core.List.{List}
 use mathlib.Core.Logic.{_≢_}
 use mathlib.Core.Path.{_≡_, refl, sym, ap, _∙_, subst}
-use borrow.Author.Tests.{eqb-true, eq-eqb}
-use lib.Dec.{eqb}
-use lib.ListN.{length, getD, set}
-use lib.Seq.{getD-set-same, getD-set-other}
 use Rattle.rules.specs.Kinds.{source, statement}
 use Rattle.rules.specs.Records.{kindOf, markOf, childA, childB, childC}
 use Rattle.rules.specs.Memory.{Memory, fixed, Made, made, makeBlock, endBlock}
@@ -25,11 +20,11 @@ use Rattle.rules.proofs.StatementArms.{let-child, sound-let}
 use Rattle.rules.proofs.PlainArms.{HasSort, expressionAt, statementAt, run-branch, run-while-zero, run-while-suc, run-let}
 use Rattle.memory.specs.Changes.{Becomes, makingOf, madeMemory}
 use Rattle.memory.specs.declared.Making.the-variants as making
-use Rattle.evaluation.specs.State.{variablesOf}
-use Rattle.plain.specs.declared.Ended.{Ended}
-use Rattle.plain.specs.Running.{Ready, Inside, enclosed, result, resultOf, Ran}
-use Rattle.plain.proofs.Laws.{becomes-is, becomes-then, ran-is, run-finished, next-goes, next-stays}
-use Rattle.plain.proofs.ChangeLaws.{made-by, unmade-by, name-fits}
+use Rattle.statements.specs.declared.Ended.{Ended}
+use Rattle.statements.specs.Ending.{result}
+use Rattle.plain.specs.Running.{Ready, Inside, enclosed, resultOf, Ran}
+use Rattle.statements.proofs.ChangeLaws.{becomes-is, becomes-then, made-by, unmade-by, name-fits}
+use Rattle.plain.proofs.Laws.{ran-is, run-finished, next-goes, next-stays}
 use Rattle.plain.proofs.ReadyLaws.{ready-within, ready-first, ready-second, ready-inside, run-kept, made-kept}
 
 -- what came before counts for the bytes alone
@@ -39,14 +34,6 @@ ran-from p h = record { answer = h .answer; memory = becomes-then p (h .memory) 
 -- what stays as it is
 pub ran-same : {l : List ℕ} (o : Outcome) (r : Ended) → r ≡ resultOf o → memoryOf l ≡ memoryAfter o → Ran o r l l
 ran-same o r e v = record { answer = e; memory = record { view = v; exact = λ x. x } }
-
--- a block for a variable
-pub variables-set : (l : List ℕ) (v k : ℕ) → v < length l → variablesOf (set l v k) ≡ extend (variablesOf l) v k
-variables-set l v k h = λ i y. at y (eqb y v) refl i
-  where
-    at : (y : ℕ) (b : Bool) → eqb y v ≡ b → getD (set l v k) y 0 ≡ cond b k (getD l y 0)
-    at y true e = ap (λ (j : ℕ). getD (set l v k) j 0) (eqb-true y v e) ∙ getD-set-same l v k 0 h
-    at y false e = getD-set-other l v y k 0 (λ p. false≢true (sym e ∙ eq-eqb y v p))
 
 module _ (t : List ℕ) (n : ℕ) (h : HasSort statement t n) (ρ : Variables) where
   abbrev conditionOf : Memory → Test

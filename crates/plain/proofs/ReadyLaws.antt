@@ -28,7 +28,7 @@ use Rattle.rules.proofs.PlainArms.{HasSort, Under, expressionAt, statementAt}
 use Rattle.tables.specs.Within.{Within}
 use Rattle.memory.specs.Changes.{EvaluatedFits}
 use Rattle.plain.specs.Running.{Ready}
-use Rattle.plain.proofs.ChangeLaws.{names-fit}
+use Rattle.statements.proofs.ChangeLaws.{names-fit}
 
 module _ (t : List ℕ) (n : ℕ) (ρ : Variables) (m : Memory) (r : Ready t n ρ m) where
   pub ready-within : Within t n

@@ -1,25 +1,22 @@
 -- What a plain run's code asks, and what it answers, by the outcome of the rules.
-use Prim.Native.Nat.{ℕ, zero, suc, _<_}
-use mathlib.Core.Bool.{Bool, true, false, cond}
+use Prim.Native.Nat.{ℕ, _<_}
 use mathlib.Core.List.{List}
 use mathlib.Core.Path.{_≡_}
-use lib.Dec.{eqb}
 use Rattle.rules.specs.Records.{markOf, childA}
 use Rattle.rules.specs.Kinds.{statement}
-use Rattle.rules.specs.Memory.{Memory, Change, endBlock}
+use Rattle.rules.specs.Memory.{Memory, endBlock}
 use Rattle.rules.specs.Evaluation.{Variables, extend}
 use Rattle.rules.specs.Plain.{Outcome, finished, ended, next, run}
 use Rattle.rules.specs.Answers.{memoryAfter, PlainRun}
 use Rattle.rules.specs.declared.Answer.{Answer}
-use Rattle.rules.specs.declared.Test.{Test}
-use Rattle.rules.specs.declared.Test.the-variants as test
 use Rattle.rules.proofs.Sound.{Scope, SoundStatement}
 use Rattle.rules.proofs.Fits.{FitsMemory}
 use Rattle.rules.proofs.Reachable.{NamesFit}
 use Rattle.rules.proofs.PlainArms.{HasSort, statementAt}
 use Rattle.tables.specs.Within.{Within}
-use Rattle.memory.specs.Changes.{Becomes, changeNumber, changeMemory}
-use Rattle.plain.specs.declared.Ended.{Ended}
+use Rattle.memory.specs.Changes.{Becomes}
+use Rattle.statements.specs.declared.Ended.{Ended}
+use Rattle.statements.specs.Ending.{result}
 
 -- statement n may run: its numbers and names fit, and so do those that it finds
 pub record Ready (t : List ℕ) (n : ℕ) (ρ : Variables) (m : Memory) : Type 0 where
@@ -41,27 +38,10 @@ abbrev pub enclosed : List ℕ → ℕ → Variables → Memory → ℕ → ℕ 
 enclosed t n ρ m f k =
     next (run (statementAt t (childA t n)) (extend ρ (markOf t n) k) m f) (λ m₁ f₁. finished (endBlock m₁ k) f₁)
 
--- the number of an ending, its statement, and the fuel left; 0 and 0 where it finished
-abbrev pub result : ℕ → ℕ → ℕ → Ended
-result k s f = record { number = k; statement = s; fuel = f }
-
+-- the answer of an outcome
 abbrev pub resultOf : Outcome → Ended
 resultOf (finished m f) = result 0 0 f
 resultOf (ended c s m f) = result c s f
-
--- what a statement with a number of its own answers
-abbrev pub concluded : ℕ → ℕ → ℕ → Ended
-concluded k s f = cond (eqb k 0) (result 0 0 f) (result k s f)
-
-abbrev pub assertNumber : Test → ℕ
-assertNumber test.Yes = 0
-assertNumber test.No = 33
-assertNumber (test.Stopped c) = c
-
--- a change's number and the memory after it
-pub record Does (x : Change) (r : ℕ) (entry exit : List ℕ) : Type 0 where
-  pub number : r ≡ changeNumber x
-  pub memory : Becomes entry exit (changeMemory x)
 
 -- a run's result and memory are those of an outcome
 pub record Ran (o : Outcome) (r : Ended) (entry exit : List ℕ) : Type 0 where

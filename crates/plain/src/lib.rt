@@ -1,194 +1,25 @@
 // The plain run of an accepted source table.
 ghost use mathlib.Core.Path.{_≡_};
 ghost use mathlib.Core.Bool.{false};
-ghost use Prim.Native.Nat.{_<_, _≤_};
-ghost use lib.ListN.{length};
-ghost use Rattle.rules.specs.Words.{put};
 ghost use Rattle.rules.specs.Checker.{check, inputsFault, memoryFault};
 ghost use Rattle.rules.specs.Nodes.{sourceProgram};
-ghost use Rattle.rules.specs.Answers.{answer, plainEnded, plainOutcome, plainBy, runPlain};
+ghost use Rattle.rules.specs.Answers.{plainEnded, plainOutcome, plainBy, runPlain};
 ghost use Rattle.rules.specs.declared.Checked.the-variants as checked;
 ghost use Rattle.rules.proofs.Fits.{FitsMemory};
 ghost use Rattle.rules.specs.Kinds.{source, expression, place, predicate};
 ghost use Rattle.rules.specs.Records.{kindOf, childA, childB};
-ghost use Rattle.rules.specs.Memory.{freeable, makeBlock, storeNew, newOfSize, assigned, allocated, freed};
-ghost use Rattle.rules.specs.Evaluation.{evaluateSource, findSource, evaluatePredicate, condition, extend};
+ghost use Rattle.rules.specs.Evaluation.{evaluateSource, findSource, evaluatePredicate, condition};
 ghost use Rattle.rules.specs.Plain.{run, startVariables};
 ghost use Rattle.rules.specs.Layout.{memoryOf};
 ghost use Rattle.rules.proofs.PlainArms.{HasSort, expressionAt, placeAt, predicateAt, statementAt};
 ghost use Rattle.tables.specs.Within.{Within};
-ghost use Rattle.memory.specs.Changes.{EvaluatedFits};
 ghost use Rattle.evaluation.specs.State.{variablesOf};
-ghost use Rattle.plain.specs.Running.{concluded, assertNumber, Does, Ready, Inside, enclosed, Ran, AnsweredBy};
+ghost use Rattle.plain.specs.Running.{Ready, Inside, enclosed, Ran, AnsweredBy};
 use memory::Making;
 use rules::Answer;
 use rules::Checked;
-use rules::Evaluated;
-use rules::Found;
-use rules::Pointer;
 use rules::Test;
-use rules::Value;
-
-// How a statement comes out: the number of the ending and its statement, both 0 where it finished, and the fuel left.
-pub struct Ended {
-    pub number: u32,
-    pub statement: u32,
-    pub fuel: u32,
-}
-
-// The answer of statement n, of the number that it ended with, 0 where it finished.
-fn conclude(number: u32, n: u32, fuel: u32) -> Ended
-    ensures { λ r. ⌜ r ≡ concluded number n fuel ⌝ }
-{
-    if number == 0 {
-        Ended {
-            number: 0,
-            statement: 0,
-            fuel,
-        }
-    } else {
-        Ended {
-            number,
-            statement: n,
-            fuel,
-        }
-    }
-}
-
-// 33 where an assertion is false.
-fn assert_number(t: Test) -> u32
-    ensures { λ r. ⌜ r ≡ assertNumber t ⌝ }
-{
-    match t {
-        Test::Yes => 0,
-        Test::No => 33,
-        Test::Stopped(k) => k,
-    }
-}
-
-// A place takes a value.
-fn store_at(mem: &mut [u8; 18424], f: Found, e: Evaluated) -> u32
-    requires { ⌜ EvaluatedFits e ⌝ }
-    ensures { λ r. ⌜ Does (assigned (memoryOf (now (mem .entry))) f e) r (now (mem .entry)) (now (mem .exit)) ⌝ }
-{
-    match f {
-        Found::Place(p) => match e {
-            Evaluated::Value(v) => memory::store(mem, p, v),
-            Evaluated::Stopped(stop) => stop,
-        },
-        Found::Stopped(k) => k,
-    }
-}
-
-// A place takes the pointer to a new block of n cells.
-fn store_new(mem: &mut [u8; 18424], p: Pointer, n: usize) -> u32
-    ensures { λ r. ⌜ Does (storeNew (memoryOf (now (mem .entry))) p (makeBlock (memoryOf (now (mem .entry))) freeable n)) r (now (mem .entry)) (now (mem .exit)) ⌝ }
-{
-    match memory::make(mem, true, n) {
-        Making::Name(k) => memory::store(mem, p, Value::Pointer(Pointer { name: k, offset: 0 })),
-        Making::Stopped(c) => c,
-    }
-}
-
-// 45 where the size is below 1.
-fn new_of_size(mem: &mut [u8; 18424], p: Pointer, z: i64) -> u32
-    ensures { λ r. ⌜ Does (newOfSize (memoryOf (now (mem .entry))) p z) r (now (mem .entry)) (now (mem .exit)) ⌝ }
-{
-    if z < 1 {
-        return 45;
-    }
-    store_new(mem, p, z as usize)
-}
-
-// A place takes a new block.
-fn new_at(mem: &mut [u8; 18424], f: Found, e: Evaluated) -> u32
-    ensures { λ r. ⌜ Does (allocated (memoryOf (now (mem .entry))) f e) r (now (mem .entry)) (now (mem .exit)) ⌝ }
-{
-    match f {
-        Found::Place(p) => match e {
-            Evaluated::Value(v) => match v {
-                Value::Undefined => 40,
-                Value::Integer(z) => new_of_size(mem, p, z),
-                Value::Pointer(_) => 40,
-            },
-            Evaluated::Stopped(k) => k,
-        },
-        Found::Stopped(k) => k,
-    }
-}
-
-// The block that a value points to is freed.
-fn free_at(mem: &mut [u8; 18424], e: Evaluated) -> u32
-    ensures { λ r. ⌜ Does (freed (memoryOf (now (mem .entry))) e) r (now (mem .entry)) (now (mem .exit)) ⌝ }
-{
-    match e {
-        Evaluated::Value(v) => match v {
-            Value::Undefined => 40,
-            Value::Integer(_) => 40,
-            Value::Pointer(p) => memory::free(mem, p),
-        },
-        Evaluated::Stopped(k) => k,
-    }
-}
-
-// The place that is child A.
-fn find_a(
-    table: &[u8; 65536],
-    n: usize,
-    variables: &[u16; 64],
-    temporaries: &[u8; 1024],
-    mem: &[u8; 18424],
-) -> Found
-    requires { ⌜ Within (now table) n × HasSort place (now table) (childA (now table) n) ⌝ }
-    ensures { λ r. ⌜ r ≡ findSource (placeAt (now (table .entry)) (childA (now (table .entry)) n)) (variablesOf (now (variables .entry))) (memoryOf (now (mem .entry))) ⌝ }
-{
-    evaluation::find_place(
-        table,
-        tables::child_a(&table[..], n),
-        variables,
-        temporaries,
-        mem,
-    )
-}
-
-// The value of child A, and of child B.
-fn evaluate_a(
-    table: &[u8; 65536],
-    n: usize,
-    variables: &[u16; 64],
-    temporaries: &[u8; 1024],
-    mem: &[u8; 18424],
-) -> Evaluated
-    requires { ⌜ Within (now table) n × HasSort expression (now table) (childA (now table) n) ⌝ }
-    ensures { λ r. ⌜ r ≡ evaluateSource (expressionAt (now (table .entry)) (childA (now (table .entry)) n)) (variablesOf (now (variables .entry))) (memoryOf (now (mem .entry))) ⌝ }
-{
-    evaluation::evaluate(
-        table,
-        tables::child_a(&table[..], n),
-        variables,
-        temporaries,
-        mem,
-    )
-}
-
-fn evaluate_b(
-    table: &[u8; 65536],
-    n: usize,
-    variables: &[u16; 64],
-    temporaries: &[u8; 1024],
-    mem: &[u8; 18424],
-) -> Evaluated
-    requires { ⌜ Within (now table) n × HasSort expression (now table) (childB (now table) n) ⌝ }
-    ensures { λ r. ⌜ r ≡ evaluateSource (expressionAt (now (table .entry)) (childB (now (table .entry)) n)) (variablesOf (now (variables .entry))) (memoryOf (now (mem .entry))) ⌝ }
-{
-    evaluation::evaluate(
-        table,
-        tables::child_b(&table[..], n),
-        variables,
-        temporaries,
-        mem,
-    )
-}
+use statements::Ended;
 
 // What condition A says.
 fn test_a(
@@ -201,7 +32,7 @@ fn test_a(
     requires { ⌜ Within (now table) n × HasSort expression (now table) (childA (now table) n) ⌝ }
     ensures { λ r. ⌜ r ≡ condition (evaluateSource (expressionAt (now (table .entry)) (childA (now (table .entry)) n)) (variablesOf (now (variables .entry))) (memoryOf (now (mem .entry)))) ⌝ }
 {
-    evaluation::test(evaluate_a(table, n, variables, temporaries, mem))
+    statements::test_a(table, n, variables, temporaries, mem)
 }
 
 // What predicate A says.
@@ -231,9 +62,9 @@ fn assign(
     requires { ⌜ Ready (now table) n (variablesOf (now variables)) (memoryOf (now mem)) × (kindOf (now table) n ≡ 41) ⌝ }
     ensures { λ r. ⌜ Ran (run (statementAt (now (table .entry)) n) (variablesOf (now (variables .entry))) (memoryOf (now (mem .entry))) fuel) r (now (mem .entry)) (now (mem .exit)) ⌝ }
 {
-    let f = find_a(table, n, variables, temporaries, &*mem);
-    let e = evaluate_b(table, n, variables, temporaries, &*mem);
-    conclude(store_at(mem, f, e), n as u32, fuel)
+    let f = statements::find_a(table, n, variables, temporaries, &*mem);
+    let e = statements::evaluate_b(table, n, variables, temporaries, &*mem);
+    statements::conclude(statements::store_at(mem, f, e), n as u32, fuel)
 }
 
 // Place A takes a new block of B cells.
@@ -248,9 +79,9 @@ fn allocate(
     requires { ⌜ Ready (now table) n (variablesOf (now variables)) (memoryOf (now mem)) × (kindOf (now table) n ≡ 42) ⌝ }
     ensures { λ r. ⌜ Ran (run (statementAt (now (table .entry)) n) (variablesOf (now (variables .entry))) (memoryOf (now (mem .entry))) fuel) r (now (mem .entry)) (now (mem .exit)) ⌝ }
 {
-    let f = find_a(table, n, variables, temporaries, &*mem);
-    let e = evaluate_b(table, n, variables, temporaries, &*mem);
-    conclude(new_at(mem, f, e), n as u32, fuel)
+    let f = statements::find_a(table, n, variables, temporaries, &*mem);
+    let e = statements::evaluate_b(table, n, variables, temporaries, &*mem);
+    statements::conclude(statements::new_at(mem, f, e), n as u32, fuel)
 }
 
 // What A points to is freed.
@@ -265,8 +96,8 @@ fn release(
     requires { ⌜ Ready (now table) n (variablesOf (now variables)) (memoryOf (now mem)) × (kindOf (now table) n ≡ 43) ⌝ }
     ensures { λ r. ⌜ Ran (run (statementAt (now (table .entry)) n) (variablesOf (now (variables .entry))) (memoryOf (now (mem .entry))) fuel) r (now (mem .entry)) (now (mem .exit)) ⌝ }
 {
-    let e = evaluate_a(table, n, variables, temporaries, &*mem);
-    conclude(free_at(mem, e), n as u32, fuel)
+    let e = statements::evaluate_a(table, n, variables, temporaries, &*mem);
+    statements::conclude(statements::free_at(mem, e), n as u32, fuel)
 }
 
 // Predicate A is asserted.
@@ -282,17 +113,7 @@ fn assert(
     ensures { λ r. ⌜ Ran (run (statementAt (now (table .entry)) n) (variablesOf (now (variables .entry))) (memoryOf (now (mem .entry))) fuel) r (now (mem .entry)) (now (mem .exit)) ⌝ }
 {
     let t = test_predicate(table, n, variables, temporaries, &*mem);
-    conclude(assert_number(t), n as u32, fuel)
-}
-
-// The variables, with v being block k.
-fn name_variable(variables: [u16; 64], v: usize, k: u16) -> [u16; 64]
-    requires { ⌜ v < 64 ⌝ }
-    ensures { λ r. ⌜ variablesOf r ≡ extend (variablesOf variables) v k ⌝ }
-{
-    let mut inner = variables;
-    inner[v] = k;
-    inner
+    statements::conclude(statements::assert_number(t), n as u32, fuel)
 }
 
 // Runs statement n.
@@ -477,7 +298,7 @@ fn run_inside(
     requires { ⌜ Inside (now table) n (variablesOf (now variables)) (memoryOf (now mem)) k ⌝ }
     ensures { λ r. ⌜ Ran (enclosed (now (table .entry)) n (variablesOf (now (variables .entry))) (memoryOf (now (mem .entry))) fuel k) r (now (mem .entry)) (now (mem .exit)) ⌝ }
 {
-    let inner = name_variable(*variables, tables::mark(&table[..], n) as usize, k);
+    let inner = statements::name_variable(*variables, tables::mark(&table[..], n) as usize, k);
     let r = run(
         table,
         tables::child_a(&table[..], n),
@@ -492,46 +313,12 @@ fn run_inside(
     r
 }
 
-// The bytes of `from` are put over the first ones of `to`.
-fn copy(to: &mut [u8], from: &[u8])
-    requires { ⌜ length (now from) ≤ length (now to) ⌝ }
-    ensures { λ _. ⌜ now (to .exit) ≡ put (now (to .entry)) 0 (now (from .entry)) ⌝ }
-{
-    let mut i: usize = 0;
-    while i < from.len() {
-        to[i] = from[i];
-        i += 1;
-    }
-}
-
-// Whether the inputs are no multiple of 8 bytes, none, or over 256.
-fn has_inputs_fault(inputs: &[u8]) -> bool
-    ensures { λ r. ⌜ r ≡ inputsFault (now (inputs .entry)) ⌝ }
-{
-    if inputs.len() % 8 != 0 {
-        return true;
-    }
-    if inputs.len() == 0 {
-        return true;
-    }
-    256 < inputs.len() / 8
-}
-
-// Variable 0 is block 1.
-fn start_variables() -> [u16; 64]
-    ensures { λ r. ⌜ variablesOf r ≡ startVariables ⌝ }
-{
-    let mut variables = [0u16; 64];
-    variables[0] = 1;
-    variables
-}
-
 // Runs statement n with the variables and temporaries of the start.
 fn run_from_start(table: &[u8; 65536], n: usize, mem: &mut [u8; 18424], fuel: u32) -> Ended
     requires { ⌜ Ready (now table) n startVariables (memoryOf (now mem)) ⌝ }
     ensures { λ r. ⌜ Ran (run (statementAt (now (table .entry)) n) startVariables (memoryOf (now (mem .entry))) fuel) r (now (mem .entry)) (now (mem .exit)) ⌝ }
 {
-    let variables = start_variables();
+    let variables = statements::start_variables();
     let temporaries = [0u8; 1024];
     run(table, n, &variables, &temporaries, mem, fuel)
 }
@@ -542,7 +329,7 @@ fn run_table(table: &[u8], mem: &mut [u8; 18424], fuel: u32) -> Ended
     ensures { λ r. ⌜ Ran (run (sourceProgram (now (table .entry))) startVariables (memoryOf (now (mem .entry))) fuel) r (now (mem .entry)) (now (mem .exit)) ⌝ }
 {
     let mut whole = [0u8; 65536];
-    copy(&mut whole[..], table);
+    statements::copy(&mut whole[..], table);
     run_from_start(&whole, table.len() / 16, mem, fuel)
 }
 
@@ -555,7 +342,7 @@ fn run_inputs(table: &[u8], inputs: &[u8], fuel: u32, memory: &mut [u8]) -> Answ
     memory::start(&mut mem, inputs);
     let r = run_table(table, &mut mem, fuel);
     let free_cells = memory::count_free(&mem);
-    copy(memory, &mem[..]);
+    statements::copy(memory, &mem[..]);
     Answer {
         number: r.number,
         record: r.statement,
@@ -564,28 +351,16 @@ fn run_inputs(table: &[u8], inputs: &[u8], fuel: u32, memory: &mut [u8]) -> Answ
     }
 }
 
-// A refusal.
-fn refuse(number: u32, n: u32) -> Answer
-    ensures { λ r. ⌜ r ≡ answer number n 0 0 ⌝ }
-{
-    Answer {
-        number,
-        record: n,
-        fuel: 0,
-        free_cells: 0,
-    }
-}
-
 // The plain run of an accepted table.
 fn run_accepted(table: &[u8], inputs: &[u8], fuel: u32, memory: &mut [u8]) -> Answer
     requires { ⌜ check source (now table) ≡ checked.Accepted ⌝ }
     ensures { λ r. ⌜ AnsweredBy (plainBy checked.Accepted (now (table .entry)) (now (inputs .entry)) fuel (now (memory .entry))) r (now (memory .exit)) ⌝ }
 {
-    if has_inputs_fault(inputs) {
-        return refuse(9, 0);
+    if statements::has_inputs_fault(inputs) {
+        return statements::refuse(9, 0);
     }
     if memory.len() != 18424 {
-        return refuse(21, 0);
+        return statements::refuse(21, 0);
     }
     run_inputs(table, inputs, fuel, memory)
 }
@@ -596,6 +371,6 @@ pub fn run_plain(table: &[u8], inputs: &[u8], fuel: u32, memory: &mut [u8]) -> A
 {
     match checker::check_source(table) {
         Checked::Accepted => run_accepted(table, inputs, fuel, memory),
-        Checked::Refused(k, n) => refuse(k, n),
+        Checked::Refused(k, n) => statements::refuse(k, n),
     }
 }

@@ -14,10 +14,13 @@ use Rattle.rules.specs.Kinds.{source}
 use Rattle.rules.proofs.StatementArms.{sequence-children, branch-children, while-children}
 use Rattle.rules.proofs.PlainArms.{statementAt, statement-kinds, run-skip, run-sequence}
 use Rattle.evaluation.specs.State.{variablesOf}
-use Rattle.plain.specs.Running.{Ready, Ran, result}
-use Rattle.plain.proofs.Laws.{becomes-same, ran-is, next-goes, next-stays}
+use Rattle.statements.specs.Ending.{result}
+use Rattle.plain.specs.Running.{Ready, Ran}
+use Rattle.statements.proofs.ChangeLaws.{becomes-same}
+use Rattle.plain.proofs.Laws.{ran-is, next-goes, next-stays}
 use Rattle.plain.proofs.ReadyLaws.{ready-within, ready-number, ready-first, ready-then, ready-else, ready-turn}
-use Rattle.plain.proofs.MemberLaws.{ran-from, ran-same, variables-set, branch-yes, branch-no, branch-stop, turn-yes, turn-no, turn-stop, turn-out, let-made, let-unmade, Turning, turn-ends, turn-again, turn-spends, inside-ends, ready-later, ready-made}
+use Rattle.statements.proofs.EntryLaws.{variables-set}
+use Rattle.plain.proofs.MemberLaws.{ran-from, ran-same, branch-yes, branch-no, branch-stop, turn-yes, turn-no, turn-stop, turn-out, let-made, let-unmade, Turning, turn-ends, turn-again, turn-spends, inside-ends, ready-later, ready-made}
 use borrow.Fn.Kinds.{In}
 use borrow.Fn.PlainCycle.{Measures, is, falls, and}
 use Rattle.plain.proofs.branch.Reads as branch
@@ -43,7 +46,7 @@ use Rattle.memory.proofs.make.Reads as make-reads
 use Rattle.plain.proofs.allocate.Reads as allocate-reads
 use Rattle.plain.proofs.assert.Reads as assert-reads
 use Rattle.plain.proofs.assign.Reads as assign-reads
-use Rattle.plain.proofs.name_variable.Reads as name-variable-reads
+use Rattle.statements.proofs.name_variable.Reads as name-variable-reads
 use Rattle.plain.proofs.release.Reads as release-reads
 use Rattle.plain.proofs.test_a.Reads as test-a-reads
 use Rattle.tables.proofs.child_a.Reads as child-a-reads

@@ -3,7 +3,8 @@ use Prim.Native.Nat.{ℕ, _≤_}
 use native.Mathlib.Omega.{arith}
 use mathlib.Core.Path.{sym, ap, _∙_}
 use lib.ListN.{length}
-use Rattle.plain.proofs.EntryLaws.{start-ready, exit-length, entry-ends, put-all, memory-whole, inputs-short}
+use Rattle.statements.proofs.EntryLaws.{put-all, memory-whole, inputs-short}
+use Rattle.plain.proofs.EntryLaws.{start-ready, exit-length, entry-ends}
 use Rattle.plain.proofs.run_inputs.Statement.{statement}
 use Rattle.plain.proofs.run_inputs.Tie as tie
 

@@ -1,0 +1,3 @@
+-- Laws for the proofs of what both runs share.
+pub mod ChangeLaws
+pub mod EntryLaws

@@ -1,0 +1,2 @@
+-- What the code that both runs share is held to.
+pub mod Ending
