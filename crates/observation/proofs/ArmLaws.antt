@@ -27,6 +27,8 @@ use Rattle.rules.specs.declared.Located.{Located}
 use Rattle.rules.specs.declared.Located.the-variants as located
 use Rattle.rules.specs.declared.Recorded.{Recorded}
 use Rattle.rules.specs.declared.Recorded.the-variants as recorded
+use Rattle.observation.specs.declared.Noting.{Noting}
+use Rattle.observation.specs.declared.Noting.the-variants as noting
 use Rattle.observation.specs.Calls.{ObservationBecomes, Answers, withRecord, withMark, markRange, spanOf}
 use Rattle.observation.proofs.ObservationLaws.{mark-count}
 use Rattle.observation.proofs.BecomesLaws.{becomes-same, becomes-then}
@@ -114,14 +116,14 @@ module _ (o : Observation) (v : Value) (p : Pointer) (e : v ≡ value.Pointer p)
       span recorded.Dead = refl
 
 -- ---- what a call answers and leaves
-pub answers-refused : (l : List ℕ) (k : ℕ) {n : Noted} → n ≡ refused k → Answers l l k n
-answers-refused l k e = subst (Answers l l k) (sym e) (record { number = refl; memory = becomes-same l })
+pub answers-refused : (l : List ℕ) (k : ℕ) {n : Noted} → n ≡ refused k → Answers l l (noting.Refused k) n
+answers-refused l k e = subst (Answers l l (noting.Refused k)) (sym e) (record { answer = refl; memory = becomes-same l })
 
 pub answers-noted : (l l′ : List ℕ) {n : Noted} {o : Observation} → n ≡ noted o → ObservationBecomes l l′ o
-    → Answers l l′ 0 n
-answers-noted l l′ e b = subst (Answers l l′ 0) (sym e) (record { number = refl; memory = b })
+    → Answers l l′ noting.Noted n
+answers-noted l l′ e b = subst (Answers l l′ noting.Noted) (sym e) (record { answer = refl; memory = b })
 
-pub answers-same : (l l′ : List ℕ) (r : ℕ) {m n : Noted} → m ≡ n → Answers l l′ r n → Answers l l′ r m
+pub answers-same : (l l′ : List ℕ) (r : Noting) {m n : Noted} → m ≡ n → Answers l l′ r n → Answers l l′ r m
 answers-same l l′ r e a = subst (Answers l l′ r) (sym e) a
 
 pub becomes-as : {l l′ l″ : List ℕ} {o : Observation} → l′ ≡ l″ → ObservationBecomes l l″ o → ObservationBecomes l l′

@@ -9,22 +9,24 @@ use Rattle.rules.specs.Observation.{Observation, Noted, noted, refused, kept, r
 use Rattle.rules.specs.Layout.{observationOf, observationImage}
 use Rattle.rules.specs.declared.Recorded.{Recorded}
 use Rattle.rules.specs.declared.Recorded.the-variants as recorded
+use Rattle.observation.specs.declared.Noting.{Noting}
+use Rattle.observation.specs.declared.Noting.the-variants as noting
 
 -- bytes that now stand for o, and are exactly its bytes if they were exact before
 pub record ObservationBecomes (entry exit : List ℕ) (o : Observation) : Type 0 where
   pub view : observationOf exit ≡ o
   pub exact : (entry ≡ observationImage (observationOf entry)) → exit ≡ observationImage (observationOf exit)
 
--- the number that a call answers, 0 where it is noted, and the memory after it
-abbrev pub notedNumber : Noted → ℕ
-notedNumber (noted o) = 0
-notedNumber (refused k) = k
+-- what a changing call answers, and the memory after it
+abbrev pub notingOf : Noted → Noting
+notingOf (noted o) = noting.Noted
+notingOf (refused k) = noting.Refused k
 
 abbrev pub notedObservation : Observation → Noted → Observation
 notedObservation o n = kept o n
 
-pub record Answers (entry exit : List ℕ) (r : ℕ) (n : Noted) : Type 0 where
-  pub number : r ≡ notedNumber n
+pub record Answers (entry exit : List ℕ) (r : Noting) (n : Noted) : Type 0 where
+  pub answer : r ≡ notingOf n
   pub memory : ObservationBecomes entry exit (notedObservation (observationOf entry) n)
 
 -- ---- the calls by a name alone

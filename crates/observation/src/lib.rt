@@ -19,6 +19,12 @@ use rules::Recorded;
 use rules::Search;
 use rules::Value;
 
+// What a changing call answers.
+pub enum Noting {
+    Noted,
+    Refused(u32),
+}
+
 // Bytes first, first + 1, .. take x, n times or to the end.
 fn fill_bytes(d: &mut [u8], first: usize, n: usize, x: u8)
     requires { ⌜ first + n < 2 ^ 32 ⌝ }
@@ -319,7 +325,7 @@ fn remove_block(obs: &mut [u8; 3064], name: u16, first: u16, n: u16)
 }
 
 // A new block of n marks goes to the lowest run that holds it, if there is one.
-fn store_new(obs: &mut [u8; 3064], name: u16, n: usize) -> u32
+fn store_new(obs: &mut [u8; 3064], name: u16, n: usize) -> Noting
     requires { ⌜ (0 < name) × (name ≤ 255) × (0 < n) × (n ≤ 1024) ⌝ }
     ensures { λ r. ⌜ Answers (now (obs .entry)) (now (obs .exit)) r
         (storeNew (observationOf (now (obs .entry))) name n) ⌝ }
@@ -327,72 +333,72 @@ fn store_new(obs: &mut [u8; 3064], name: u16, n: usize) -> u32
     match find_marks(&*obs, n) {
         Search::At(first) => {
             place_block(obs, name, first as u16, n as u16);
-            0
+            Noting::Noted
         }
-        Search::Nothing => 48,
+        Search::Nothing => Noting::Refused(48),
     }
 }
 
 // A block of n marks under a name, which is unused.
-fn store_named(obs: &mut [u8; 3064], name: u16, n: usize) -> u32
+fn store_named(obs: &mut [u8; 3064], name: u16, n: usize) -> Noting
     requires { ⌜ (0 < n) × (n ≤ 1024) ⌝ }
     ensures { λ r. ⌜ Answers (now (obs .entry)) (now (obs .exit)) r
         (storeNamed (observationOf (now (obs .entry))) name n) ⌝ }
 {
     match record_of(&*obs, name) {
         Recorded::Unused => store_new(obs, name, n),
-        Recorded::Live(_, _) => 48,
-        Recorded::Dead => 48,
+        Recorded::Live(_, _) => Noting::Refused(48),
+        Recorded::Dead => Noting::Refused(48),
     }
 }
 
-fn store_sized(obs: &mut [u8; 3064], p: Pointer, z: i64) -> u32
+fn store_sized(obs: &mut [u8; 3064], p: Pointer, z: i64) -> Noting
     ensures { λ r. ⌜ Answers (now (obs .entry)) (now (obs .exit)) r
         (storeSized (observationOf (now (obs .entry))) (p .name) (p .offset) z) ⌝ }
 {
     let at = p.offset;
     if at != 0 {
-        return 48;
+        return Noting::Refused(48);
     }
     if z < 1 {
-        return 48;
+        return Noting::Refused(48);
     }
     if 1024 < z {
-        return 48;
+        return Noting::Refused(48);
     }
     store_named(obs, p.name, z as usize)
 }
 
-pub fn store_block(obs: &mut [u8; 3064], v: Value, w: Value) -> u32
+pub fn store_block(obs: &mut [u8; 3064], v: Value, w: Value) -> Noting
     ensures { λ r. ⌜ Answers (now (obs .entry)) (now (obs .exit)) r
         (storeBlock (observationOf (now (obs .entry))) v w) ⌝ }
 {
     match v {
         Value::Pointer(p) => match w {
             Value::Integer(z) => store_sized(obs, p, z),
-            Value::Undefined => 40,
-            Value::Pointer(_) => 40,
+            Value::Undefined => Noting::Refused(40),
+            Value::Pointer(_) => Noting::Refused(40),
         },
-        Value::Undefined => 40,
-        Value::Integer(_) => 40,
+        Value::Undefined => Noting::Refused(40),
+        Value::Integer(_) => Noting::Refused(40),
     }
 }
 
-fn delete_named(obs: &mut [u8; 3064], name: u16) -> u32
+fn delete_named(obs: &mut [u8; 3064], name: u16) -> Noting
     ensures { λ r. ⌜ Answers (now (obs .entry)) (now (obs .exit)) r
         (deleteNamed (observationOf (now (obs .entry))) name) ⌝ }
 {
     match record_of(&*obs, name) {
         Recorded::Live(first, n) => {
             remove_block(obs, name, first, n);
-            0
+            Noting::Noted
         }
-        Recorded::Unused => 48,
-        Recorded::Dead => 48,
+        Recorded::Unused => Noting::Refused(48),
+        Recorded::Dead => Noting::Refused(48),
     }
 }
 
-pub fn delete_block(obs: &mut [u8; 3064], v: Value) -> u32
+pub fn delete_block(obs: &mut [u8; 3064], v: Value) -> Noting
     ensures { λ r. ⌜ Answers (now (obs .entry)) (now (obs .exit)) r
         (deleteBlock (observationOf (now (obs .entry))) v) ⌝ }
 {
@@ -402,11 +408,11 @@ pub fn delete_block(obs: &mut [u8; 3064], v: Value) -> u32
             if at == 0 {
                 delete_named(obs, p.name)
             } else {
-                48
+                Noting::Refused(48)
             }
         }
-        Value::Undefined => 40,
-        Value::Integer(_) => 40,
+        Value::Undefined => Noting::Refused(40),
+        Value::Integer(_) => Noting::Refused(40),
     }
 }
 
@@ -426,26 +432,26 @@ fn write_mark(obs: &mut [u8; 3064], i: usize)
     }
 }
 
-fn mark_place(obs: &mut [u8; 3064], at: Located) -> u32
+fn mark_place(obs: &mut [u8; 3064], at: Located) -> Noting
     ensures { λ r. ⌜ Answers (now (obs .entry)) (now (obs .exit)) r (markAt (observationOf (now (obs .entry))) at) ⌝ }
 {
     match at {
         Located::At(i) => {
             write_mark(obs, i);
-            0
+            Noting::Noted
         }
-        Located::Dead => 48,
-        Located::Outside => 48,
+        Located::Dead => Noting::Refused(48),
+        Located::Outside => Noting::Refused(48),
     }
 }
 
-pub fn initialise(obs: &mut [u8; 3064], v: Value) -> u32
+pub fn initialise(obs: &mut [u8; 3064], v: Value) -> Noting
     ensures { λ r. ⌜ Answers (now (obs .entry)) (now (obs .exit)) r
         (initialise (observationOf (now (obs .entry))) v) ⌝ }
 {
     match v {
         Value::Pointer(p) => mark_place(obs, locate_mark(&*obs, p)),
-        Value::Undefined => 40,
-        Value::Integer(_) => 40,
+        Value::Undefined => Noting::Refused(40),
+        Value::Integer(_) => Noting::Refused(40),
     }
 }
