@@ -69,10 +69,6 @@ abbrev pub WatchedOutcomes : State → (ℕ → Type 0) → WatchedOutcome → T
 WatchedOutcomes I E (watched.finished m o τ f) = I m o τ f
 WatchedOutcomes I E (watched.ended c s m o τ f) = E c × I m o τ f
 
-abbrev pub temporariesAfter : WatchedOutcome → Temporaries
-temporariesAfter (watched.finished m o τ f) = τ
-temporariesAfter (watched.ended c s m o τ f) = τ
-
 abbrev pub NotedKeeps : (Observation → Type 0) → (ℕ → Type 0) → Noted → Type 0
 NotedKeeps O E (noted o) = O o
 NotedKeeps O E (refused c) = E c

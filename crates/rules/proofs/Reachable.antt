@@ -126,7 +126,7 @@ pub record Watchedly (J : Memory → Type 0) (O : Observation → Type 0) (m : M
 pub startTemporaries-fit : All FitsTemporary startTemporaries
 startTemporaries-fit = all-replicate temporaryCount temporary.Empty tt
 
-pub heldIn-fits : (τ : Temporaries) → All FitsTemporary τ → (n : ℕ) → EvaluatedFits (heldIn τ n)
+heldIn-fits : (τ : Temporaries) → All FitsTemporary τ → (n : ℕ) → EvaluatedFits (heldIn τ n)
 heldIn-fits τ h n = held-fits (temporaryOf τ n) (all-getD h n temporary.Empty tt)
 
 module _ (J : Memory → Type 0) (v : MemoryInvariant J) (O : Observation → Type 0) (u : ObservationInvariant O) where

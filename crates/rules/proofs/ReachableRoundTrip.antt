@@ -27,9 +27,8 @@ use Rattle.rules.proofs.Sound.{Scope, startScope, SoundStatement, Sound
 use Rattle.rules.proofs.Keeping.{AnyNumber}
 use Rattle.rules.proofs.WordLaws.{integer-range, Bytes}
 use Rattle.rules.proofs.Lists.{All, none, also}
-use Rattle.rules.proofs.Outcomes.{Outcomes, State, WatchedOutcomes, temporariesAfter}
-use Rattle.rules.proofs.Fuel.{watchedFuelOf}
-use Rattle.rules.proofs.Fits.{FitsMemory, FitsObservation, InsideMemory, InsideObservation}
+use Rattle.rules.proofs.Outcomes.{Outcomes, WatchedOutcomes}
+use Rattle.rules.proofs.Fits.{FitsTemporary, FitsMemory, FitsObservation, InsideMemory, InsideObservation}
 use Rattle.rules.proofs.FitsLaws.{InRange, startMemory-inside}
 use Rattle.rules.proofs.KeptPredicates.{fits-invariant, inside-invariant, fits-observation-invariant, inside-observation-invariant, startObservation-inside}
 use Rattle.rules.proofs.LayoutLaws.{length-memoryImage, length-observationImage, memory-back, observation-back, bytes-memoryImage, bytes-observationImage}
@@ -112,36 +111,31 @@ pub plain-round-trip : (t i : List ℕ) (f : ℕ) → SoundStatement (sourceProg
 plain-round-trip t i f h e = shown (memoryAfter (plainOutcome t i f)) (plain-inside t i f h e .memory-fits)
 
 -- ---- the watched run
--- a predicate of the state, said of what an outcome leaves
-abbrev pub Left : State → WatchedOutcome → Type 0
-Left I x = I (watchedMemoryAfter x) (observationAfter x) (temporariesAfter x) (watchedFuelOf x)
-
-all-kept : (I : State) (x : WatchedOutcome) → WatchedOutcomes I AnyNumber x → Left I x
-all-kept I (watched.finished m o τ f) h = h
-all-kept I (watched.ended c s m o τ f) h = h .1
-
-abbrev pub Fitting : State
-Fitting = Watchedly FitsMemory FitsObservation
+both-kept : (J : Memory → Type 0) (O : Observation → Type 0) (x : WatchedOutcome)
+    → WatchedOutcomes (Watchedly J O) AnyNumber x → J (watchedMemoryAfter x) × O (observationAfter x)
+both-kept J O (watched.finished m o τ f) h = (h .memory-kept, h .observation-kept)
+both-kept J O (watched.ended c s m o τ f) h = (h .1 .memory-kept, h .1 .observation-kept)
 
 pub watch-fits : (a : TargetStatement) (σ : Scope) → SoundTarget a σ → (ρ : Variables) → NamesFit ρ
-    → (m : Memory) (o : Observation) (τ : Temporaries) (f : ℕ) → Fitting m o τ f → Left Fitting (watch a ρ m o τ f)
-watch-fits a σ h ρ r m o τ f i =
-    all-kept Fitting (watch a ρ m o τ f)
-    (watch-keeps FitsMemory fits-invariant FitsObservation fits-observation-invariant a σ h ρ r m o τ f i)
+    → (m : Memory) (o : Observation) (τ : Temporaries) (f : ℕ) → FitsMemory m → FitsObservation o → All FitsTemporary τ
+    → FitsMemory (watchedMemoryAfter (watch a ρ m o τ f)) × FitsObservation (observationAfter (watch a ρ m o τ f))
+watch-fits a σ h ρ r m o τ f i j k =
+    both-kept FitsMemory FitsObservation (watch a ρ m o τ f)
+    (watch-keeps FitsMemory fits-invariant FitsObservation fits-observation-invariant a σ h ρ r m o τ f
+    (record { memory-kept = i; observation-kept = j; temporaries-fit = k }))
 
 pub watched-inside : (t i : List ℕ) (f : ℕ) → SoundTarget (targetProgram t) startScope → inputsFault i ≡ false
     → InsideMemory (watchedMemoryAfter (watchedOutcome t i f))
     × InsideObservation (observationAfter (watchedOutcome t i f))
 watched-inside t i f h e =
-    let x = all-kept (Watchedly InsideMemory InsideObservation) (watchedOutcome t i f)
+    both-kept InsideMemory InsideObservation (watchedOutcome t i f)
     (watch-keeps InsideMemory inside-invariant InsideObservation inside-observation-invariant (targetProgram t)
     startScope h startVariables startVariables-fit (startMemory (inputsOf i)) (startObservation (length i / 8))
     startTemporaries f (record {
       memory-kept = start-inside i e;
       observation-kept = startObservation-inside (length i / 8);
       temporaries-fit = startTemporaries-fit;
-    })) in
-    (x .memory-kept, x .observation-kept)
+    }))
 
 pub watched-round-trip : (t i : List ℕ) (f : ℕ) → SoundTarget (targetProgram t) startScope → inputsFault i ≡ false
     → Shown (watchedMemoryAfter (watchedOutcome t i f)) × ObservationShown (observationAfter (watchedOutcome t i f))
