@@ -13,7 +13,7 @@ use Rattle.rules.specs.Words.{wordAt, integerAt, put}
 use Rattle.rules.specs.Records.{recordCount}
 use Rattle.rules.specs.Kinds.{target}
 use Rattle.rules.specs.Checker.{check, inputsFault, memoryFault, observationFault}
-use Rattle.rules.specs.Nodes.{sortOfNode, targetStatement, nodeAt, targetProgram}
+use Rattle.rules.specs.Nodes.{targetStatement, targetProgram}
 use Rattle.rules.specs.TargetTrees.{TargetStatement}
 use Rattle.rules.specs.Memory.{Memory, countFree, startMemory}
 use Rattle.rules.specs.Observation.{Observation, startObservation}
@@ -27,10 +27,8 @@ use Rattle.rules.specs.declared.Checked.the-variants as checked
 use Rattle.rules.specs.declared.Temporary.the-variants as temporary
 use Rattle.rules.proofs.Lists.{All}
 use Rattle.rules.proofs.Rows.{table-all, getD-zero}
-use Rattle.rules.proofs.Acceptance.{Accepted, accepted-says}
-use Rattle.rules.proofs.AcceptedTrees.{accepted-last}
-use Rattle.rules.proofs.Sound.{startScope, SoundTarget}
-use Rattle.rules.proofs.SoundTargets.{sound-target}
+use Rattle.rules.proofs.Sound.{startScope}
+use Rattle.rules.proofs.AcceptedPrograms.{accepted-program, padded-program}
 use Rattle.rules.proofs.Fits.{FitsTemporary, FitsMemory, FitsObservation}
 use Rattle.rules.proofs.KeptPredicates.{startObservation-fits}
 use Rattle.rules.proofs.LayoutLaws.{memory-back, observation-back}
@@ -65,25 +63,21 @@ leaves-start s f r l l₁ o o₁ τ₁ w =
     temporaries-start (record { answer = w .answer; memory = w .memory; observation = w .observation })
 
 module _ (t l : List ℕ) (h : check target t ≡ checked.Accepted) where
-  accepted : Accepted target t
-  accepted = accepted-says target t h
-
   pub table-length : length t ≤ 65536
-  table-length = omega (arith, accepted .whole, accepted .not-too-many)
-
-  same-node : nodeAt target (put l 0 t) (recordCount t) ≡ nodeAt target t (recordCount t)
-  same-node = node-padded t (drop (0 + length t) l) target (recordCount t) (le-refl (recordCount t))
+  table-length = let a = accepted-program target t h in omega (arith, a .whole, a .not-too-many)
 
   pub same-program : statementAt (put l 0 t) (recordCount t) ≡ targetProgram t
-  same-program = ap targetStatement same-node
+  same-program =
+      ap targetStatement (node-padded t (drop (0 + length t) l) target (recordCount t) (le-refl (recordCount t)))
 
   pub ready-start : (m o : List ℕ) → FitsMemory (memoryOf m) → FitsObservation (observationOf o)
       → Ready (put l 0 t) (recordCount t) startVariables (lent m o (replicate 1024 0))
   ready-start m o f g =
+      let p = padded-program target t (drop (0 + length t) l) h in
       record {
-        is = ap (sortOfNode target) same-node ∙ accepted-last target t accepted;
+        is = p .is;
         scope = startScope;
-        sound = subst (λ (s : TargetStatement). SoundTarget s startScope) (sym same-program) (sound-target t h);
+        sound = p .sound;
         names = startVariables-fit;
         fits =
             record {
@@ -145,7 +139,7 @@ pub exit-lengths : (t i : List ℕ) (f : ℕ) (r : Answer) (l o : List ℕ) → 
     → inputsFault i ≡ false → AnsweredBy (watchedEnded (watchedOutcome t i f)) r l o
     → (length l ≡ 18424) × (length o ≡ 3064)
 exit-lengths t i f r l o h e w =
-    let x = watched-round-trip t i f (sound-target t h) e in
+    let x = watched-round-trip t i f (accepted-program target t h .last .sound) e in
     (ap length (w .memory) ∙ x .0 .image-length, ap length (w .observation) ∙ x .1 .image-length)
 
 -- ---- the rules 9, 21 and 22

@@ -5,14 +5,15 @@ ghost use Rattle.rules.specs.Kinds.{statement};
 ghost use Rattle.rules.specs.Records.{kindOf, markOf, childA, childB, childC};
 ghost use Rattle.rules.specs.Nodes.{operatorOf, queryOf};
 ghost use Rattle.rules.specs.Memory.{assigned, allocated, freed, onValue};
-ghost use Rattle.rules.specs.Evaluation.{evaluate, findPlace, addressOf, operated, opposite, condition};
+ghost use Rattle.rules.specs.Evaluation.{addressOf, operated, opposite, condition};
 ghost use Rattle.rules.specs.Observation.{storeBlock, deleteBlock, initialise, queryObservation};
-ghost use Rattle.rules.specs.Watched.{temporaryOf, heldIn, calledOn, calledOnTwo};
+ghost use Rattle.rules.specs.Watched.{heldIn, calledOn, calledOnTwo};
 ghost use Rattle.rules.specs.Layout.{memoryOf, observationOf};
 ghost use Rattle.rules.specs.declared.Evaluated.the-variants as evaluated;
-ghost use Rattle.rules.proofs.TargetFields.{HasSort, expressionAt, placeAt, numberAt};
+ghost use Rattle.rules.proofs.TargetFields.{HasSort, numberAt};
 ghost use Rattle.memory.specs.Changes.{EvaluatedFits};
 ghost use Rattle.evaluation.specs.State.{variablesOf, temporariesOf};
+ghost use Rattle.statements.specs.Children.{foundIn, valueIn};
 ghost use Rattle.statements.specs.Ending.{assertNumber, Does};
 ghost use Rattle.steps.specs.Steps.{Takes, Observes};
 ghost use Rattle.watched.specs.Watching.{lent, Ready, IsAct, IsBranch, choice, Runs, Acts};
@@ -37,13 +38,13 @@ fn assign(
     mem: &mut [u8; 18424],
 ) -> u32
     requires { ⌜ HasSort statement (now table) n × (kindOf (now table) n ≡ 41)
-        × EvaluatedFits (evaluate (expressionAt (now table) (childB (now table) n))
-        (temporaryOf (temporariesOf (now temporaries))) (variablesOf (now variables)) (memoryOf (now mem))) ⌝ }
-    ensures { λ r. ⌜ Does (assigned (memoryOf (now (mem .entry))) (findPlace (placeAt (now (table .entry)) (childA (now (table .entry)) n)) (temporaryOf (temporariesOf (now (temporaries .entry)))) (variablesOf (now (variables .entry)))
-        (memoryOf (now (mem .entry))))
-        (evaluate (expressionAt (now (table .entry)) (childB (now (table .entry)) n)) (temporaryOf (temporariesOf (now (temporaries .entry))))
-        (variablesOf (now (variables .entry))) (memoryOf (now (mem .entry))))) r
-        (now (mem .entry)) (now (mem .exit)) ⌝ }
+        × EvaluatedFits (valueIn (now table) (childB (now table) n) (now variables) (now temporaries) (now mem)) ⌝ }
+    ensures { λ r. ⌜ Does (assigned (memoryOf (now (mem .entry)))
+        (foundIn (now (table .entry)) (childA (now (table .entry)) n) (now (variables .entry))
+        (now (temporaries .entry)) (now (mem .entry)))
+        (valueIn (now (table .entry)) (childB (now (table .entry)) n) (now (variables .entry))
+        (now (temporaries .entry)) (now (mem .entry))))
+        r (now (mem .entry)) (now (mem .exit)) ⌝ }
 {
     let f = statements::find_a(table, n, variables, temporaries, &*mem);
     let e = statements::evaluate_b(table, n, variables, temporaries, &*mem);
@@ -59,11 +60,12 @@ fn allocate(
     mem: &mut [u8; 18424],
 ) -> u32
     requires { ⌜ HasSort statement (now table) n × (kindOf (now table) n ≡ 42) ⌝ }
-    ensures { λ r. ⌜ Does (allocated (memoryOf (now (mem .entry))) (findPlace (placeAt (now (table .entry)) (childA (now (table .entry)) n)) (temporaryOf (temporariesOf (now (temporaries .entry)))) (variablesOf (now (variables .entry)))
-        (memoryOf (now (mem .entry))))
-        (evaluate (expressionAt (now (table .entry)) (childB (now (table .entry)) n)) (temporaryOf (temporariesOf (now (temporaries .entry))))
-        (variablesOf (now (variables .entry))) (memoryOf (now (mem .entry))))) r
-        (now (mem .entry)) (now (mem .exit)) ⌝ }
+    ensures { λ r. ⌜ Does (allocated (memoryOf (now (mem .entry)))
+        (foundIn (now (table .entry)) (childA (now (table .entry)) n) (now (variables .entry))
+        (now (temporaries .entry)) (now (mem .entry)))
+        (valueIn (now (table .entry)) (childB (now (table .entry)) n) (now (variables .entry))
+        (now (temporaries .entry)) (now (mem .entry))))
+        r (now (mem .entry)) (now (mem .exit)) ⌝ }
 {
     let f = statements::find_a(table, n, variables, temporaries, &*mem);
     let e = statements::evaluate_b(table, n, variables, temporaries, &*mem);
@@ -79,9 +81,10 @@ fn release(
     mem: &mut [u8; 18424],
 ) -> u32
     requires { ⌜ HasSort statement (now table) n × (kindOf (now table) n ≡ 43) ⌝ }
-    ensures { λ r. ⌜ Does (freed (memoryOf (now (mem .entry))) (evaluate (expressionAt (now (table .entry)) (childA (now (table .entry)) n)) (temporaryOf (temporariesOf (now (temporaries .entry))))
-        (variablesOf (now (variables .entry))) (memoryOf (now (mem .entry))))) r
-        (now (mem .entry)) (now (mem .exit)) ⌝ }
+    ensures { λ r. ⌜ Does (freed (memoryOf (now (mem .entry)))
+        (valueIn (now (table .entry)) (childA (now (table .entry)) n) (now (variables .entry))
+        (now (temporaries .entry)) (now (mem .entry))))
+        r (now (mem .entry)) (now (mem .exit)) ⌝ }
 {
     let e = statements::evaluate_a(table, n, variables, temporaries, &*mem);
     statements::free_at(mem, e)
@@ -97,8 +100,8 @@ fn take_address(
 ) -> u32
     requires { ⌜ HasSort statement (now table) n × (kindOf (now table) n ≡ 60) ⌝ }
     ensures { λ r. ⌜ Takes (now (temporaries .entry)) (now (temporaries .exit)) r (markOf (now (table .entry)) n)
-        (addressOf (findPlace (placeAt (now (table .entry)) (childA (now (table .entry)) n)) (temporaryOf (temporariesOf (now (temporaries .entry)))) (variablesOf (now (variables .entry)))
-        (memoryOf (now (mem .entry))))) ⌝ }
+        (addressOf (foundIn (now (table .entry)) (childA (now (table .entry)) n) (now (variables .entry))
+        (now (temporaries .entry)) (now (mem .entry)))) ⌝ }
 {
     let f = statements::find_a(table, n, variables, &*temporaries, mem);
     let e = evaluation::address(f);
@@ -115,8 +118,8 @@ fn take_value(
 ) -> u32
     requires { ⌜ HasSort statement (now table) n × (kindOf (now table) n ≡ 61) ⌝ }
     ensures { λ r. ⌜ Takes (now (temporaries .entry)) (now (temporaries .exit)) r (markOf (now (table .entry)) n)
-        (evaluate (expressionAt (now (table .entry)) (childA (now (table .entry)) n)) (temporaryOf (temporariesOf (now (temporaries .entry))))
-        (variablesOf (now (variables .entry))) (memoryOf (now (mem .entry)))) ⌝ }
+        (valueIn (now (table .entry)) (childA (now (table .entry)) n) (now (variables .entry))
+        (now (temporaries .entry)) (now (mem .entry))) ⌝ }
 {
     let e = statements::evaluate_a(table, n, variables, &*temporaries, mem);
     steps::take_evaluated(temporaries, tables::mark(&table[..], n) as usize, e)
@@ -126,7 +129,8 @@ fn take_value(
 fn take_operation(table: &[u8; 65536], n: usize, temporaries: &mut [u8; 1024]) -> u32
     requires { ⌜ HasSort statement (now table) n × (kindOf (now table) n ≡ 63) ⌝ }
     ensures { λ r. ⌜ Takes (now (temporaries .entry)) (now (temporaries .exit)) r (markOf (now (table .entry)) n)
-        (operated (operatorOf (childC (now (table .entry)) n)) (heldIn (temporariesOf (now (temporaries .entry))) (suc (markOf (now (table .entry)) n)))
+        (operated (operatorOf (childC (now (table .entry)) n))
+        (heldIn (temporariesOf (now (temporaries .entry))) (suc (markOf (now (table .entry)) n)))
         (heldIn (temporariesOf (now (temporaries .entry))) (suc (suc (markOf (now (table .entry)) n))))) ⌝ }
 {
     let operator = tables::child_c(&table[..], n) as u8;
@@ -137,23 +141,21 @@ fn take_operation(table: &[u8; 65536], n: usize, temporaries: &mut [u8; 1024]) -
 fn take_query(table: &[u8; 65536], n: usize, temporaries: &mut [u8; 1024], obs: &[u8; 3064]) -> u32
     requires { ⌜ HasSort statement (now table) n × (kindOf (now table) n ≡ 64) ⌝ }
     ensures { λ r. ⌜ Takes (now (temporaries .entry)) (now (temporaries .exit)) r (markOf (now (table .entry)) n)
-        (onValue (heldIn (temporariesOf (now (temporaries .entry))) (suc (markOf (now (table .entry)) n))) evaluated.Stopped
-        (queryObservation (queryOf (childC (now (table .entry)) n)) (observationOf (now (obs .entry))))) ⌝ }
+        (onValue (heldIn (temporariesOf (now (temporaries .entry))) (suc (markOf (now (table .entry)) n)))
+        evaluated.Stopped (queryObservation (queryOf (childC (now (table .entry)) n))
+        (observationOf (now (obs .entry))))) ⌝ }
 {
     let query = tables::child_c(&table[..], n) as u8;
-    steps::take_query(
-        temporaries,
-        obs,
-        tables::mark(&table[..], n) as usize,
-        query,
-    )
+    let first = tables::mark(&table[..], n) as usize;
+    steps::take_query(temporaries, obs, first, query)
 }
 
 // 65: the temporary takes 1 where the one after it is 0, else 0.
 fn take_not(table: &[u8; 65536], n: usize, temporaries: &mut [u8; 1024]) -> u32
     requires { ⌜ HasSort statement (now table) n × (kindOf (now table) n ≡ 65) ⌝ }
     ensures { λ r. ⌜ Takes (now (temporaries .entry)) (now (temporaries .exit)) r (markOf (now (table .entry)) n)
-        (onValue (heldIn (temporariesOf (now (temporaries .entry))) (suc (markOf (now (table .entry)) n))) evaluated.Stopped opposite) ⌝ }
+        (onValue (heldIn (temporariesOf (now (temporaries .entry))) (suc (markOf (now (table .entry)) n)))
+        evaluated.Stopped opposite) ⌝ }
 {
     steps::take_not(temporaries, tables::mark(&table[..], n) as usize)
 }
@@ -161,7 +163,8 @@ fn take_not(table: &[u8; 65536], n: usize, temporaries: &mut [u8; 1024]) -> u32
 // 67: the temporary is asserted.
 fn assert(table: &[u8; 65536], n: usize, temporaries: &[u8; 1024]) -> u32
     requires { ⌜ HasSort statement (now table) n × (kindOf (now table) n ≡ 67) ⌝ }
-    ensures { λ r. ⌜ r ≡ assertNumber (condition (heldIn (temporariesOf (now (temporaries .entry))) (markOf (now (table .entry)) n))) ⌝ }
+    ensures { λ r. ⌜ r ≡ assertNumber (condition (heldIn (temporariesOf (now (temporaries .entry)))
+        (markOf (now (table .entry)) n))) ⌝ }
 {
     let t = steps::test_temporary(temporaries, tables::mark(&table[..], n) as usize);
     statements::assert_number(t)
@@ -177,7 +180,8 @@ fn record_block(
     requires { ⌜ HasSort statement (now table) n × (kindOf (now table) n ≡ 68) ⌝ }
     ensures { λ r. ⌜ Observes (now (obs .entry)) (now (obs .exit)) r
         (calledOnTwo (heldIn (temporariesOf (now (temporaries .entry))) (markOf (now (table .entry)) n))
-        (heldIn (temporariesOf (now (temporaries .entry))) (suc (markOf (now (table .entry)) n))) (storeBlock (observationOf (now (obs .entry))))) ⌝ }
+        (heldIn (temporariesOf (now (temporaries .entry))) (suc (markOf (now (table .entry)) n)))
+        (storeBlock (observationOf (now (obs .entry))))) ⌝ }
 {
     steps::record_block(temporaries, obs, tables::mark(&table[..], n) as usize)
 }
@@ -268,7 +272,8 @@ pub fn test(
     mem: &[u8; 18424],
 ) -> Test
     requires { ⌜ HasSort statement (now table) n × IsBranch (kindOf (now table) n) ⌝ }
-    ensures { λ r. ⌜ r ≡ choice (now (table .entry)) n (temporariesOf (now (temporaries .entry))) (variablesOf (now (variables .entry))) (memoryOf (now (mem .entry))) ⌝ }
+    ensures { λ r. ⌜ r ≡ choice (now (table .entry)) n (temporariesOf (now (temporaries .entry)))
+        (variablesOf (now (variables .entry))) (memoryOf (now (mem .entry))) ⌝ }
 {
     if tables::kind(&table[..], n) == 66 {
         return steps::test_temporary(temporaries, tables::mark(&table[..], n) as usize);

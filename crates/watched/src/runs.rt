@@ -45,7 +45,8 @@ fn sequence(
     obs: &mut [u8; 3064],
     fuel: u32,
 ) -> Ended
-    requires { ⌜ Ready (now table) n (variablesOf (now variables)) (lent (now mem) (now obs) (now temporaries)) × (kindOf (now table) n ≡ 44) ⌝ }
+    requires { ⌜ Ready (now table) n (variablesOf (now variables)) (lent (now mem) (now obs) (now temporaries))
+        × (kindOf (now table) n ≡ 44) ⌝ }
     ensures { λ r. ⌜ Runs (now (table .entry)) n (variablesOf (now (variables .entry))) fuel r
         (lent (now (mem .entry)) (now (obs .entry)) (now (temporaries .entry)))
         (lent (now (mem .exit)) (now (obs .exit)) (now (temporaries .exit))) ⌝ }
@@ -70,7 +71,8 @@ fn branch(
     obs: &mut [u8; 3064],
     fuel: u32,
 ) -> Ended
-    requires { ⌜ Ready (now table) n (variablesOf (now variables)) (lent (now mem) (now obs) (now temporaries)) × IsBranch (kindOf (now table) n) ⌝ }
+    requires { ⌜ Ready (now table) n (variablesOf (now variables)) (lent (now mem) (now obs) (now temporaries))
+        × IsBranch (kindOf (now table) n) ⌝ }
     ensures { λ r. ⌜ Runs (now (table .entry)) n (variablesOf (now (variables .entry))) fuel r
         (lent (now (mem .entry)) (now (obs .entry)) (now (temporaries .entry)))
         (lent (now (mem .exit)) (now (obs .exit)) (now (temporaries .exit))) ⌝ }
@@ -98,7 +100,8 @@ fn repeat(
     obs: &mut [u8; 3064],
     fuel: u32,
 ) -> Ended
-    requires { ⌜ Ready (now table) n (variablesOf (now variables)) (lent (now mem) (now obs) (now temporaries)) × (kindOf (now table) n ≡ 46) ⌝ }
+    requires { ⌜ Ready (now table) n (variablesOf (now variables)) (lent (now mem) (now obs) (now temporaries))
+        × (kindOf (now table) n ≡ 46) ⌝ }
     ensures { λ r. ⌜ Runs (now (table .entry)) n (variablesOf (now (variables .entry))) fuel r
         (lent (now (mem .entry)) (now (obs .entry)) (now (temporaries .entry)))
         (lent (now (mem .exit)) (now (obs .exit)) (now (temporaries .exit))) ⌝ }
@@ -148,7 +151,8 @@ fn enclose(
     obs: &mut [u8; 3064],
     fuel: u32,
 ) -> Ended
-    requires { ⌜ Ready (now table) n (variablesOf (now variables)) (lent (now mem) (now obs) (now temporaries)) × (kindOf (now table) n ≡ 47) ⌝ }
+    requires { ⌜ Ready (now table) n (variablesOf (now variables)) (lent (now mem) (now obs) (now temporaries))
+        × (kindOf (now table) n ≡ 47) ⌝ }
     ensures { λ r. ⌜ Runs (now (table .entry)) n (variablesOf (now (variables .entry))) fuel r
         (lent (now (mem .entry)) (now (obs .entry)) (now (temporaries .entry)))
         (lent (now (mem .exit)) (now (obs .exit)) (now (temporaries .exit))) ⌝ }

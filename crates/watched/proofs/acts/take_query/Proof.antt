@@ -19,29 +19,23 @@ cast-query c =
 
 mark-requires : tie.Need-mark-requires
 mark-requires c κs =
-    let s = c .before .before .before .before in
+    let s = c .before .before .before in
     statement-within target (s .args .table .now) (s .args .n) (s .pre .0)
 
-cast-take-query : tie.Need-cast-take-query
-cast-take-query c = search needs
+cast-first : tie.Need-cast-first
+cast-first c = search needs
 
 take-query-requires : tie.Need-take-query-requires
 take-query-requires c κs =
     let s = c .before .before .before .before .before in
     let f = query-fields (s .args .table .now) (s .args .n) (s .pre .0) (s .pre .1) in
-    omega (arith, c .mark .ensures, f .0)
+    omega (arith, c .before .mark .ensures, f .0)
 
 returns : tie.Need-returns
 returns c =
-    rw (c .before .mark .ensures, c .before .before .before .before .child-c .ensures) at (c .take-query .ensures)
+    rw (c .before .before .mark .ensures, c .before .before .before .before .child-c .ensures)
+    at (c .take-query .ensures)
 
 pub take-query-spec : {M : Type 1} → statement M
 take-query-spec =
-    tie.close
-    (tie.spec
-    child-c-requires
-    cast-query
-    mark-requires
-    cast-take-query
-    take-query-requires
-    returns)
+    tie.close (tie.spec child-c-requires cast-query mark-requires cast-first take-query-requires returns)
