@@ -8,10 +8,9 @@ use mathlib.Core.Path.{_≡_, refl, sym, ap, _∙_, subst}
 use lib.ListN.{length, drop}
 use Rattle.rules.specs.Words.{put}
 use Rattle.rules.specs.Records.{recordCount}
-use Rattle.rules.specs.Kinds.{source, statement}
+use Rattle.rules.specs.Kinds.{source}
 use Rattle.rules.specs.Checker.{check, inputsFault, memoryFault}
-use Rattle.rules.specs.Nodes.{sortOfNode, sourceStatement, nodeAt, sourceProgram}
-use Rattle.rules.specs.Trees.{Statement}
+use Rattle.rules.specs.Nodes.{sourceStatement, sourceProgram}
 use Rattle.rules.specs.Memory.{Memory, countFree, startMemory}
 use Rattle.rules.specs.Plain.{Outcome, finished, ended, run, startVariables}
 use Rattle.rules.specs.Layout.{memoryOf, memoryImage}
@@ -19,10 +18,8 @@ use Rattle.rules.specs.Answers.{answer, inputsOf, endingOf, memoryAfter, plainO
 use Rattle.rules.specs.declared.Answer.{Answer}
 use Rattle.rules.specs.declared.Checked.{Checked}
 use Rattle.rules.specs.declared.Checked.the-variants as checked
-use Rattle.rules.proofs.Acceptance.{Accepted, accepted-says}
-use Rattle.rules.proofs.AcceptedTrees.{accepted-last}
-use Rattle.rules.proofs.Sound.{startScope, SoundStatement}
-use Rattle.rules.proofs.SoundSource.{sound-source}
+use Rattle.rules.proofs.Sound.{startScope}
+use Rattle.rules.proofs.AcceptedPrograms.{accepted-program, padded-program}
 use Rattle.rules.proofs.Fits.{FitsMemory}
 use Rattle.rules.proofs.LayoutLaws.{memory-back}
 use Rattle.rules.proofs.Reachable.{startVariables-fit}
@@ -35,24 +32,20 @@ use Rattle.plain.proofs.Laws.{ran-is}
 
 -- ---- the start
 module _ (t l : List ℕ) (h : check source t ≡ checked.Accepted) where
-  accepted : Accepted source t
-  accepted = accepted-says source t h
-
   pub table-length : length t ≤ 65536
-  table-length = omega (arith, accepted .whole, accepted .not-too-many)
-
-  same-node : nodeAt source (put l 0 t) (recordCount t) ≡ nodeAt source t (recordCount t)
-  same-node = node-padded t (drop (0 + length t) l) source (recordCount t) (le-refl (recordCount t))
+  table-length = let a = accepted-program source t h in omega (arith, a .whole, a .not-too-many)
 
   pub same-program : statementAt (put l 0 t) (recordCount t) ≡ sourceProgram t
-  same-program = ap sourceStatement same-node
+  same-program =
+      ap sourceStatement (node-padded t (drop (0 + length t) l) source (recordCount t) (le-refl (recordCount t)))
 
   pub ready-start : (m : Memory) → FitsMemory m → Ready (put l 0 t) (recordCount t) startVariables m
   ready-start m f =
+      let p = padded-program source t (drop (0 + length t) l) h in
       record {
-        is = ap (sortOfNode source) same-node ∙ accepted-last source t accepted;
+        is = p .is;
         scope = startScope;
-        sound = subst (λ (s : Statement). SoundStatement s startScope) (sym same-program) (sound-source t h);
+        sound = p .sound;
         names = startVariables-fit;
         fits = f;
       }
@@ -80,7 +73,7 @@ module _ (i : List ℕ) (e : inputsFault i ≡ false) (l : List ℕ) (s : l ≡ 
       let o = plainOutcome t i f in
       let v : Ran o r l l₁ = ran-is (ap (λ (m : Memory). run (sourceProgram t) startVariables m f) (sym start-view)) w in
       ap length (v .memory .exact (s ∙ ap memoryImage (sym start-view)) ∙ ap memoryImage (v .memory .view))
-      ∙ plain-round-trip t i f (sound-source t h) e .image-length
+      ∙ plain-round-trip t i f (accepted-program source t h .last .sound) e .image-length
 
   pub entry-ends : (t : List ℕ) (f : ℕ) (r : Ended) (l₁ : List ℕ) (k : ℕ) (exit : List ℕ)
       → Ran (run (sourceProgram t) startVariables (memoryOf l) f) r l l₁ → k ≡ countFree (memoryOf l₁ .cells)

@@ -30,7 +30,8 @@ fn test_a(
     mem: &[u8; 18424],
 ) -> Test
     requires { ⌜ Within (now table) n × HasSort expression (now table) (childA (now table) n) ⌝ }
-    ensures { λ r. ⌜ r ≡ condition (evaluateSource (expressionAt (now (table .entry)) (childA (now (table .entry)) n)) (variablesOf (now (variables .entry))) (memoryOf (now (mem .entry)))) ⌝ }
+    ensures { λ r. ⌜ r ≡ condition (evaluateSource (expressionAt (now (table .entry)) (childA (now (table .entry)) n))
+        (variablesOf (now (variables .entry))) (memoryOf (now (mem .entry)))) ⌝ }
 {
     statements::test_a(table, n, variables, temporaries, mem)
 }
@@ -44,7 +45,8 @@ fn test_predicate(
     mem: &[u8; 18424],
 ) -> Test
     requires { ⌜ Within (now table) n × HasSort predicate (now table) (childA (now table) n) ⌝ }
-    ensures { λ r. ⌜ r ≡ condition (evaluatePredicate (predicateAt (now (table .entry)) (childA (now (table .entry)) n)) (variablesOf (now (variables .entry))) (memoryOf (now (mem .entry)))) ⌝ }
+    ensures { λ r. ⌜ r ≡ condition (evaluatePredicate (predicateAt (now (table .entry)) (childA (now (table .entry)) n))
+        (variablesOf (now (variables .entry))) (memoryOf (now (mem .entry)))) ⌝ }
 {
     let a = tables::child_a(&table[..], n);
     values::test(predicates::evaluate_predicate(table, a, variables, temporaries, mem))
@@ -59,8 +61,10 @@ fn assign(
     mem: &mut [u8; 18424],
     fuel: u32,
 ) -> Ended
-    requires { ⌜ Ready (now table) n (variablesOf (now variables)) (memoryOf (now mem)) × (kindOf (now table) n ≡ 41) ⌝ }
-    ensures { λ r. ⌜ Ran (run (statementAt (now (table .entry)) n) (variablesOf (now (variables .entry))) (memoryOf (now (mem .entry))) fuel) r (now (mem .entry)) (now (mem .exit)) ⌝ }
+    requires { ⌜ Ready (now table) n (variablesOf (now variables)) (memoryOf (now mem))
+        × (kindOf (now table) n ≡ 41) ⌝ }
+    ensures { λ r. ⌜ Ran (run (statementAt (now (table .entry)) n) (variablesOf (now (variables .entry)))
+        (memoryOf (now (mem .entry))) fuel) r (now (mem .entry)) (now (mem .exit)) ⌝ }
 {
     let f = statements::find_a(table, n, variables, temporaries, &*mem);
     let e = statements::evaluate_b(table, n, variables, temporaries, &*mem);
@@ -76,8 +80,10 @@ fn allocate(
     mem: &mut [u8; 18424],
     fuel: u32,
 ) -> Ended
-    requires { ⌜ Ready (now table) n (variablesOf (now variables)) (memoryOf (now mem)) × (kindOf (now table) n ≡ 42) ⌝ }
-    ensures { λ r. ⌜ Ran (run (statementAt (now (table .entry)) n) (variablesOf (now (variables .entry))) (memoryOf (now (mem .entry))) fuel) r (now (mem .entry)) (now (mem .exit)) ⌝ }
+    requires { ⌜ Ready (now table) n (variablesOf (now variables)) (memoryOf (now mem))
+        × (kindOf (now table) n ≡ 42) ⌝ }
+    ensures { λ r. ⌜ Ran (run (statementAt (now (table .entry)) n) (variablesOf (now (variables .entry)))
+        (memoryOf (now (mem .entry))) fuel) r (now (mem .entry)) (now (mem .exit)) ⌝ }
 {
     let f = statements::find_a(table, n, variables, temporaries, &*mem);
     let e = statements::evaluate_b(table, n, variables, temporaries, &*mem);
@@ -93,8 +99,10 @@ fn release(
     mem: &mut [u8; 18424],
     fuel: u32,
 ) -> Ended
-    requires { ⌜ Ready (now table) n (variablesOf (now variables)) (memoryOf (now mem)) × (kindOf (now table) n ≡ 43) ⌝ }
-    ensures { λ r. ⌜ Ran (run (statementAt (now (table .entry)) n) (variablesOf (now (variables .entry))) (memoryOf (now (mem .entry))) fuel) r (now (mem .entry)) (now (mem .exit)) ⌝ }
+    requires { ⌜ Ready (now table) n (variablesOf (now variables)) (memoryOf (now mem))
+        × (kindOf (now table) n ≡ 43) ⌝ }
+    ensures { λ r. ⌜ Ran (run (statementAt (now (table .entry)) n) (variablesOf (now (variables .entry)))
+        (memoryOf (now (mem .entry))) fuel) r (now (mem .entry)) (now (mem .exit)) ⌝ }
 {
     let e = statements::evaluate_a(table, n, variables, temporaries, &*mem);
     statements::conclude(statements::free_at(mem, e), n as u32, fuel)
@@ -109,8 +117,10 @@ fn assert(
     mem: &mut [u8; 18424],
     fuel: u32,
 ) -> Ended
-    requires { ⌜ Ready (now table) n (variablesOf (now variables)) (memoryOf (now mem)) × (kindOf (now table) n ≡ 48) ⌝ }
-    ensures { λ r. ⌜ Ran (run (statementAt (now (table .entry)) n) (variablesOf (now (variables .entry))) (memoryOf (now (mem .entry))) fuel) r (now (mem .entry)) (now (mem .exit)) ⌝ }
+    requires { ⌜ Ready (now table) n (variablesOf (now variables)) (memoryOf (now mem))
+        × (kindOf (now table) n ≡ 48) ⌝ }
+    ensures { λ r. ⌜ Ran (run (statementAt (now (table .entry)) n) (variablesOf (now (variables .entry)))
+        (memoryOf (now (mem .entry))) fuel) r (now (mem .entry)) (now (mem .exit)) ⌝ }
 {
     let t = test_predicate(table, n, variables, temporaries, &*mem);
     statements::conclude(statements::assert_number(t), n as u32, fuel)
@@ -126,7 +136,8 @@ pub fn run(
     fuel: u32,
 ) -> Ended
     requires { ⌜ Ready (now table) n (variablesOf (now variables)) (memoryOf (now mem)) ⌝ }
-    ensures { λ r. ⌜ Ran (run (statementAt (now (table .entry)) n) (variablesOf (now (variables .entry))) (memoryOf (now (mem .entry))) fuel) r (now (mem .entry)) (now (mem .exit)) ⌝ }
+    ensures { λ r. ⌜ Ran (run (statementAt (now (table .entry)) n) (variablesOf (now (variables .entry)))
+        (memoryOf (now (mem .entry))) fuel) r (now (mem .entry)) (now (mem .exit)) ⌝ }
 {
     match tables::kind(&table[..], n) {
         40 => Ended {
@@ -154,8 +165,10 @@ fn sequence(
     mem: &mut [u8; 18424],
     fuel: u32,
 ) -> Ended
-    requires { ⌜ Ready (now table) n (variablesOf (now variables)) (memoryOf (now mem)) × (kindOf (now table) n ≡ 44) ⌝ }
-    ensures { λ r. ⌜ Ran (run (statementAt (now (table .entry)) n) (variablesOf (now (variables .entry))) (memoryOf (now (mem .entry))) fuel) r (now (mem .entry)) (now (mem .exit)) ⌝ }
+    requires { ⌜ Ready (now table) n (variablesOf (now variables)) (memoryOf (now mem))
+        × (kindOf (now table) n ≡ 44) ⌝ }
+    ensures { λ r. ⌜ Ran (run (statementAt (now (table .entry)) n) (variablesOf (now (variables .entry)))
+        (memoryOf (now (mem .entry))) fuel) r (now (mem .entry)) (now (mem .exit)) ⌝ }
 {
     let r = run(
         table,
@@ -188,8 +201,10 @@ fn branch(
     mem: &mut [u8; 18424],
     fuel: u32,
 ) -> Ended
-    requires { ⌜ Ready (now table) n (variablesOf (now variables)) (memoryOf (now mem)) × (kindOf (now table) n ≡ 45) ⌝ }
-    ensures { λ r. ⌜ Ran (run (statementAt (now (table .entry)) n) (variablesOf (now (variables .entry))) (memoryOf (now (mem .entry))) fuel) r (now (mem .entry)) (now (mem .exit)) ⌝ }
+    requires { ⌜ Ready (now table) n (variablesOf (now variables)) (memoryOf (now mem))
+        × (kindOf (now table) n ≡ 45) ⌝ }
+    ensures { λ r. ⌜ Ran (run (statementAt (now (table .entry)) n) (variablesOf (now (variables .entry)))
+        (memoryOf (now (mem .entry))) fuel) r (now (mem .entry)) (now (mem .exit)) ⌝ }
 {
     match test_a(table, n, variables, temporaries, &*mem) {
         Test::Yes => run(
@@ -225,8 +240,10 @@ fn repeat(
     mem: &mut [u8; 18424],
     fuel: u32,
 ) -> Ended
-    requires { ⌜ Ready (now table) n (variablesOf (now variables)) (memoryOf (now mem)) × (kindOf (now table) n ≡ 46) ⌝ }
-    ensures { λ r. ⌜ Ran (run (statementAt (now (table .entry)) n) (variablesOf (now (variables .entry))) (memoryOf (now (mem .entry))) fuel) r (now (mem .entry)) (now (mem .exit)) ⌝ }
+    requires { ⌜ Ready (now table) n (variablesOf (now variables)) (memoryOf (now mem))
+        × (kindOf (now table) n ≡ 46) ⌝ }
+    ensures { λ r. ⌜ Ran (run (statementAt (now (table .entry)) n) (variablesOf (now (variables .entry)))
+        (memoryOf (now (mem .entry))) fuel) r (now (mem .entry)) (now (mem .exit)) ⌝ }
 {
     let b = tables::child_b(&table[..], n);
     let mut left = fuel;
@@ -272,8 +289,10 @@ fn enclose(
     mem: &mut [u8; 18424],
     fuel: u32,
 ) -> Ended
-    requires { ⌜ Ready (now table) n (variablesOf (now variables)) (memoryOf (now mem)) × (kindOf (now table) n ≡ 47) ⌝ }
-    ensures { λ r. ⌜ Ran (run (statementAt (now (table .entry)) n) (variablesOf (now (variables .entry))) (memoryOf (now (mem .entry))) fuel) r (now (mem .entry)) (now (mem .exit)) ⌝ }
+    requires { ⌜ Ready (now table) n (variablesOf (now variables)) (memoryOf (now mem))
+        × (kindOf (now table) n ≡ 47) ⌝ }
+    ensures { λ r. ⌜ Ran (run (statementAt (now (table .entry)) n) (variablesOf (now (variables .entry)))
+        (memoryOf (now (mem .entry))) fuel) r (now (mem .entry)) (now (mem .exit)) ⌝ }
 {
     match blocks::make(mem, false, 1) {
         Making::Name(k) => run_inside(table, n, variables, temporaries, mem, fuel, k),
@@ -296,7 +315,8 @@ fn run_inside(
     k: u16,
 ) -> Ended
     requires { ⌜ Inside (now table) n (variablesOf (now variables)) (memoryOf (now mem)) k ⌝ }
-    ensures { λ r. ⌜ Ran (enclosed (now (table .entry)) n (variablesOf (now (variables .entry))) (memoryOf (now (mem .entry))) fuel k) r (now (mem .entry)) (now (mem .exit)) ⌝ }
+    ensures { λ r. ⌜ Ran (enclosed (now (table .entry)) n (variablesOf (now (variables .entry)))
+        (memoryOf (now (mem .entry))) fuel k) r (now (mem .entry)) (now (mem .exit)) ⌝ }
 {
     let inner = statements::name_variable(*variables, tables::mark(&table[..], n) as usize, k);
     let r = run(
@@ -316,7 +336,8 @@ fn run_inside(
 // Runs statement n with the variables and temporaries of the start.
 fn run_from_start(table: &[u8; 65536], n: usize, mem: &mut [u8; 18424], fuel: u32) -> Ended
     requires { ⌜ Ready (now table) n startVariables (memoryOf (now mem)) ⌝ }
-    ensures { λ r. ⌜ Ran (run (statementAt (now (table .entry)) n) startVariables (memoryOf (now (mem .entry))) fuel) r (now (mem .entry)) (now (mem .exit)) ⌝ }
+    ensures { λ r. ⌜ Ran (run (statementAt (now (table .entry)) n) startVariables (memoryOf (now (mem .entry))) fuel) r
+        (now (mem .entry)) (now (mem .exit)) ⌝ }
 {
     let variables = statements::start_variables();
     let temporaries = [0u8; 1024];
@@ -326,7 +347,8 @@ fn run_from_start(table: &[u8; 65536], n: usize, mem: &mut [u8; 18424], fuel: u3
 // Runs an accepted table from a memory that holds the inputs.
 fn run_table(table: &[u8], mem: &mut [u8; 18424], fuel: u32) -> Ended
     requires { ⌜ (check source (now table) ≡ checked.Accepted) × FitsMemory (memoryOf (now mem)) ⌝ }
-    ensures { λ r. ⌜ Ran (run (sourceProgram (now (table .entry))) startVariables (memoryOf (now (mem .entry))) fuel) r (now (mem .entry)) (now (mem .exit)) ⌝ }
+    ensures { λ r. ⌜ Ran (run (sourceProgram (now (table .entry))) startVariables (memoryOf (now (mem .entry))) fuel) r
+        (now (mem .entry)) (now (mem .exit)) ⌝ }
 {
     let mut whole = [0u8; 65536];
     statements::copy(&mut whole[..], table);
@@ -335,8 +357,10 @@ fn run_table(table: &[u8], mem: &mut [u8; 18424], fuel: u32) -> Ended
 
 // Lays out the inputs and runs an accepted table; the memory that it leaves is copied out.
 fn run_inputs(table: &[u8], inputs: &[u8], fuel: u32, memory: &mut [u8]) -> Answer
-    requires { ⌜ (check source (now table) ≡ checked.Accepted) × (inputsFault (now inputs) ≡ false) × (memoryFault (now memory) ≡ false) ⌝ }
-    ensures { λ r. ⌜ AnsweredBy (plainEnded (plainOutcome (now (table .entry)) (now (inputs .entry)) fuel)) r (now (memory .exit)) ⌝ }
+    requires { ⌜ (check source (now table) ≡ checked.Accepted) × (inputsFault (now inputs) ≡ false)
+        × (memoryFault (now memory) ≡ false) ⌝ }
+    ensures { λ r. ⌜ AnsweredBy (plainEnded (plainOutcome (now (table .entry)) (now (inputs .entry)) fuel)) r
+        (now (memory .exit)) ⌝ }
 {
     let mut mem = [0u8; 18424];
     memory::start(&mut mem, inputs);
@@ -354,7 +378,8 @@ fn run_inputs(table: &[u8], inputs: &[u8], fuel: u32, memory: &mut [u8]) -> Answ
 // The plain run of an accepted table.
 fn run_accepted(table: &[u8], inputs: &[u8], fuel: u32, memory: &mut [u8]) -> Answer
     requires { ⌜ check source (now table) ≡ checked.Accepted ⌝ }
-    ensures { λ r. ⌜ AnsweredBy (plainBy checked.Accepted (now (table .entry)) (now (inputs .entry)) fuel (now (memory .entry))) r (now (memory .exit)) ⌝ }
+    ensures { λ r. ⌜ AnsweredBy (plainBy checked.Accepted (now (table .entry)) (now (inputs .entry)) fuel
+        (now (memory .entry))) r (now (memory .exit)) ⌝ }
 {
     if statements::has_inputs_fault(inputs) {
         return statements::refuse(9, 0);
@@ -367,7 +392,8 @@ fn run_accepted(table: &[u8], inputs: &[u8], fuel: u32, memory: &mut [u8]) -> An
 
 // The plain run of a source table: what it answers, and what it leaves in the memory.
 pub fn run_plain(table: &[u8], inputs: &[u8], fuel: u32, memory: &mut [u8]) -> Answer
-    ensures { λ r. ⌜ AnsweredBy (runPlain (now (table .entry)) (now (inputs .entry)) fuel (now (memory .entry))) r (now (memory .exit)) ⌝ }
+    ensures { λ r. ⌜ AnsweredBy (runPlain (now (table .entry)) (now (inputs .entry)) fuel (now (memory .entry))) r
+        (now (memory .exit)) ⌝ }
 {
     match checker::check_source(table) {
         Checked::Accepted => run_accepted(table, inputs, fuel, memory),

@@ -12,8 +12,7 @@ use Rattle.rules.specs.Answers.{PlainRun, WatchedRun, memoryAfter, input
 use Rattle.rules.specs.Cases as cases
 use Rattle.rules.specs.TargetTrees.{TargetStatement}
 use Rattle.rules.proofs.Sound.{startScope, SoundStatement}
-use Rattle.rules.proofs.Acceptance.{accepted-says}
-use Rattle.rules.proofs.SoundSource.{sound-source}
+use Rattle.rules.proofs.AcceptedPrograms.{accepted-program}
 use Rattle.rules.proofs.SizeBound.{size-bound}
 use Rattle.rules.proofs.TranslatedTables.{translatedSize, translation-accepted, translation-program}
 use Rattle.rules.proofs.UnrefusedRuns.{plain-runs, watched-runs}
@@ -77,8 +76,9 @@ watched-is : (rs : List Record) (k : ℕ) → check source (tableBytes rs) ≡ c
 unfolding watchedly watchedFrom cases.watched digits
 watched-is rs k c e =
     let t : List ℕ = tableBytes rs in
-    let sound : SoundStatement (sourceProgram t) startScope = sound-source t c in
-    let small : translatedSize t ≤ 4096 = omega (arith, size-bound t c, accepted-says source t c .not-too-many) in
+    let a = accepted-program source t c in
+    let sound : SoundStatement (sourceProgram t) startScope = a .last .sound in
+    let small : translatedSize t ≤ 4096 = omega (arith, size-bound t c, a .not-too-many) in
     ap (λ (r : WatchedRun). r .answer .number)
     (watched-runs (translation t) inputs 0 (replicate memoryLength 0) (replicate observationLength 0)
     (translation-accepted t sound small) refl (length-replicate {A = ℕ} memoryLength 0)

@@ -20,8 +20,7 @@ use Rattle.rules.specs.Demand3.{Agreement, Demand3}
 use Rattle.rules.specs.declared.Checked.the-variants as checked
 use Rattle.rules.proofs.UnrefusedRuns.{plain-runs, watched-runs}
 use Rattle.rules.proofs.Sound.{startScope, SoundStatement}
-use Rattle.rules.proofs.Acceptance.{accepted-says}
-use Rattle.rules.proofs.SoundSource.{sound-source}
+use Rattle.rules.proofs.AcceptedPrograms.{accepted-program}
 use Rattle.rules.proofs.SizeBound.{size-bound}
 use Rattle.rules.proofs.TranslatedTables.{translatedSize, translation-count, translation-accepted, translation-program}
 use Rattle.rules.proofs.ReachableRoundTrip.{plain-round-trip}
@@ -37,10 +36,10 @@ watched-from t i f e = λ k.
 
 module _ (t i : List ℕ) (f : ℕ) (c : check source t ≡ checked.Accepted) (e : inputsFault i ≡ false) where
   few : recordCount t ≤ sourceLimit
-  few = accepted-says source t c .not-too-many
+  few = accepted-program source t c .not-too-many
 
   sound : SoundStatement (sourceProgram t) startScope
-  sound = sound-source t c
+  sound = accepted-program source t c .last .sound
 
   small : translatedSize t ≤ 4096
   small = omega (arith, size-bound t c, few)

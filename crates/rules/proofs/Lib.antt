@@ -69,7 +69,7 @@ pub mod KeptPredicates
 pub mod Reachable
 pub mod ReachableRoundTrip
 -- What the code's proofs use: changes of one record, runs of free places, tables with bytes behind them, expressions
--- of both languages, statements kind by kind.
+-- of both languages, statements kind by kind, and what acceptance gives.
 pub mod FillLaws
 pub mod RecordLaws
 pub mod RunLaws
@@ -79,6 +79,7 @@ pub mod StatementArms
 pub mod PlainArms
 pub mod TargetFields
 pub mod TargetArms
+pub mod AcceptedPrograms
 -- Simulation: the translation runs as its source does.
 pub mod Mirror
 pub mod PredicateSimulation

@@ -1,4 +1,4 @@
--- The tree of an accepted source table is sound.
+-- Each node of an accepted source table is sound by what its record hands on.
 use Prim.Native.Nat.{ℕ, zero, suc, _≤_, _<_}
 use native.Mathlib.Omega.{arith}
 use mathlib.Core.Bool.{true, false, cond}
@@ -8,16 +8,13 @@ use borrow.Author.Tests.{leb-true, eq-eqb}
 use lib.Dec.{leb, eqb}
 use Rattle.rules.specs.Records.{markOf, childA, childB}
 use Rattle.rules.specs.Kinds.{source, Sort, between}
-use Rattle.rules.specs.Checker.{check}
-use Rattle.rules.specs.declared.Checked.the-variants as checked
 use Rattle.rules.specs.Trees.{Term}
-use Rattle.rules.specs.Nodes.{operatorOf, asTerm, nodeAt, sourceProgram}
-use Rattle.rules.proofs.Sound.{Scope, startScope, isPlainOperator, SoundTerm, SoundStatement}
-use Rattle.rules.proofs.Acceptance.{accepted-says}
+use Rattle.rules.specs.Nodes.{operatorOf, asTerm, nodeAt}
+use Rattle.rules.proofs.Sound.{Scope, isPlainOperator, SoundTerm}
 use Rattle.rules.proofs.KindViews.{and-split, formAt, SourceKind, literal, read, address, operation, shifted, variable, pointed, value, base, offset, blockLength, combined, valid, initialised, compared, negated, both, either, skip, assign, new, free, sequence, branch, while, letIn, assert}
 use Rattle.rules.proofs.FormLaws.{nodeAs}
 use Rattle.rules.proofs.RecordScopes.{scopeAt, levelAt}
-use Rattle.rules.proofs.Readiness.{SoundAs, Ready, sound-last}
+use Rattle.rules.proofs.Readiness.{SoundAs, Ready}
 
 pub up-to : (high x : ℕ) → between 0 high x ≡ true → x ≤ high
 up-to high x h = leb-true x high (and-split (leb 0 x) (leb x high) h .1)
@@ -45,7 +42,7 @@ two-terms : (x y : Term) (ρ : Scope) (v a b : ℕ) → suc (suc v) < 64 → eqb
     → (suc (suc v) < 64) × SoundTerm x ρ (suc v) × SoundTerm y ρ (suc (suc v))
 two-terms x y ρ v a b h e p q = (h, rw e at p, rw (eq-eqb b b refl) at q)
 
-source-arm : (t : List ℕ) (n : ℕ) {s : Sort} {k : ℕ} → SourceKind s k → Ready source t n (formAt source k)
+pub source-arm : (t : List ℕ) (n : ℕ) {s : Sort} {k : ℕ} → SourceKind s k → Ready source t n (formAt source k)
     → SoundAs source s (nodeAs source k t n) (scopeAt source t n) (levelAt source t n)
 source-arm t n literal r = r .range
 source-arm t n read r = r .a
@@ -79,6 +76,3 @@ source-arm t n while r = ((r .from-one, r .within), r .a, r .b)
 source-arm t n letIn r =
     ((r .from-one, r .within), omega (arith, up-to 63 (markOf t n) (r .holds .mark)), r .lets refl, r .a)
 source-arm t n assert r = ((r .from-one, r .within), r .a)
-
-pub sound-source : (t : List ℕ) → check source t ≡ checked.Accepted → SoundStatement (sourceProgram t) startScope
-sound-source t h = sound-last source t (accepted-says source t h) (λ n s k v r. source-arm t n v r)

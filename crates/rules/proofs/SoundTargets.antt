@@ -1,26 +1,22 @@
--- The tree of an accepted target table is sound.
+-- Each node of an accepted target table is sound by what its record hands on.
 use Prim.Native.Nat.{ℕ}
 use native.Mathlib.Omega.{arith}
 use mathlib.Core.List.{List}
 use mathlib.Core.Path.{_≡_, refl}
 use Rattle.rules.specs.Records.{markOf, literalOf}
 use Rattle.rules.specs.Kinds.{target, Sort, statementLiteral}
-use Rattle.rules.specs.Checker.{check}
-use Rattle.rules.specs.declared.Checked.the-variants as checked
 use lib.IntN.{natAbs}
-use Rattle.rules.specs.Nodes.{targetProgram}
-use Rattle.rules.proofs.Sound.{startScope, Numbered, SoundTarget}
-use Rattle.rules.proofs.Acceptance.{accepted-says}
+use Rattle.rules.proofs.Sound.{Numbered}
 use Rattle.rules.proofs.KindViews.{formAt, TargetKind, literal, read, address, operation, shifted, variable, pointed, temporary, skip, assign, new, free, sequence, branch, while, letIn, takeAddress, takeValue, takeOperation, takeQuery, takeNot, branchOn, assertOn, storeBlock, deleteBlock, initialise}
 use Rattle.rules.proofs.FormLaws.{LiteralHolds, nodeAs}
 use Rattle.rules.proofs.RecordScopes.{scopeAt, levelAt}
-use Rattle.rules.proofs.Readiness.{SoundAs, Ready, sound-last}
+use Rattle.rules.proofs.Readiness.{SoundAs, Ready}
 use Rattle.rules.proofs.SoundSource.{up-to, plain-operator}
 
 numbered : (t : List ℕ) (n : ℕ) → LiteralHolds statementLiteral (literalOf t n) → Numbered (natAbs (literalOf t n))
 numbered t n h = (h .0, h .1)
 
-target-arm : (t : List ℕ) (n : ℕ) {s : Sort} {k : ℕ} → TargetKind s k → Ready target t n (formAt target k)
+pub target-arm : (t : List ℕ) (n : ℕ) {s : Sort} {k : ℕ} → TargetKind s k → Ready target t n (formAt target k)
     → SoundAs target s (nodeAs target k t n) (scopeAt target t n) (levelAt target t n)
 target-arm t n literal r = r .range
 target-arm t n read r = r .a
@@ -59,6 +55,3 @@ target-arm t n deleteBlock r =
     (numbered t n (r .holds .literal), omega (arith, up-to 63 (markOf t n) (r .holds .mark)))
 target-arm t n initialise r =
     (numbered t n (r .holds .literal), omega (arith, up-to 63 (markOf t n) (r .holds .mark)))
-
-pub sound-target : (t : List ℕ) → check target t ≡ checked.Accepted → SoundTarget (targetProgram t) startScope
-sound-target t h = sound-last target t (accepted-says target t h) (λ n s k v r. target-arm t n v r)

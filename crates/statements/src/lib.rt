@@ -8,15 +8,14 @@ ghost use Rattle.rules.specs.Answers.{answer};
 ghost use Rattle.rules.specs.Memory.{freeable, makeBlock, storeNew, newOfSize, assigned, allocated, freed};
 ghost use Rattle.rules.specs.Records.{childA, childB};
 ghost use Rattle.rules.specs.Kinds.{target, sortNumber, expression, place};
-ghost use Rattle.rules.specs.Nodes.{asExpression, asPlace, sortOfNode, nodeAt};
-ghost use Rattle.rules.specs.Evaluation.{evaluate, findPlace, condition, extend};
-ghost use Rattle.rules.specs.Watched.{temporaryOf};
+ghost use Rattle.rules.specs.Nodes.{sortOfNode, nodeAt};
+ghost use Rattle.rules.specs.Evaluation.{condition, extend};
 ghost use Rattle.rules.specs.Plain.{startVariables};
 ghost use Rattle.rules.specs.Layout.{memoryOf};
 ghost use Rattle.cells.specs.Changes.{EvaluatedFits};
 ghost use Rattle.tables.specs.Within.{Within};
 ghost use Rattle.evaluation.specs.State.{variablesOf};
-ghost use Rattle.temporaries.specs.Bytes.{temporariesOf};
+ghost use Rattle.statements.specs.Children.{foundIn, valueIn};
 ghost use Rattle.statements.specs.Ending.{concluded, assertNumber, Does};
 use blocks::Making;
 use rules::Answer;
@@ -73,9 +72,8 @@ pub fn find_a(
 ) -> Found
     requires { ⌜ Within (now table) n
         × (sortOfNode target (nodeAt target (now table) (childA (now table) n)) ≡ sortNumber place) ⌝ }
-    ensures { λ r. ⌜ r ≡ findPlace (asPlace (nodeAt target (now (table .entry)) (childA (now (table .entry)) n)))
-        (temporaryOf (temporariesOf (now (temporaries .entry)))) (variablesOf (now (variables .entry)))
-        (memoryOf (now (mem .entry))) ⌝ }
+    ensures { λ r. ⌜ r ≡ foundIn (now (table .entry)) (childA (now (table .entry)) n)
+        (now (variables .entry)) (now (temporaries .entry)) (now (mem .entry)) ⌝ }
 {
     let place = tables::child_a(&table[..], n);
     evaluation::find_place(table, place, variables, temporaries, mem)
@@ -91,9 +89,8 @@ pub fn evaluate_a(
 ) -> Evaluated
     requires { ⌜ Within (now table) n
         × (sortOfNode target (nodeAt target (now table) (childA (now table) n)) ≡ sortNumber expression) ⌝ }
-    ensures { λ r. ⌜ r ≡ evaluate (asExpression (nodeAt target (now (table .entry)) (childA (now (table .entry)) n)))
-        (temporaryOf (temporariesOf (now (temporaries .entry)))) (variablesOf (now (variables .entry)))
-        (memoryOf (now (mem .entry))) ⌝ }
+    ensures { λ r. ⌜ r ≡ valueIn (now (table .entry)) (childA (now (table .entry)) n)
+        (now (variables .entry)) (now (temporaries .entry)) (now (mem .entry)) ⌝ }
 {
     let first = tables::child_a(&table[..], n);
     evaluation::evaluate(table, first, variables, temporaries, mem)
@@ -108,9 +105,8 @@ pub fn evaluate_b(
 ) -> Evaluated
     requires { ⌜ Within (now table) n
         × (sortOfNode target (nodeAt target (now table) (childB (now table) n)) ≡ sortNumber expression) ⌝ }
-    ensures { λ r. ⌜ r ≡ evaluate (asExpression (nodeAt target (now (table .entry)) (childB (now (table .entry)) n)))
-        (temporaryOf (temporariesOf (now (temporaries .entry)))) (variablesOf (now (variables .entry)))
-        (memoryOf (now (mem .entry))) ⌝ }
+    ensures { λ r. ⌜ r ≡ valueIn (now (table .entry)) (childB (now (table .entry)) n)
+        (now (variables .entry)) (now (temporaries .entry)) (now (mem .entry)) ⌝ }
 {
     let second = tables::child_b(&table[..], n);
     evaluation::evaluate(table, second, variables, temporaries, mem)
@@ -126,9 +122,8 @@ pub fn test_a(
 ) -> Test
     requires { ⌜ Within (now table) n
         × (sortOfNode target (nodeAt target (now table) (childA (now table) n)) ≡ sortNumber expression) ⌝ }
-    ensures { λ r. ⌜ r ≡ condition (evaluate (asExpression (nodeAt target (now (table .entry)) (childA (now (table .entry)) n)))
-        (temporaryOf (temporariesOf (now (temporaries .entry)))) (variablesOf (now (variables .entry)))
-        (memoryOf (now (mem .entry)))) ⌝ }
+    ensures { λ r. ⌜ r ≡ condition (valueIn (now (table .entry)) (childA (now (table .entry)) n)
+        (now (variables .entry)) (now (temporaries .entry)) (now (mem .entry))) ⌝ }
 {
     let e = evaluate_a(table, n, variables, temporaries, mem);
     values::test(e)
@@ -150,7 +145,8 @@ pub fn store_at(mem: &mut [u8; 18424], f: Found, e: Evaluated) -> u32
 
 // A place takes the pointer to a new block of n cells.
 fn store_new(mem: &mut [u8; 18424], p: Pointer, n: usize) -> u32
-    ensures { λ r. ⌜ Does (storeNew (memoryOf (now (mem .entry))) p (makeBlock (memoryOf (now (mem .entry))) freeable n)) r (now (mem .entry)) (now (mem .exit)) ⌝ }
+    ensures { λ r. ⌜ Does (storeNew (memoryOf (now (mem .entry))) p (makeBlock (memoryOf (now (mem .entry)))
+        freeable n)) r (now (mem .entry)) (now (mem .exit)) ⌝ }
 {
     match blocks::make(mem, true, n) {
         Making::Name(k) => memory::store(mem, p, Value::Pointer(Pointer { name: k, offset: 0 })),

@@ -19,9 +19,7 @@ use Rattle.rules.specs.Answers.{answer, Translated, translatedInto}
 use Rattle.rules.specs.Words.{put}
 use Rattle.rules.specs.Translation.{translate, statementTree, treeSize, emit, translatedRecords, translation}
 use Rattle.rules.proofs.Sound.{Scope, startScope, adding, SoundTerm, SoundPredicate, SoundStatement}
-use Rattle.rules.proofs.SoundSource.{sound-source}
-use Rattle.rules.proofs.Acceptance.{Accepted, accepted-says}
-use Rattle.rules.proofs.AcceptedTrees.{accepted-last}
+use Rattle.rules.proofs.AcceptedPrograms.{AcceptedProgram, accepted-program}
 use Rattle.rules.proofs.SizeBound.{size-bound}
 use Rattle.sizes.specs.Trees.{copyAt, Sorted}
 use Rattle.emission.specs.Emission.{Emitted}
@@ -63,25 +61,28 @@ into bytes o b =
     ]
 
 module _ (t : List ℕ) (a : check source t ≡ checked.Accepted) where
+  program : AcceptedProgram source t
+  program = accepted-program source t a
+
   pub accepted-statement : StatementAt t (recordCount t)
   accepted-statement =
-      statement-as (nodeAt source t (recordCount t)) (accepted-last source t (accepted-says source t a))
-      (statement-levels (sourceProgram t) startScope (sound-source t a))
+      statement-as (nodeAt source t (recordCount t)) (program .last .is)
+      (statement-levels (sourceProgram t) startScope (program .last .sound))
 
   pub accepted-tree : statementTree (translate (sourceProgram t)) ≡ copyAt t (recordCount t)
   accepted-tree =
-      tree-as statement (nodeAt source t (recordCount t)) 0 0 (accepted-last source t (accepted-says source t a))
+      tree-as statement (nodeAt source t (recordCount t)) 0 0 (program .last .is)
 
   pub accepted-size : treeSize (copyAt t (recordCount t)) ≤ 4096
   accepted-size =
-      omega (arith, size-bound t a, ap treeSize accepted-tree, accepted-says source t a .not-too-many)
+      omega (arith, size-bound t a, ap treeSize accepted-tree, program .not-too-many)
 
   pub accepted-bytes : translation t ≡ tableBytes (emit (copyAt t (recordCount t)) 0)
   unfolding translatedRecords
   accepted-bytes = ap (λ w. tableBytes (emit w 0)) accepted-tree
 
   pub accepted-sorted : Sorted t (recordCount t)
-  accepted-sorted = let e = accepted-last source t (accepted-says source t a) in inr (omega arith)
+  accepted-sorted = let e = program .last .is in inr (omega arith)
 
   translation-length : length (translation t) ≡ 16 * treeSize (copyAt t (recordCount t))
   translation-length = ap length accepted-bytes ∙ bytes-emit (copyAt t (recordCount t)) 0

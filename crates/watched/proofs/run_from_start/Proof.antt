@@ -1,0 +1,21 @@
+use Rattle.rules.proofs.TargetFields.{statementAt}
+use Rattle.watched.proofs.EntryLaws.{leaves-start}
+use borrow.Author.Needs.{needs}
+use Rattle.watched.proofs.run_from_start.Statement.{statement}
+use Rattle.watched.proofs.run_from_start.Tie as tie
+
+start-variables-requires : tie.Need-start-variables-requires
+start-variables-requires c κs = search needs
+
+run-requires : tie.Need-run-requires
+run-requires c κs =
+    rw (c .before .before .before .before .start-variables .ensures) (c .before .before .before .before .before .pre)
+
+returns : tie.Need-returns
+returns c =
+    let s = c .before .before .before .before .before .before .args in
+    leaves-start (statementAt (s .table .now) (s .n)) (s .fuel) (c .run .result) (s .mem .now) _ (s .obs .now) _ _
+    (rw (c .before .before .before .before .before .start-variables .ensures) at (c .run .ensures))
+
+pub run-from-start-spec : {M : Type 1} → statement M
+run-from-start-spec = tie.close (tie.spec start-variables-requires run-requires returns)

@@ -1,0 +1,76 @@
+use native.Mathlib.Omega.{arith}
+use mathlib.Core.Path.{sym, _∙_}
+use Rattle.statements.proofs.EntryLaws.{put-all, memory-whole}
+use Rattle.watched.proofs.EntryLaws.{exit-lengths, observation-whole}
+use borrow.Author.Needs.{needs}
+use Rattle.watched.proofs.run_inputs.Statement.{statement}
+use Rattle.watched.proofs.run_inputs.Tie as tie
+
+run-memories-requires : tie.Need-run-memories-requires
+run-memories-requires c κs = search needs
+
+slice-aggregate-copy : tie.Need-slice-aggregate-copy
+slice-aggregate-copy c =
+    let s = c .before .before .before .before .before .before .before .before .before in
+    let x = exit-lengths (s .args .table .now) (s .args .inputs .now) (s .args .fuel) (c .before .before .run-memories .result) _ _
+    (s .pre .0) (s .pre .1) (c .before .before .run-memories .ensures) in
+    sym (x .0)
+
+copy-requires : tie.Need-copy-requires
+copy-requires c κs =
+    let s = c .before .before .before .before .before .before .before .before .before in
+    let x = exit-lengths (s .args .table .now) (s .args .inputs .now) (s .args .fuel) (c .before .before .run-memories .result) _ _
+    (s .pre .0) (s .pre .1) (c .before .before .run-memories .ensures) in
+    omega (arith, x .0, memory-whole (s .args .memory .now) (s .pre .2))
+
+slice-aggregate-copy-2 : tie.Need-slice-aggregate-copy-2
+slice-aggregate-copy-2 c =
+    let s = c .before .before .before .before .before .before .before .before .before .before .before .before .before .before in
+    let x = exit-lengths (s .args .table .now) (s .args .inputs .now) (s .args .fuel) (c .before .before .before .before .before .before .before .run-memories .result) _ _
+    (s .pre .0) (s .pre .1) (c .before .before .before .before .before .before .before .run-memories .ensures) in
+    sym (x .1)
+
+copy-requires-2 : tie.Need-copy-requires-2
+copy-requires-2 c κs =
+    let s = c .before .before .before .before .before .before .before .before .before .before .before .before .before .before in
+    let x = exit-lengths (s .args .table .now) (s .args .inputs .now) (s .args .fuel) (c .before .before .before .before .before .before .before .run-memories .result) _ _
+    (s .pre .0) (s .pre .1) (c .before .before .before .before .before .before .before .run-memories .ensures) in
+    omega (arith, x .1, observation-whole (s .args .observation .now) (s .pre .3))
+
+same-length : tie.Need-same-length
+same-length c = search needs
+
+same-length-2 : tie.Need-same-length-2
+same-length-2 c = search needs
+
+returns : tie.Need-returns
+returns c =
+    let s = c .before .before .before .before .before .before .before .before .before .before .before .before .before .before .before .before .before in
+    let w = c .before .before .before .before .before .before .before .before .before .before .run-memories .ensures in
+    let x = exit-lengths (s .args .table .now) (s .args .inputs .now) (s .args .fuel) (c .before .before .before .before .before .before .before .before .before .before .run-memories .result) _ _
+    (s .pre .0) (s .pre .1) w in
+    record {
+      answer = w .answer;
+      memory =
+          c .before .before .before .before .before .before .before .copy .ensures
+          ∙ put-all (s .args .memory .now) _ (memory-whole (s .args .memory .now) (s .pre .2) ∙ sym (x .0))
+          ∙ w .memory;
+      observation =
+          c .before .before .copy2 .ensures
+          ∙ put-all (s .args .observation .now) _
+          (observation-whole (s .args .observation .now) (s .pre .3) ∙ sym (x .1))
+          ∙ w .observation;
+    }
+
+pub run-inputs-spec : {M : Type 1} → statement M
+run-inputs-spec =
+    tie.close
+    (tie.spec
+    run-memories-requires
+    slice-aggregate-copy
+    copy-requires
+    slice-aggregate-copy-2
+    copy-requires-2
+    same-length
+    same-length-2
+    returns)

@@ -1,0 +1,2 @@
+-- What the code of the watched run is held to.
+pub mod Watching

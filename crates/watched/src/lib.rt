@@ -1,0 +1,139 @@
+// The watched run of an accepted target table.
+mod acts;
+mod runs;
+
+ghost use mathlib.Core.Path.{_≡_};
+ghost use mathlib.Core.Bool.{false};
+ghost use lib.ListN.{replicate};
+ghost use Rattle.rules.specs.Kinds.{target};
+ghost use Rattle.rules.specs.Checker.{check, inputsFault, memoryFault, observationFault};
+ghost use Rattle.rules.specs.Nodes.{targetProgram};
+ghost use Rattle.rules.specs.Plain.{startVariables};
+ghost use Rattle.rules.specs.Watched.{watch, startTemporaries};
+ghost use Rattle.rules.specs.Layout.{memoryOf, observationOf};
+ghost use Rattle.rules.specs.Answers.{watchedEnded, watchedOutcome, watchedBy, runWatched};
+ghost use Rattle.rules.specs.declared.Checked.the-variants as checked;
+ghost use Rattle.rules.proofs.Fits.{FitsMemory, FitsObservation};
+ghost use Rattle.rules.proofs.TargetFields.{statementAt};
+ghost use Rattle.watched.specs.Watching.{lent, Ready, Leaves, AnsweredBy};
+use rules::Answer;
+use rules::Checked;
+use runs::run;
+use statements::Ended;
+
+// Runs statement n with the variables and temporaries of the start.
+fn run_from_start(
+    table: &[u8; 65536],
+    n: usize,
+    mem: &mut [u8; 18424],
+    obs: &mut [u8; 3064],
+    fuel: u32,
+) -> Ended
+    requires { ⌜ Ready (now table) n startVariables (lent (now mem) (now obs) (replicate 1024 0)) ⌝ }
+    ensures { λ r. ⌜ Leaves (watch (statementAt (now (table .entry)) n) startVariables (memoryOf (now (mem .entry)))
+        (observationOf (now (obs .entry))) startTemporaries fuel) r
+        (now (mem .entry)) (now (mem .exit)) (now (obs .entry)) (now (obs .exit)) ⌝ }
+{
+    let variables = statements::start_variables();
+    let mut temporaries = [0u8; 1024];
+    run(table, n, &variables, &mut temporaries, mem, obs, fuel)
+}
+
+// Runs an accepted table from memories of the start.
+fn run_table(table: &[u8], mem: &mut [u8; 18424], obs: &mut [u8; 3064], fuel: u32) -> Ended
+    requires { ⌜ (check target (now table) ≡ checked.Accepted) × FitsMemory (memoryOf (now mem))
+        × FitsObservation (observationOf (now obs)) ⌝ }
+    ensures { λ r. ⌜ Leaves (watch (targetProgram (now (table .entry))) startVariables (memoryOf (now (mem .entry)))
+        (observationOf (now (obs .entry))) startTemporaries fuel) r
+        (now (mem .entry)) (now (mem .exit)) (now (obs .entry)) (now (obs .exit)) ⌝ }
+{
+    let mut whole = [0u8; 65536];
+    statements::copy(&mut whole[..], table);
+    run_from_start(&whole, table.len() / 16, mem, obs, fuel)
+}
+
+// Lays out the inputs in both memories and runs an accepted table.
+fn run_memories(
+    table: &[u8],
+    inputs: &[u8],
+    fuel: u32,
+    mem: &mut [u8; 18424],
+    obs: &mut [u8; 3064],
+) -> Answer
+    requires { ⌜ (check target (now table) ≡ checked.Accepted) × (inputsFault (now inputs) ≡ false) ⌝ }
+    ensures { λ r. ⌜ AnsweredBy (watchedEnded (watchedOutcome (now (table .entry)) (now (inputs .entry)) fuel)) r
+        (now (mem .exit)) (now (obs .exit)) ⌝ }
+{
+    memory::start(mem, inputs);
+    steps::start_observation(obs, inputs.len() / 8);
+    let r = run_table(table, mem, obs, fuel);
+    let free_cells = blocks::count_free(&*mem);
+    Answer {
+        number: r.number,
+        record: r.statement,
+        fuel: r.fuel,
+        free_cells,
+    }
+}
+
+// The same; what it leaves in both memories is copied out.
+fn run_inputs(
+    table: &[u8],
+    inputs: &[u8],
+    fuel: u32,
+    memory: &mut [u8],
+    observation: &mut [u8],
+) -> Answer
+    requires { ⌜ (check target (now table) ≡ checked.Accepted) × (inputsFault (now inputs) ≡ false)
+        × (memoryFault (now memory) ≡ false) × (observationFault (now observation) ≡ false) ⌝ }
+    ensures { λ r. ⌜ AnsweredBy (watchedEnded (watchedOutcome (now (table .entry)) (now (inputs .entry)) fuel)) r
+        (now (memory .exit)) (now (observation .exit)) ⌝ }
+{
+    let mut mem = [0u8; 18424];
+    let mut obs = [0u8; 3064];
+    let answer = run_memories(table, inputs, fuel, &mut mem, &mut obs);
+    statements::copy(memory, &mem[..]);
+    statements::copy(observation, &obs[..]);
+    answer
+}
+
+// The watched run of an accepted table.
+fn run_accepted(
+    table: &[u8],
+    inputs: &[u8],
+    fuel: u32,
+    memory: &mut [u8],
+    observation: &mut [u8],
+) -> Answer
+    requires { ⌜ check target (now table) ≡ checked.Accepted ⌝ }
+    ensures { λ r. ⌜ AnsweredBy (watchedBy checked.Accepted (now (table .entry)) (now (inputs .entry)) fuel
+        (now (memory .entry)) (now (observation .entry))) r (now (memory .exit)) (now (observation .exit)) ⌝ }
+{
+    if statements::has_inputs_fault(inputs) {
+        return statements::refuse(9, 0);
+    }
+    if memory.len() != 18424 {
+        return statements::refuse(21, 0);
+    }
+    if observation.len() != 3064 {
+        return statements::refuse(22, 0);
+    }
+    run_inputs(table, inputs, fuel, memory, observation)
+}
+
+// The watched run of a target table: what it answers, and what it leaves in both memories.
+pub fn run_watched(
+    table: &[u8],
+    inputs: &[u8],
+    fuel: u32,
+    memory: &mut [u8],
+    observation: &mut [u8],
+) -> Answer
+    ensures { λ r. ⌜ AnsweredBy (runWatched (now (table .entry)) (now (inputs .entry)) fuel (now (memory .entry))
+        (now (observation .entry))) r (now (memory .exit)) (now (observation .exit)) ⌝ }
+{
+    match checker::check_target(table) {
+        Checked::Accepted => run_accepted(table, inputs, fuel, memory, observation),
+        Checked::Refused(k, n) => statements::refuse(k, n),
+    }
+}
