@@ -52,7 +52,8 @@ module _ (l bs : List ℕ) (at : ℕ) (room : at + length bs ≤ length l)
       let y = word-put-apart l bs at room a n 4 2 r (omega arith) in
       rw (← e, z, x, y) refl
 
-rows-apart : (w i j : ℕ) → j ≢ i → (j * w + w ≤ i * w) ⊎ (i * w + w ≤ j * w)
+-- rows of one width do not overlap
+pub rows-apart : (w i j : ℕ) → j ≢ i → (j * w + w ≤ i * w) ⊎ (i * w + w ≤ j * w)
 rows-apart w i j d = pick (decLt j i)
   where
     below : (a b : ℕ) → a < b → a * w + w ≤ b * w

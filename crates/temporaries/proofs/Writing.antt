@@ -1,21 +1,20 @@
 -- What sixteen bytes written over a temporary's make of the temporaries.
-use Prim.Native.Nat.{ℕ, zero, suc, _+_, _*_, _/_, _%_, _^_, _≤_, _<_}
+use Prim.Native.Nat.{ℕ, _+_, _*_, _/_, _≤_, _<_}
 use native.Mathlib.Nat.{add-zero}
-use native.Mathlib.Decide.{decLt}
 use native.Mathlib.Omega.{arith}
 use mathlib.Core.List.{List, _++_}
-use mathlib.Core.Logic.{_≢_, _⊎_, inl, inr}
-use mathlib.Core.Path.{_≡_, refl, sym, ap, _∙_}
+use mathlib.Core.Logic.{_≢_, _⊎_}
+use mathlib.Core.Path.{_≡_, sym, ap, _∙_}
 use lib.IntN.{ℤ}
 use lib.ListN.{length, getD, set, length-append}
 use mir.Syntax.{w64}
 use mir.Val.{SFits, toZ, ofZ}
-use Rattle.rules.specs.Words.{little, digits, part, put, wordAt, integerAt, integerBytes, table}
+use Rattle.rules.specs.Words.{little, digits, part, put, wordAt, integerBytes}
 use Rattle.rules.specs.Layout.{cellFrom}
 use Rattle.rules.proofs.WordLaws.{length-digits, part-put-in, getD-put-in, getD-put-apart, word-put-apart, put-put, fits-range, integer-value}
 use Rattle.rules.proofs.Rows.{table-set}
 use Rattle.temporaries.specs.Bytes.{temporaryIn, temporaryPlace, temporaryAt, temporariesOf}
-use Rattle.rules.specs.declared.Temporary.{Temporary}
+use Rattle.cells.proofs.Writing.{rows-apart}
 
 -- a kind in byte 0 and a name in bytes 2 and 3, as one word
 abbrev pub head : ℕ → ℕ → ℕ
@@ -28,13 +27,6 @@ length-bytes : (k w : ℕ) (z : ℤ) → length (bytes k w z) ≡ 16
 length-bytes k w z =
     length-append (digits 8 (head k w)) (integerBytes z)
     ∙ omega (arith, length-digits 8 (head k w), length-digits 8 (ofZ w64 z))
-
-apart : (j n : ℕ) → j ≢ n → (j * 16 + 16 ≤ n * 16) ⊎ (n * 16 + 16 ≤ j * 16)
-apart j n d = go (decLt j n)
-  where
-    go : Dec (j < n) → (j * 16 + 16 ≤ n * 16) ⊎ (n * 16 + 16 ≤ j * 16)
-    go (yes h) = inl (omega arith)
-    go (no h) = inr (omega arith)
 
 first-byte : (k w : ℕ) (z : ℤ) → k < 256 → w < 65536 → getD (bytes k w z) 0 0 ≡ k
 unfolding digits
@@ -80,7 +72,7 @@ module _ (l : List ℕ) (n k w : ℕ) (z : ℤ) (room : length l ≡ 1024) (h : 
   other j d =
       let at : ℕ = temporaryPlace n in
       let b : (temporaryPlace j + 16 ≤ at) ⊎ (at + length (bytes k w z) ≤ temporaryPlace j) =
-      rw (length-bytes k w z) (apart j n d) in
+      rw (length-bytes k w z) (rows-apart 16 n j d) in
       let x : getD written (temporaryPlace j) 0 ≡ getD l (temporaryPlace j) 0 =
       rw (add-zero (temporaryPlace j)) at
       (getD-put-apart l (bytes k w z) at all-room (temporaryPlace j) 16 0 b (omega arith)) in

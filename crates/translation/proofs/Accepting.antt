@@ -24,10 +24,10 @@ use Rattle.rules.proofs.SizeBound.{size-bound}
 use Rattle.sizes.specs.Trees.{copyAt, Sorted}
 use Rattle.emission.specs.Emission.{Emitted}
 use Rattle.assertions.specs.Tests.{TermLevels, PredicateLevels}
-use Rattle.translation.specs.Statements.{StatementLevels, StatementAt}
+use Rattle.simple.specs.Statements.{StatementLevels, StatementAt}
 use Rattle.emission.proofs.Emitting.{bytes-emit}
 use Rattle.sizes.proofs.Sizes.{tree-as}
-use Rattle.translation.proofs.Statements.{statement-as}
+use Rattle.translation.proofs.Compounds.{statement-as}
 
 term-levels : (x : Term) (ρ : Scope) (v : ℕ) → SoundTerm x ρ v → TermLevels x v
 term-levels (value e) ρ v h = h .0

@@ -1,3 +1,3 @@
--- Facts about statements and accepted tables.
-pub mod Statements
+-- Facts about statements with statements below them, and about accepted tables.
+pub mod Compounds
 pub mod Accepting

@@ -1,2 +1,2 @@
--- What the code of statements is held to.
-pub mod Statements
+-- What the code of a let is held to.
+pub mod Lets

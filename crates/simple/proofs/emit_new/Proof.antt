@@ -1,12 +1,12 @@
--- `translation::emit_new` meets its contract. Assumes nothing.
+-- `simple::emit_new` meets its contract. Assumes nothing.
 use native.Mathlib.Omega.{arith}
 use borrow.Author.Needs.{needs}
 use mathlib.Core.Logic.{inl}
 use mathlib.Core.Path.{refl, _∙_}
 use Rattle.emission.proofs.Emitting.{some}
 use Rattle.emission.proofs.Parts.{emitted-sequence}
-use Rattle.translation.proofs.emit_new.Statement.{statement}
-use Rattle.translation.proofs.emit_new.Tie as tie
+use Rattle.simple.proofs.emit_new.Statement.{statement}
+use Rattle.simple.proofs.emit_new.Tie as tie
 
 emit-part-requires : tie.Need-emit-part-requires
 emit-part-requires c κs =

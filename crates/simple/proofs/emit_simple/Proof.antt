@@ -1,25 +1,25 @@
--- `translation::emit_simple` meets its contract. Assumes nothing.
+-- `simple::emit_simple` meets its contract. Assumes nothing.
 use native.Mathlib.Omega.{arith}
 use mathlib.Core.Logic.{inl}
 use mathlib.Core.Path.{refl, sym, ap, _∙_}
 use denote.Ref.{now}
 use Rattle.rules.specs.Translation.{treeSize}
-use Rattle.translation.specs.Statements.{savedTree, newTree}
+use Rattle.simple.specs.Statements.{savedTree, newTree}
 use Rattle.assertions.specs.Tests.{assertTree}
 use Rattle.emission.proofs.Emitting.{emitted-as}
-use Rattle.translation.proofs.Statements.{skip-tree, assign-tree, new-tree, free-tree, assert-tree, statement-sort, statement-law, number-small, assert-levels, last-kind}
+use Rattle.simple.proofs.Statements.{skip-tree, assign-tree, new-tree, free-tree, assert-tree, statement-sort, statement-law, number-small, assert-levels, last-kind}
 use borrow.Author.Needs.{needs}
-use Rattle.translation.proofs.emit_simple.Statement.{statement}
-use Rattle.translation.proofs.emit_simple.Tie as tie
-use Rattle.translation.proofs.emit_simple.Reads as reads
-use Rattle.translation.proofs.emit_simple.Lts as lts
+use Rattle.simple.proofs.emit_simple.Statement.{statement}
+use Rattle.simple.proofs.emit_simple.Tie as tie
+use Rattle.simple.proofs.emit_simple.Reads as reads
+use Rattle.simple.proofs.emit_simple.Lts as lts
 use Rattle.tables.proofs.child_a.Reads as child-a-reads
 use Rattle.tables.proofs.child_b.Reads as child-b-reads
 use Rattle.tables.proofs.kind.Reads as kind-reads
 use Rattle.assertions.proofs.emit_assert.Reads as emit-assert-reads
-use Rattle.translation.proofs.emit_new.Reads as emit-new-reads
+use Rattle.simple.proofs.emit_new.Reads as emit-new-reads
 use Rattle.emission.proofs.emit_part.Reads as emit-part-reads
-use Rattle.translation.proofs.emit_saved.Reads as emit-saved-reads
+use Rattle.simple.proofs.emit_saved.Reads as emit-saved-reads
 
 child-a-requires : tie.Need-child-a-requires
 child-a-requires c κs =

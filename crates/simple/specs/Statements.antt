@@ -1,8 +1,8 @@
--- What is emitted for statements, and which may stand.
+-- What is emitted for statements that have none below them, and which statements may stand.
 use Prim.Native.Nat.{ℕ, _≤_}
 use mathlib.Core.List.{List}
 use mathlib.Core.Path.{_≡_}
-use lib.IntN.{ℤ, pos}
+use lib.IntN.{pos}
 use Rattle.rules.specs.Kinds.{source}
 use Rattle.rules.specs.Nodes.{SourceNode, expressionNode, placeNode, termNode, predicateNode, statementNode, junk, nodeAt}
 use Rattle.rules.specs.Trees.{Statement}
@@ -10,10 +10,6 @@ use Rattle.rules.specs.Trees as tree
 use Rattle.rules.specs.Translation.{RecordTree, none, node}
 use Rattle.emission.specs.Emission.{sequenceTree, partTree}
 use Rattle.assertions.specs.Tests.{PredicateLevels}
-
--- a record over a leaf
-abbrev pub overTree : ℕ → ℕ → ℤ → ℕ → ℕ → ℕ → RecordTree
-overTree j l z s k m = node k m (pos s) 0 (node j l z 0 none none none) none none
 
 -- "61 t1 read of 12 t0"
 abbrev pub fetchTree : ℕ → RecordTree
@@ -34,10 +30,6 @@ abbrev pub newTree : List ℕ → ℕ → ℕ → ℕ → RecordTree
 newTree t s a b =
     sequenceTree s (partTree t s 60 0 a 0 0)
     (sequenceTree s (partTree t s 61 2 b 0 0) (sequenceTree s (partTree t s 42 0 a b 0) (storedTree t s)))
-
--- "60 t0 variable; 69 t0"
-abbrev pub endingTree : List ℕ → ℕ → ℕ → RecordTree
-endingTree t s x = sequenceTree s (overTree 10 x (pos 0) s 60 0) (partTree t s 69 0 0 0 0)
 
 -- a statement's numbers are at most 256, and its assertions' temporaries below 64
 abbrev pub StatementLevels : Statement → Type 0
@@ -65,12 +57,3 @@ StatementAt t n = StatementNode (nodeAt source t n)
 -- a kind that has no statement below it
 abbrev pub Simple : ℕ → Type 0
 Simple k = (k ≡ 44 → ⊥) × (k ≡ 45 → ⊥) × (k ≡ 46 → ⊥) × (k ≡ 47 → ⊥)
-
--- "let of (60 t0 variable; 61 t1 literal 1; 68 n=0; body; 60 t0 variable; 69 t0)"
-abbrev pub letTree : List ℕ → ℕ → ℕ → RecordTree → RecordTree
-letTree t s x b =
-    node 47 x (pos s) 0
-    (sequenceTree s (overTree 10 x (pos 0) s 60 0)
-    (sequenceTree s (overTree 1 0 (pos 1) s 61 1)
-    (sequenceTree s (partTree t s 68 0 0 0 0) (sequenceTree s b (endingTree t s x)))))
-    none none

@@ -1,23 +1,21 @@
 -- The tree of a statement that has no statement below it, by its kind.
-use Prim.Native.Nat.{ℕ, suc, _+_, _≤_, _<_}
+use Prim.Native.Nat.{ℕ, _≤_}
 use native.Mathlib.Omega.{arith}
-use mathlib.Core.Logic.{_⊎_, inl, inr}
-use mathlib.Core.Path.{_≡_, refl, sym, ap, _∙_, subst}
+use mathlib.Core.Logic.{inr}
+use mathlib.Core.Path.{_≡_, refl, ap, _∙_, subst}
 use mathlib.Core.List.{List}
 use lib.IntN.{pos}
-use Rattle.rules.specs.Records.{kindOf, markOf, childA, childB, childC}
-use Rattle.rules.specs.Kinds.{source, Sort, sortNumber, expression, place, term, predicate, statement}
-use Rattle.rules.specs.Nodes.{SourceNode, expressionNode, placeNode, termNode, predicateNode, statementNode, junk, nodeSort, asPredicate, sourceStatement, nodeAt}
-use Rattle.rules.specs.Translation.{translate, expressionTree, statementTree, RecordTree, none, node}
+use Rattle.rules.specs.Records.{kindOf, childA, childB}
+use Rattle.rules.specs.Kinds.{source, Sort, sortNumber, expression, place, predicate, statement}
+use Rattle.rules.specs.Nodes.{SourceNode, expressionNode, placeNode, termNode, predicateNode, statementNode, junk, nodeSort, nodeAt}
+use Rattle.rules.specs.Translation.{translate, expressionTree, statementTree, none, node}
 use Rattle.rules.proofs.KindViews.{formAt, SourceKind, literal, read, address, operation, shifted, variable, pointed, value, base, offset, blockLength, combined, valid, initialised, compared, negated, both, either, skip, assign, new, free, sequence, branch, while, letIn, assert}
 use Rattle.rules.proofs.FormLaws.{FormHolds}
-use Rattle.rules.proofs.Standing.{Stands, stands, stands-at}
+use Rattle.rules.proofs.Standing.{stands, stands-at}
 use Rattle.sizes.specs.Trees.{targetTree, treeAt, copyAt, sortAt}
 use Rattle.emission.specs.Emission.{Copied, sequenceTree, partTree}
-use Rattle.translation.specs.Statements.{fetchTree, savedTree, newTree, StatementLevels, StatementNode, StatementAt, Simple, overTree, letTree}
-use Rattle.assertions.specs.Tests.{assertTree, PredicateLevels, LevelsAt}
-use Rattle.emission.proofs.Emitting.{Some, some, statement-some}
-use Rattle.emission.proofs.Copying.{copy-at}
+use Rattle.simple.specs.Statements.{fetchTree, savedTree, newTree, StatementNode, StatementAt, Simple}
+use Rattle.assertions.specs.Tests.{assertTree, LevelsAt}
 use Rattle.sizes.proofs.Sizes.{none-at, SizeLaw, size-law, tree-as}
 use Rattle.assertions.proofs.Tests.{levels-as-predicate}
 
@@ -181,106 +179,3 @@ assert-kind assert e w p q u v = refl
 pub last-kind : (t : List ℕ) (n : ℕ) → StatementAt t n → Simple (kindOf t n) → (kindOf t n ≡ 40 → ⊥)
     → (kindOf t n ≡ 41 → ⊥) → (kindOf t n ≡ 42 → ⊥) → (kindOf t n ≡ 43 → ⊥) → kindOf t n ≡ 48
 last-kind t n l = assert-kind (stands source t n statement (statement-sort t n l) .kind) refl
-
--- ---- statements with statements below them
-pub statement-as : (y : SourceNode) → nodeSort y ≡ 5 → StatementLevels (sourceStatement y) → StatementNode y
-statement-as (expressionNode x) e h = absurd (omega arith)
-statement-as (placeNode x) e h = absurd (omega arith)
-statement-as (termNode x) e h = absurd (omega arith)
-statement-as (predicateNode x) e h = absurd (omega arith)
-statement-as (statementNode x) e h = h
-statement-as junk e h = absurd (omega arith)
-
-module _ (t : List ℕ) (n : ℕ) (l : StatementAt t n) where
-  levels-of : {y : SourceNode} → nodeAt source t n ≡ y → StatementNode y
-  levels-of d = subst StatementNode d l
-
-  below : (x : ℕ) → sortAt t x ≡ 5 → StatementLevels (sourceStatement (nodeAt source t x)) → StatementAt t x
-  below x d h = statement-as (nodeAt source t x) d h
-
-  pub sequence-tree : kindOf t n ≡ 44 → (childA t n < n) × (childB t n < n) × StatementAt t (childA t n)
-      × StatementAt t (childB t n) × (copyAt t n ≡ sequenceTree n (copyAt t (childA t n)) (copyAt t (childB t n)))
-  unfolding translate statementTree
-  sequence-tree d =
-      let h = stands-at source t n 44 statement (statement-sort t n l) d in
-      let a = tree-as statement (nodeAt source t (childA t n)) 0 0 (h .a .2) in
-      let b = tree-as statement (nodeAt source t (childB t n)) 0 0 (h .b .2) in
-      let m = levels-of (h .node) in (
-        h .a .1,
-        h .b .1,
-        below (childA t n) (h .a .2) (m .1),
-        below (childB t n) (h .b .2) (m .2),
-        ap (λ (y : SourceNode). targetTree y 0 0) (h .node) ∙ (λ i. sequenceTree n (a i) (b i)),
-      )
-
-  pub branch-tree : kindOf t n ≡ 45
-      → (childB t n < n) × (childC t n < n) × ((1 ≤ sortAt t (childA t n)) × (sortAt t (childA t n) ≤ 2))
-      × StatementAt t (childB t n) × StatementAt t (childC t n)
-      × (copyAt t n ≡ node 45 0 (pos n) 0 (copyAt t (childA t n)) (copyAt t (childB t n)) (copyAt t (childC t n)))
-  unfolding translate statementTree
-  branch-tree d =
-      let h = stands-at source t n 45 statement (statement-sort t n l) d in
-      let a = tree-as expression (nodeAt source t (childA t n)) 0 0 (h .a .2) in
-      let b = tree-as statement (nodeAt source t (childB t n)) 0 0 (h .b .2) in
-      let c = tree-as statement (nodeAt source t (childC t n)) 0 0 (h .c .2) in
-      let m = levels-of (h .node) in
-      let s = h .a .2 in (
-        h .b .1,
-        h .c .1,
-        (omega arith, omega arith),
-        below (childB t n) (h .b .2) (m .1),
-        below (childC t n) (h .c .2) (m .2),
-        ap (λ (y : SourceNode). targetTree y 0 0) (h .node) ∙ (λ i. node 45 0 (pos n) 0 (a i) (b i) (c i)),
-      )
-
-  pub while-tree : kindOf t n ≡ 46
-      → (childB t n < n) × ((1 ≤ sortAt t (childA t n)) × (sortAt t (childA t n) ≤ 2)) × StatementAt t (childB t n)
-      × (copyAt t n ≡ node 46 0 (pos n) 0 (copyAt t (childA t n)) (copyAt t (childB t n)) none)
-  unfolding translate statementTree
-  while-tree d =
-      let h = stands-at source t n 46 statement (statement-sort t n l) d in
-      let a = tree-as expression (nodeAt source t (childA t n)) 0 0 (h .a .2) in
-      let b = tree-as statement (nodeAt source t (childB t n)) 0 0 (h .b .2) in
-      let m = levels-of (h .node) in
-      let s = h .a .2 in (
-        h .b .1,
-        (omega arith, omega arith),
-        below (childB t n) (h .b .2) (m .1),
-        ap (λ (y : SourceNode). targetTree y 0 0) (h .node) ∙ (λ i. node 46 0 (pos n) 0 (a i) (b i) none),
-      )
-
-  pub let-tree : kindOf t n ≡ 47 → (childA t n < n) × StatementAt t (childA t n)
-      × (copyAt t n ≡ letTree t n (markOf t n) (copyAt t (childA t n)))
-  unfolding translate statementTree expressionTree
-  let-tree d =
-      let h = stands-at source t n 47 statement (statement-sort t n l) d in
-      let a = tree-as statement (nodeAt source t (childA t n)) 0 0 (h .a .2) in
-      let m = levels-of (h .node) in
-      let x = markOf t n in
-      let z = none-at t 0 0 0 refl in (
-        h .a .1,
-        below (childA t n) (h .a .2) (m .1),
-        ap (λ (y : SourceNode). targetTree y 0 0) (h .node)
-            ∙ (λ i.
-            node 47 x (pos n) 0
-            (sequenceTree n (overTree 10 x (pos 0) n 60 0)
-            (sequenceTree n (overTree 1 0 (pos 1) n 61 1)
-            (sequenceTree n (node 68 0 (pos n) 0 (z i) (z i) none)
-            (sequenceTree n (a i)
-            (sequenceTree n (overTree 10 x (pos 0) n 60 0) (node 69 0 (pos n) 0 (z i) (z i) none))))))
-            none none),
-      )
-
-pub statement-has : (t : List ℕ) (n : ℕ) → StatementAt t n → Some (copyAt t n)
-statement-has t n l = go (nodeAt source t n) l
-  where
-    go : (y : SourceNode) → StatementNode y → Some (targetTree y 0 0)
-    go (expressionNode x) h = elim h [ ]
-    go (placeNode x) h = elim h [ ]
-    go (termNode x) h = elim h [ ]
-    go (predicateNode x) h = elim h [ ]
-    go (statementNode x) h = statement-some (translate x)
-    go junk h = elim h [ ]
-
-pub copy-has : (t : List ℕ) (n : ℕ) → (1 ≤ sortAt t n) × (sortAt t n ≤ 2) → Some (copyAt t n)
-copy-has t n h = subst Some (sym (copy-at t n (h .0) (h .1) .tree)) some

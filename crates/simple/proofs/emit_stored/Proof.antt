@@ -1,12 +1,12 @@
--- `translation::emit_stored` meets its contract. Assumes nothing.
+-- `simple::emit_stored` meets its contract. Assumes nothing.
 use native.Mathlib.Omega.{arith}
 use borrow.Author.Needs.{needs}
 use mathlib.Core.Logic.{inl}
 use mathlib.Core.Path.{refl, _∙_}
 use Rattle.emission.proofs.Emitting.{some}
 use Rattle.emission.proofs.Parts.{emitted-sequence}
-use Rattle.translation.proofs.emit_stored.Statement.{statement}
-use Rattle.translation.proofs.emit_stored.Tie as tie
+use Rattle.simple.proofs.emit_stored.Statement.{statement}
+use Rattle.simple.proofs.emit_stored.Tie as tie
 
 emit-fetch-requires : tie.Need-emit-fetch-requires
 emit-fetch-requires c κs =

@@ -1,14 +1,14 @@
--- `translation::emit_fetch` meets its contract. Assumes nothing.
+-- `simple::emit_fetch` meets its contract. Assumes nothing.
 use native.Mathlib.Omega.{arith}
 use denote.Ref.{now}
 use lib.IntN.{pos}
 use Rattle.emission.proofs.Emitting.{some}
 use Rattle.emission.proofs.Parts.{number-literal, emitted-over, emitted-leaf}
 use borrow.Author.Needs.{needs}
-use Rattle.translation.proofs.emit_fetch.Statement.{statement}
-use Rattle.translation.proofs.emit_fetch.Tie as tie
-use Rattle.translation.proofs.emit_fetch.Reads as reads
-use Rattle.translation.proofs.emit_fetch.Lts as lts
+use Rattle.simple.proofs.emit_fetch.Statement.{statement}
+use Rattle.simple.proofs.emit_fetch.Tie as tie
+use Rattle.simple.proofs.emit_fetch.Reads as reads
+use Rattle.simple.proofs.emit_fetch.Lts as lts
 use Rattle.emission.proofs.emit_record.Reads as emit-record-reads
 
 emit-record-requires : tie.Need-emit-record-requires

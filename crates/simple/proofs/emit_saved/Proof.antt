@@ -1,14 +1,14 @@
--- `translation::emit_saved` meets its contract. Assumes nothing.
+-- `simple::emit_saved` meets its contract. Assumes nothing.
 use native.Mathlib.Omega.{arith}
 use mathlib.Core.Logic.{inl}
 use mathlib.Core.Path.{refl}
 use Rattle.emission.proofs.Emitting.{some}
 use Rattle.emission.proofs.Parts.{emitted-sequence}
 use borrow.Author.Needs.{needs}
-use Rattle.translation.proofs.emit_saved.Statement.{statement}
-use Rattle.translation.proofs.emit_saved.Tie as tie
-use Rattle.translation.proofs.emit_saved.Reads as reads
-use Rattle.translation.proofs.emit_saved.Lts as lts
+use Rattle.simple.proofs.emit_saved.Statement.{statement}
+use Rattle.simple.proofs.emit_saved.Tie as tie
+use Rattle.simple.proofs.emit_saved.Reads as reads
+use Rattle.simple.proofs.emit_saved.Lts as lts
 use Rattle.emission.proofs.emit_part.Reads as emit-part-reads
 use Rattle.emission.proofs.emit_sequence.Reads as emit-sequence-reads
 

@@ -1,0 +1,2 @@
+-- Facts about simple statements.
+pub mod Statements

@@ -1,0 +1,2 @@
+-- What the code of simple statements is held to.
+pub mod Statements
