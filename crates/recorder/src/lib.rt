@@ -2,7 +2,7 @@
 use rules::Answer;
 use rules::Checked;
 ghost use mathlib.Core.Path.{_≡_};
-ghost use Rattle.rules.specs.Answers.{answer, checkedAnswer, checkSource, checkTarget, translateSource, runPlain};
+ghost use Rattle.rules.specs.Answers.{answer, checkedAnswer, checkSource, checkTarget, translateSource, runPlain, runWatched};
 
 fn answer_with(number: u32, record: u32) -> Answer
     ensures { λ r. ⌜ r ≡ answer number «record» 0 0 ⌝ }
@@ -61,4 +61,22 @@ pub extern "C" fn recorder_run_plain(
     ensures memory { λ _. ⌜ now (memory .exit) ≡ runPlain (now (table .entry)) (now (inputs .entry)) fuel (now (memory .entry)) .memory ⌝ }
 {
     plain::run_plain(table, inputs, fuel, memory)
+}
+
+#[no_mangle]
+pub extern "C" fn recorder_run_watched(
+    table: &[u8],
+    inputs: &[u8],
+    fuel: u32,
+    memory: &mut [u8],
+    observation: &mut [u8],
+) -> Answer
+    ensures answer { λ r. ⌜ r ≡ runWatched (now (table .entry)) (now (inputs .entry)) fuel (now (memory .entry))
+        (now (observation .entry)) .answer ⌝ }
+    ensures memory { λ _. ⌜ now (memory .exit) ≡ runWatched (now (table .entry)) (now (inputs .entry)) fuel
+        (now (memory .entry)) (now (observation .entry)) .memory ⌝ }
+    ensures observation { λ _. ⌜ now (observation .exit) ≡ runWatched (now (table .entry)) (now (inputs .entry)) fuel
+        (now (memory .entry)) (now (observation .entry)) .observation ⌝ }
+{
+    watched::run_watched(table, inputs, fuel, memory, observation)
 }
