@@ -1,5 +1,5 @@
 #!/usr/bin/env bash
-# Proves every crate, tries the must-fail edits, runs the programs (`rt ci`), then the Rust tests.
+# Proves every crate, tries the must-fail edits, runs the programs (`rt ci`), then the Rust tests and the C host's.
 # The last line is that of `rt ci`; any failure ends with another one and a status that is not 0.
 set -euo pipefail
 cd "$(dirname "$0")/.."
@@ -18,5 +18,9 @@ cargo test --release --offline --manifest-path tests/reference/Cargo.toml
 rt staticlib recorder
 cargo test --release --offline --manifest-path tests/compare/Cargo.toml
 tests/valgrind.sh
+
+# The C host on the examples, and once more with the C compiler's sanitizers.
+tests/examples.sh
+tests/examples.sh build/recorder-checked
 
 echo "$verdict"

@@ -4,7 +4,7 @@
 use crate::lent::Lent;
 use crate::library;
 use reference::generator::Case;
-use reference::{checker, plain, translator, Answer};
+use reference::{checker, plain, translator, watched, Answer};
 use std::fmt::Arguments;
 
 type Check = fn(&[u8]) -> Answer;
@@ -66,5 +66,35 @@ pub fn run_plain(case: &Case, margin: usize, what: Arguments) -> u32 {
     table.assert_is(&case.table, "table", what);
     inputs.assert_is(&case.inputs, "inputs", what);
     memory.assert_is(&expected, "memory", what);
+    answer.number
+}
+
+/// What the watched run leaves of a case.
+pub fn run_watched(case: &Case, margin: usize, what: Arguments) -> u32 {
+    let Case {
+        table,
+        inputs,
+        fuel,
+        memory,
+        observation,
+    } = case;
+    let lent_table = Lent::new(table, margin);
+    let lent_inputs = Lent::new(inputs, margin);
+    let mut lent_memory = Lent::new(memory, margin);
+    let mut lent_observation = Lent::new(observation, margin);
+    let answer = library::run_watched(
+        lent_table.bytes(),
+        lent_inputs.bytes(),
+        *fuel,
+        lent_memory.bytes_mut(),
+        lent_observation.bytes_mut(),
+    );
+    let (mut executed, mut observed) = (memory.clone(), observation.clone());
+    let second = watched::run_watched(table, inputs, *fuel, &mut executed, &mut observed);
+    assert_eq!(answer, second, "{what}");
+    lent_table.assert_is(table, "table", what);
+    lent_inputs.assert_is(inputs, "inputs", what);
+    lent_memory.assert_is(&executed, "memory", what);
+    lent_observation.assert_is(&observed, "observation memory", what);
     answer.number
 }

@@ -35,3 +35,10 @@ fn plain_run() {
         [agree::run_plain(&generator.source_case(), EXACT, what)]
     });
 }
+
+#[test]
+fn watched_run() {
+    numbers(54, CASES, |generator, what| {
+        [agree::run_watched(&generator.target_case(), EXACT, what)]
+    });
+}

@@ -3,15 +3,18 @@
 use compare::library;
 use reference::builder::Builder;
 use reference::host::inputs;
-use reference::limits::{EXECUTION_BYTES, RECORD_BYTES, SOURCE_RECORDS, TARGET_RECORDS};
-use reference::{checker, plain, translator, Answer};
+use reference::limits::{
+    EXECUTION_BYTES, OBSERVATION_BYTES, RECORD_BYTES, SOURCE_RECORDS, TARGET_RECORDS,
+};
+use reference::{checker, plain, translator, watched, Answer};
 use std::thread;
 
 const KIB: usize = 1024;
 
-/// As the header has it: what a checker or the translator needs, and what the plain run needs.
+/// As the header has it: for a checker or the translator, for the plain run and for the watched run.
 const CHECK_STACK: usize = 128 * KIB;
 const PLAIN_STACK: usize = 256 * KIB;
+const WATCHED_STACK: usize = 2048 * KIB;
 
 /// Does the work in a thread with this much stack.
 fn in_stack_of<T: Send + 'static>(bytes: usize, work: impl FnOnce() -> T + Send + 'static) -> T {
@@ -103,12 +106,32 @@ fn deepest_mixture() {
     source_in_small_stacks(b.table(), 1000);
 }
 
-fn target_in_small_stack(table: Vec<u8>) {
+fn watched_in_small_stack(table: Vec<u8>, fuel: u32) -> Answer {
+    let given = inputs(&[7, 9]);
+    let mut memory = vec![0; EXECUTION_BYTES];
+    let mut observation = vec![0; OBSERVATION_BYTES];
+    in_stack_of(WATCHED_STACK, move || {
+        library::run_watched(&table, &given, fuel, &mut memory, &mut observation)
+    })
+}
+
+/// The compiled functions in small stacks answer a target table as the second implementation does.
+fn target_in_small_stacks(table: Vec<u8>, fuel: u32) {
     assert_eq!(checker::check_target(&table), Answer::ACCEPTED);
-    assert_eq!(
-        in_stack_of(CHECK_STACK, move || library::check_target(&table)),
-        Answer::ACCEPTED
+    let mut memory = vec![0; EXECUTION_BYTES];
+    let mut observation = vec![0; OBSERVATION_BYTES];
+    let ended = watched::run_watched(
+        &table,
+        &inputs(&[7, 9]),
+        fuel,
+        &mut memory,
+        &mut observation,
     );
+
+    let (checking, running) = (table.clone(), table);
+    let checked = in_stack_of(CHECK_STACK, move || library::check_target(&checking));
+    assert_eq!(checked, Answer::ACCEPTED);
+    assert_eq!(watched_in_small_stack(running, fuel), ended);
 }
 
 /// 4,095 records below the last, each the child of the next.
@@ -122,7 +145,20 @@ fn deepest_target_expression() {
     }
     b.add(60, 0, [place, 0, 0]);
     assert_eq!(b.len(), TARGET_RECORDS);
-    target_in_small_stack(b.table());
+    target_in_small_stacks(b.table(), 0);
+}
+
+/// Reads through pointers, each of which asks the memory.
+#[test]
+fn deepest_target_reads() {
+    let mut b = Builder::target(1);
+    let mut expression = b.read_variable(0);
+    while b.len() + 3 <= TARGET_RECORDS {
+        let place = b.pointed(expression);
+        expression = b.read(place);
+    }
+    b.add(61, 0, [expression, 0, 0]);
+    target_in_small_stacks(b.table(), 0);
 }
 
 #[test]
@@ -133,16 +169,56 @@ fn deepest_target_statement() {
         let skip = b.skip();
         statement = b.then(skip, statement);
     }
-    target_in_small_stack(b.table());
+    target_in_small_stacks(b.table(), 0);
+}
+
+#[test]
+fn deepest_target_whiles() {
+    let mut b = Builder::target(1);
+    let mut statement = b.skip();
+    while b.len() + 2 <= TARGET_RECORDS {
+        let one = b.literal(1);
+        statement = b.while_do(one, statement);
+    }
+    target_in_small_stacks(b.table(), 3000);
+}
+
+/// Lets, and branches on a temporary, down to the last record.
+#[test]
+fn deepest_target_branches() {
+    let mut b = Builder::target(1);
+    let mut statement = b.skip();
+    for variable in 1..64 {
+        statement = b.let_in(variable, statement);
+    }
+    while b.len() + 5 <= TARGET_RECORDS {
+        let skip = b.skip();
+        statement = b.add(66, 0, [0, statement, skip]);
+    }
+    let one = b.literal(1);
+    let first = b.add(61, 0, [one, 0, 0]);
+    b.then(first, statement);
+    target_in_small_stacks(b.table(), 0);
 }
 
 /// The turns of a while take no stack: 10^8 of them.
-#[test]
-fn many_turns() {
-    let mut b = Builder::source();
+fn loop_for_ever(mut b: Builder) -> (Vec<u8>, u32) {
     let one = b.literal(1);
     let skip = b.skip();
     let statement = b.while_do(one, skip);
-    let ending = Answer::ending(32, u32::from(statement), 0, 1021);
-    assert_eq!(plain_in_small_stack(b.table(), 100_000_000), ending);
+    (b.table(), u32::from(statement))
+}
+
+#[test]
+fn many_turns() {
+    let (table, statement) = loop_for_ever(Builder::source());
+    let ending = Answer::ending(32, statement, 0, 1021);
+    assert_eq!(plain_in_small_stack(table, 100_000_000), ending);
+}
+
+#[test]
+fn many_watched_turns() {
+    let (table, statement) = loop_for_ever(Builder::target(3));
+    let ending = Answer::ending(32, statement, 0, 1021);
+    assert_eq!(watched_in_small_stack(table, 100_000_000), ending);
 }

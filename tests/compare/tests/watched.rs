@@ -1,0 +1,108 @@
+//! The compiled watched run answers and leaves both memories as the second implementation does.
+
+use compare::lent::GUARDED;
+use compare::{agree, library, numbers};
+use reference::generator::{Case, Generator};
+use reference::host::mirror;
+use reference::limits::{EXECUTION_BYTES, OBSERVATION_BYTES, SOURCE_RECORDS};
+use std::collections::BTreeSet;
+
+const CASES: u64 = 50_000;
+
+type Make = fn(&mut Generator) -> Vec<u8>;
+
+/// A target table with inputs, fuel and memories that are not refused.
+fn compare(make: Make, seed: u64) -> BTreeSet<u32> {
+    numbers(seed, CASES, |generator, what| {
+        let table = make(generator);
+        let case = Case {
+            fuel: generator.fuel_for(&table),
+            table,
+            inputs: generator.inputs(),
+            memory: generator.memory(),
+            observation: generator.observation(),
+        };
+        [agree::run_watched(&case, GUARDED, what)]
+    })
+}
+
+fn endings(last: u32) -> BTreeSet<u32> {
+    [0].into_iter().chain(30..=33).chain(40..=last).collect()
+}
+
+/// "From translated programs 48 and 49 never come."
+#[test]
+fn translations_reach_every_ending_of_a_plain_run() {
+    let found = compare(|generator| generator.translated_target(), 41);
+    assert_eq!(found, endings(47));
+}
+
+#[test]
+fn hand_made_targets_reach_every_ending() {
+    let found = compare(|generator| generator.hand_made_target(), 42);
+    assert_eq!(found, endings(49));
+}
+
+#[test]
+fn changed_translations() {
+    let found = compare(|generator| generator.changed_target(), 43);
+    assert!(found.is_subset(&endings(49)), "reached {found:?}");
+}
+
+/// Damaged tables, wrong inputs, and memories of wrong lengths.
+#[test]
+fn whole_cases_reach_every_refusal() {
+    let found = numbers(44, CASES, |generator, what| {
+        [agree::run_watched(&generator.target_case(), GUARDED, what)]
+    });
+    let refusals: BTreeSet<u32> = (1..=7).chain([9, 21, 22]).collect();
+    assert!(found.is_superset(&refusals), "reached {found:?}");
+}
+
+/// More than one thing wrong at once: the first in the order 1 to 7, 9, 21, 22 is told.
+#[test]
+fn the_order_of_refusals() {
+    let found = numbers(45, CASES, |generator, what| {
+        let mut case = generator.target_case();
+        if generator.random.chance(50) {
+            case.table = generator.damaged_target();
+        }
+        if generator.random.chance(50) {
+            case.inputs = generator.bad_inputs();
+        }
+        if generator.random.chance(50) {
+            case.memory = generator.wrong_length(EXECUTION_BYTES);
+        }
+        if generator.random.chance(50) {
+            case.observation = generator.wrong_length(OBSERVATION_BYTES);
+        }
+        [agree::run_watched(&case, GUARDED, what)]
+    });
+    let refusals: BTreeSet<u32> = (1..=7).chain([9, 21, 22]).collect();
+    assert!(found.is_superset(&refusals), "reached {found:?}");
+}
+
+/// The library alone: the watched run of its own translation is its plain run over again, and the
+/// observation memory mirrors the execution memory after an ending 0 or 33.
+#[test]
+fn both_runs_of_the_library_agree() {
+    let mut target = vec![0; SOURCE_RECORDS * 14 * 16];
+    numbers(46, CASES, |generator, what| {
+        let source = generator.accepted_source();
+        let fuel = generator.fuel_for(&source);
+        let inputs = generator.inputs();
+        let (mut plain, mut watched) = (vec![0; EXECUTION_BYTES], vec![1; EXECUTION_BYTES]);
+        let mut observation = vec![1; OBSERVATION_BYTES];
+
+        let translated = library::translate(&source, &mut target);
+        let target = &target[..translated.record as usize * 16];
+        let answer = library::run_plain(&source, &inputs, fuel, &mut plain);
+        let other = library::run_watched(target, &inputs, fuel, &mut watched, &mut observation);
+        assert_eq!(other, answer, "{what}");
+        assert!(watched == plain, "{what}: the memories part");
+        if matches!(answer.number, 0 | 33) {
+            assert!(observation == mirror(&plain), "{what}: no mirror");
+        }
+        [answer.number]
+    });
+}
