@@ -131,9 +131,9 @@ put-last l xs x at h =
     let p : ℕ = at + length xs in
     let room : p < length (set l p x) = rw (length-set l p x) h in
     let behind : drop p (set l p x) ≡ x ∷ drop (suc p) l =
-        drop-cons (set l p x) p 0 room
-        ∙ ap (λ (y : ℕ). y ∷ drop (suc p) (set l p x)) (getD-set-same l p x 0 h)
-        ∙ ap (λ (ys : List ℕ). x ∷ ys) (drop-set-lt (suc p) l p x (omega arith)) in
+    drop-cons (set l p x) p 0 room
+    ∙ ap (λ (y : ℕ). y ∷ drop (suc p) (set l p x)) (getD-set-same l p x 0 h)
+    ∙ ap (λ (ys : List ℕ). x ∷ ys) (drop-set-lt (suc p) l p x (omega arith)) in
     let e : at + length (xs ++ (x ∷ [])) ≡ suc p = omega (arith, length-append xs (x ∷ [])) in
     rw (take-set-le at l p x (omega arith), behind, e) (simp append-assoc)
 

@@ -4,6 +4,8 @@ use mathlib.Core.Path.{_≡_}
 use mathlib.Core.List.{List, [], _∷_, _++_}
 use lib.ListN.{length}
 use Rattle.rules.specs.Words.{put}
+use Rattle.rules.specs.Records.{Record}
+use Rattle.rules.specs.Listing.{natural, integer, line}
 
 -- a number's low digits, as many as asked
 unfoldable pub lowDigits : ℕ → ℕ → List ℕ
@@ -22,3 +24,21 @@ pub record Written (before : List ℕ) (at : ℕ) (text after : List ℕ) (next 
 -- a number and the space behind it
 abbrev pub spaced : List ℕ → List ℕ
 spaced w = w ++ (32 ∷ [])
+
+-- three numbers, each with its space
+abbrev pub three : ℕ → ℕ → ℕ → List ℕ
+three x y z = spaced (natural x) ++ spaced (natural y) ++ spaced (natural z)
+
+-- the three parts of a record's line
+abbrev pub headText : ℕ → Record → List ℕ
+headText n r = three n (r .kind) (r .mark)
+
+abbrev pub childrenText : Record → List ℕ
+childrenText r = three (r .a) (r .b) (r .c)
+
+abbrev pub literalText : Record → List ℕ
+literalText r = integer (r .literal) ++ (10 ∷ [])
+
+-- a refusal's line
+abbrev pub refusalLine : ℕ → ℕ → List ℕ
+refusalLine k n = line (natural k) (natural n ∷ [])

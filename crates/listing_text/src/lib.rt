@@ -5,8 +5,10 @@ ghost use Prim.Native.Nat.{_+_, _≤_};
 ghost use mathlib.Core.List.{[], _∷_};
 ghost use lib.ListN.{length};
 ghost use Rattle.rules.specs.Words.{put};
-ghost use Rattle.rules.specs.Listing.{natural, integer};
-ghost use Rattle.listing_text.specs.Text.{lowDigits, Room, Written, spaced};
+ghost use Rattle.rules.specs.Listing.{natural, integer, recordLine};
+ghost use Rattle.rules.specs.Records.{recordAt};
+ghost use Rattle.tables.specs.Within.{Within};
+ghost use Rattle.listing_text.specs.Text.{lowDigits, Room, Written, spaced, three, headText, childrenText, literalText, refusalLine};
 
 // How many decimal digits a number has.
 fn count_digits(n: u64) -> usize
@@ -71,4 +73,63 @@ fn write_spaced(out: &mut [u8], at: usize, n: u64) -> usize
 {
     let next = write_natural(out, at, n);
     write_byte(out, next, 32)
+}
+
+// Three numbers, each with the space behind it.
+fn write_three(out: &mut [u8], at: usize, x: u64, y: u64, z: u64) -> usize
+    requires { ⌜ Room (now out) at (three x y z) ⌝ }
+    ensures { λ r. ⌜ Written (now (out .entry)) at (three x y z) (now (out .exit)) r ⌝ }
+{
+    let second = write_spaced(out, at, x);
+    let third = write_spaced(out, second, y);
+    write_spaced(out, third, z)
+}
+
+// A record's number, kind and mark.
+fn write_head(table: &[u8], n: usize, out: &mut [u8], at: usize) -> usize
+    requires { ⌜ Within (now table) n × Room (now out) at (headText n (recordAt (now table) n)) ⌝ }
+    ensures { λ r. ⌜ Written (now (out .entry)) at (headText n (recordAt (now (table .entry)) n)) (now (out .exit)) r ⌝ }
+{
+    let kind = tables::kind(table, n) as u64;
+    let mark = tables::mark(table, n) as u64;
+    write_three(out, at, n as u64, kind, mark)
+}
+
+fn write_children(table: &[u8], n: usize, out: &mut [u8], at: usize) -> usize
+    requires { ⌜ Within (now table) n × Room (now out) at (childrenText (recordAt (now table) n)) ⌝ }
+    ensures { λ r. ⌜ Written (now (out .entry)) at (childrenText (recordAt (now (table .entry)) n)) (now (out .exit)) r ⌝ }
+{
+    let a = tables::child_a(table, n) as u64;
+    let b = tables::child_b(table, n) as u64;
+    let c = tables::child_c(table, n) as u64;
+    write_three(out, at, a, b, c)
+}
+
+// A record's literal and the newline behind it.
+fn write_literal(table: &[u8], n: usize, out: &mut [u8], at: usize) -> usize
+    requires { ⌜ Within (now table) n × Room (now out) at (literalText (recordAt (now table) n)) ⌝ }
+    ensures { λ r. ⌜ Written (now (out .entry)) at (literalText (recordAt (now (table .entry)) n)) (now (out .exit)) r ⌝ }
+{
+    let next = write_integer(out, at, tables::literal(table, n));
+    write_byte(out, next, 10)
+}
+
+// The line of record n.
+fn write_record(table: &[u8], n: usize, out: &mut [u8], at: usize) -> usize
+    requires { ⌜ Within (now table) n × Room (now out) at (recordLine n (recordAt (now table) n)) ⌝ }
+    ensures { λ r. ⌜ Written (now (out .entry)) at (recordLine n (recordAt (now (table .entry)) n)) (now (out .exit)) r ⌝ }
+{
+    let children = write_head(table, n, out, at);
+    let literal = write_children(table, n, out, children);
+    write_literal(table, n, out, literal)
+}
+
+// The refusal's number and record.
+fn write_refusal(out: &mut [u8], number: u32, record: u32) -> usize
+    requires { ⌜ Room (now out) 0 (refusalLine number «record») ⌝ }
+    ensures { λ r. ⌜ Written (now (out .entry)) 0 (refusalLine number «record») (now (out .exit)) r ⌝ }
+{
+    let second = write_spaced(out, 0, number as u64);
+    let end = write_natural(out, second, record as u64);
+    write_byte(out, end, 10)
 }

@@ -1,12 +1,11 @@
 -- `listing_text::write_integer` meets its contract: the sign of a negative number, then its magnitude. Assumes nothing.
-use mathlib.Core.Path.{_≡_, refl, sym, subst}
-use mathlib.Core.List.{List, [], _∷_, _++_}
+use mathlib.Core.Path.{_≡_, refl, sym}
+use mathlib.Core.List.{[], _∷_, _++_}
 use borrow.Author.Needs.{needs}
 use lib.IntN.{natAbs}
 use mir.Facts.{toZ-ofZ}
 use Rattle.rules.specs.Listing.{natural, integer}
-use Rattle.listing_text.specs.Text.{Room, Written}
-use Rattle.listing_text.proofs.WriteLaws.{room-first, room-second, written-then, integer-negative, integer-other}
+use Rattle.listing_text.proofs.WriteLaws.{room-as, written-as, room-first, room-second, written-then, integer-negative, integer-other}
 use Rattle.listing_text.proofs.write_integer.Statement.{statement}
 use Rattle.listing_text.proofs.write_integer.Tie as tie
 
@@ -16,7 +15,7 @@ write-byte-requires c κs =
     let t = rw (toZ-ofZ (s .fits .z)) at (c .before .if1 .taken) in
     let e = integer-negative (s .args .z) (natAbs (s .args .z)) t refl in
     room-first (s .args .out .now) (45 ∷ []) (natural (natAbs (s .args .z))) (s .args .at)
-    (subst (Room (s .args .out .now) (s .args .at)) e (s .pre))
+    (room-as (s .args .out .now) (s .args .at) e (s .pre))
 
 magnitude-requires : tie.Need-magnitude-requires
 magnitude-requires c κs = search needs
@@ -45,7 +44,7 @@ write-natural-requires c κs =
     let b = c .before .before .before .before in
     let s = b .before .before .before .before in
     room-second (natural (c .magnitude .result))
-    (subst (Room (s .args .out .now) (s .args .at)) (negative-text c) (s .pre)) (b .write-byte .ensures)
+    (room-as (s .args .out .now) (s .args .at) (negative-text c) (s .pre)) (b .write-byte .ensures)
 
 magnitude-requires-2 : tie.Need-magnitude-requires-2
 magnitude-requires-2 c κs = search needs
@@ -53,7 +52,7 @@ magnitude-requires-2 c κs = search needs
 write-natural-requires-2 : tie.Need-write-natural-requires-2
 write-natural-requires-2 c κs =
     let s = c .before .before .before .before in
-    subst (Room (s .args .out .now) (s .args .at)) (other-text c) (s .pre)
+    room-as (s .args .out .now) (s .args .at) (other-text c) (s .pre)
 
 same-length : tie.Need-same-length
 same-length c = search needs
@@ -64,16 +63,14 @@ returns c =
     let m = n .before in
     let b = m .before .before .before .before in
     let s = b .before .before .before .before in
-    let room = subst (Room (s .args .out .now) (s .args .at)) (negative-text m) (s .pre) in
-    subst (λ (text : List _). Written (s .args .out .now) (s .args .at) text (n .write-natural .last .0) (n .write-natural .result))
-    (sym (negative-text m))
-    (written-then room (b .write-byte .ensures) (n .write-natural .ensures))
+    let room = room-as (s .args .out .now) (s .args .at) (negative-text m) (s .pre) in
+    written-as (sym (negative-text m)) (written-then room (b .write-byte .ensures) (n .write-natural .ensures))
 
 same-length-2 : tie.Need-same-length-2
 same-length-2 c = search needs
 
 returns-2 : tie.Need-returns-2
-returns-2 c = let n = c .before .before in rw (other-text (n .before)) (n .write-natural2 .ensures)
+returns-2 c = let n = c .before .before in written-as (sym (other-text (n .before))) (n .write-natural2 .ensures)
 
 pub write-integer-spec : {M : Type 1} → statement M
 write-integer-spec =
