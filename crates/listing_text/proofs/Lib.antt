@@ -1,2 +1,5 @@
 pub mod DigitLaws
 pub mod WriteLaws
+pub mod RecordsLaws
+pub mod LongestText
+pub mod TranslationLaws

@@ -1,11 +1,13 @@
 -- The pieces that a listing's text is written in.
-use Prim.Native.Nat.{ℕ, zero, suc, _+_, _/_, _%_, _≤_}
+use Prim.Native.Nat.{ℕ, zero, suc, _+_, _*_, _/_, _%_, _≤_}
 use mathlib.Core.Path.{_≡_}
+use mathlib.Core.Bool.{true, false}
 use mathlib.Core.List.{List, [], _∷_, _++_}
 use lib.ListN.{length}
-use Rattle.rules.specs.Words.{put}
-use Rattle.rules.specs.Records.{Record}
-use Rattle.rules.specs.Listing.{natural, integer, line}
+use lib.Dec.{ltb}
+use Rattle.rules.specs.Words.{put, table}
+use Rattle.rules.specs.Records.{Record, recordCount, recordAt}
+use Rattle.rules.specs.Listing.{natural, integer, line, listing}
 
 -- a number's low digits, as many as asked
 unfoldable pub lowDigits : ℕ → ℕ → List ℕ
@@ -42,3 +44,28 @@ literalText r = integer (r .literal) ++ (10 ∷ [])
 -- a refusal's line
 abbrev pub refusalLine : ℕ → ℕ → List ℕ
 refusalLine k n = line (natural k) (natural n ∷ [])
+
+-- a table's records
+abbrev pub recordsOf : List ℕ → List Record
+recordsOf t = table 0 (recordCount t) (λ i. recordAt t (suc i))
+
+-- 52 bytes for a line, since a number has at most 4 digits, kind and mark 3, a child 5, a literal 20 signs; and 3,584
+-- lines, 14 for each of 256 records
+abbrev pub longestLine : ℕ
+longestLine = 52
+
+abbrev pub longestText : ℕ
+longestText = 3584 * longestLine
+
+-- a listing's length and its lent output
+pub record Listed : Type 0 where
+  pub length : ℕ
+  pub out : List ℕ
+
+-- the listing at the start of the output; nothing where the output is shorter than the longest listing
+abbrev pub listed : List ℕ → List ℕ → Listed
+listed t out =
+    elim (ltb (length out) longestText) [
+      | true ↦ record { length = 0; out = out }
+      | false ↦ record { length = length (listing t); out = put out 0 (listing t) }
+    ]

@@ -1,14 +1,19 @@
 // The text of a listing: "one line a target record: number, kind, mark, A, B, C, literal; for a refused table one line,
 // refusal number and record".
+use rules::Checked;
 ghost use mathlib.Core.Path.{_≡_};
 ghost use Prim.Native.Nat.{_+_, _≤_};
 ghost use mathlib.Core.List.{[], _∷_};
 ghost use lib.ListN.{length};
 ghost use Rattle.rules.specs.Words.{put};
-ghost use Rattle.rules.specs.Listing.{natural, integer, recordLine};
+ghost use Rattle.rules.specs.Listing.{natural, integer, recordLine, recordLines};
+ghost use Rattle.rules.specs.Kinds.{source};
+ghost use Rattle.rules.specs.Checker.{check};
+ghost use Rattle.rules.specs.declared.Checked.the-variants as checked;
+ghost use Rattle.rules.specs.Translation.{translatedRecords};
 ghost use Rattle.rules.specs.Records.{recordAt};
 ghost use Rattle.tables.specs.Within.{Within};
-ghost use Rattle.listing_text.specs.Text.{lowDigits, Room, Written, spaced, three, headText, childrenText, literalText, refusalLine};
+ghost use Rattle.listing_text.specs.Text.{lowDigits, Room, Written, spaced, three, headText, childrenText, literalText, refusalLine, recordsOf, longestText, listed};
 
 // How many decimal digits a number has.
 fn count_digits(n: u64) -> usize
@@ -132,4 +137,45 @@ fn write_refusal(out: &mut [u8], number: u32, record: u32) -> usize
     let second = write_spaced(out, 0, number as u64);
     let end = write_natural(out, second, record as u64);
     write_byte(out, end, 10)
+}
+
+// The lines of all records of a table.
+fn write_records(table: &[u8], out: &mut [u8]) -> usize
+    requires { ⌜ Room (now out) 0 (recordLines 1 (recordsOf (now table))) ⌝ }
+    ensures { λ r. ⌜ Written (now (out .entry)) 0 (recordLines 1 (recordsOf (now (table .entry)))) (now (out .exit)) r ⌝ }
+{
+    let count = table.len() / 16;
+    let mut at: usize = 0;
+    let mut n: usize = 0;
+    while n < count {
+        n += 1;
+        at = write_record(table, n, out, at);
+    }
+    at
+}
+
+// The lines of an accepted table's translation, of which there are at most 3,584.
+fn write_translation(table: &[u8], out: &mut [u8]) -> usize
+    requires { ⌜ (check source (now table) ≡ checked.Accepted) × (longestText ≤ length (now out)) ⌝ }
+    ensures { λ r. ⌜ Written (now (out .entry)) 0 (recordLines 1 (translatedRecords (now (table .entry)))) (now (out .exit)) r ⌝ }
+{
+    let mut target = [0u8; 57344];
+    let answer = translation::translate_accepted(table, &mut target);
+    let length = (answer.record as usize) * 16;
+    write_records(&target[..length], out)
+}
+
+// The listing is put at the start of `out`, and its length returned. Where `out` has fewer than 186,368 bytes, which
+// the longest listing may need, nothing is written and 0 returned.
+pub fn write_listing(table: &[u8], out: &mut [u8]) -> usize
+    ensures length { λ r. ⌜ r ≡ listed (now (table .entry)) (now (out .entry)) .length ⌝ }
+    ensures text { λ _. ⌜ now (out .exit) ≡ listed (now (table .entry)) (now (out .entry)) .out ⌝ }
+{
+    if out.len() < 186368 {
+        return 0;
+    }
+    match checker::check_source(table) {
+        Checked::Accepted => write_translation(table, out),
+        Checked::Refused(number, record) => write_refusal(out, number, record),
+    }
 }
