@@ -3,3 +3,4 @@ pub mod WriteLaws
 pub mod RecordsLaws
 pub mod LongestText
 pub mod TranslationLaws
+pub mod ListedLaws

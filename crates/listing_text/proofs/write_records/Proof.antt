@@ -9,8 +9,6 @@ use Rattle.listing_text.specs.Text.{recordsOf}
 use Rattle.listing_text.proofs.RecordsLaws.{Remaining, remaining-start, remaining-room, remaining-step, remaining-none, remaining-as, linesFrom, lines-all, lines-none, lines-next}
 use Rattle.listing_text.proofs.write_records.Statement.{statement}
 use Rattle.listing_text.proofs.write_records.Tie as tie
-use Rattle.listing_text.proofs.write_records.Reads as reads
-use Rattle.listing_text.proofs.write_records.Lts as lts
 
 abbrev Inv-loop : tie.InvT-loop
 Inv-loop table out₀ count at₀ n₀ out at n =
@@ -41,7 +39,7 @@ write-record-requires c κs =
     let rest = linesFrom t (p .loop .n + 1) (recordCount t - (p .loop .n + 1)) in (
       (omega arith, omega arith),
       remaining-room (s .args .out .now) (recordLines 1 (recordsOf t)) (s .pre) line rest
-      (remaining-as next (p .loop .inv .1)),
+          (remaining-as next (p .loop .inv .1)),
     )
 
 loop-less : tie.Need-loop-less Inv-loop μ-loop
@@ -58,7 +56,7 @@ loop-again c =
     let rest = linesFrom t (p .loop .n + 1) (recordCount t - (p .loop .n + 1)) in (
       omega arith,
       remaining-step (s .args .out .now) (recordLines 1 (recordsOf t)) (s .pre) line rest
-      (remaining-as next (p .loop .inv .1)) (w .write-record .ensures),
+          (remaining-as next (p .loop .inv .1)) (w .write-record .ensures),
     )
 
 same-length : tie.Need-same-length Inv-loop μ-loop
