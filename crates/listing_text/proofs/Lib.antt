@@ -4,3 +4,4 @@ pub mod RecordsLaws
 pub mod LongestText
 pub mod TranslationLaws
 pub mod ListedLaws
+pub mod InputLaws

@@ -1,41 +1,23 @@
 -- What `write_listing` answers, by the length of its output and by the checker's word.
 use Prim.Native.Nat.{ℕ, _+_, _≤_, _<_}
 use native.Mathlib.Omega.{arith}
-use mathlib.Core.Path.{_≡_, sym, ap, _∙_}
+use native.Mathlib.Decide.{decLt}
+use mathlib.Core.Path.{_≡_, refl, sym, ap, _∙_}
 use mathlib.Core.Bool.{Bool, true, false}
 use mathlib.Core.List.{List}
 use borrow.Author.Tests.{lt-ltb, le-ltb}
+use lib.Dec.{ltb}
 use lib.ListN.{length}
 use Rattle.rules.specs.Words.{put}
 use Rattle.rules.specs.Kinds.{source}
 use Rattle.rules.specs.Checker.{check}
+use Rattle.rules.specs.declared.Checked.{Checked}
 use Rattle.rules.specs.declared.Checked.the-variants as checked
 use Rattle.rules.specs.Translation.{translatedRecords}
 use Rattle.rules.specs.Listing.{recordLines, listingBy, listing}
 use Rattle.listing_text.specs.Text.{Written, refusalLine, longestText, Listed, listed}
-
--- `listed` with its test apart
-unfoldable listedBy : List ℕ → List ℕ → Bool → Listed
-listedBy t out b =
-    elim b as (λ x. Listed) [
-      | true ↦ record { length = 0; out = out }
-      | false ↦ record { length = length (listing t); out = put out 0 (listing t) }
-    ]
-
-module _ (t out : List ℕ) where
-  pub listed-short : length out < longestText → (_≡_ {A = ℕ} 0 (listed t out .length)) × (out ≡ listed t out .out)
-  unfolding listedBy
-  listed-short h =
-      let e : listedBy t out true ≡ listed t out = ap (listedBy t out) (sym (lt-ltb (length out) longestText h)) in
-      (ap (λ (x : Listed). x .length) e, ap (λ (x : Listed). x .out) e)
-
-  pub listed-long : (after : List ℕ) (r : ℕ) → longestText ≤ length out → Written out 0 (listing t) after r
-      → (r ≡ listed t out .length) × (after ≡ listed t out .out)
-  unfolding listedBy
-  listed-long after r h w =
-      let e : listedBy t out false ≡ listed t out = ap (listedBy t out) (sym (le-ltb (length out) longestText h)) in
-      let size : r ≡ length (listing t) = omega (arith, w .place) in
-      (size ∙ ap (λ (x : Listed). x .length) e, w .bytes ∙ ap (λ (x : Listed). x .out) e)
+use Rattle.listing_text.proofs.LongestText.{length-refusal}
+use Rattle.listing_text.proofs.TranslationLaws.{lines-fit}
 
 -- by the checker's word
 pub accepted-listing : (t : List ℕ) → check source t ≡ checked.Accepted → recordLines 1 (translatedRecords t) ≡ listing t
@@ -43,3 +25,59 @@ accepted-listing t e = ap (λ x. listingBy x t) (sym e)
 
 pub refused-listing : (t : List ℕ) (k n : ℕ) → check source t ≡ checked.Refused k n → refusalLine k n ≡ listing t
 refused-listing t k n e = ap (λ x. listingBy x t) (sym e)
+
+-- no listing is longer
+pub longest : (t : List ℕ) → length (listing t) ≤ longestText
+longest t = by-word (check source t) refl
+  where
+    by-word : (w : Checked) → check source t ≡ w → length (listing t) ≤ longestText
+    by-word checked.Accepted e = omega (arith, ap length (accepted-listing t e), lines-fit t e)
+    by-word (checked.Refused k n) e = omega (arith, ap length (refused-listing t k n e), length-refusal k n)
+
+-- `listed` with its text and its test apart
+unfoldable answered : List ℕ → List ℕ → Bool → Listed
+answered text out b =
+    elim b as (λ x. Listed) [
+      | true ↦ record { length = 0; out = out }
+      | false ↦ record { length = length text; out = put out 0 text }
+    ]
+
+listed-as : (t out : List ℕ) → answered (listing t) out (ltb (length out) longestText) ≡ listed t out
+unfolding answered
+listed-as t out = refl
+
+pub listed-same : (s t out : List ℕ) → listing s ≡ listing t → listed s out ≡ listed t out
+listed-same s t out e =
+    sym (listed-as s out) ∙ ap (λ (x : List ℕ). answered x out (ltb (length out) longestText)) e ∙ listed-as t out
+
+module _ (t out : List ℕ) where
+  pub listed-short : length out < longestText → (_≡_ {A = ℕ} 0 (listed t out .length)) × (out ≡ listed t out .out)
+  unfolding answered
+  listed-short h =
+      let test = lt-ltb (length out) longestText h in
+      let e : answered (listing t) out true ≡ listed t out = ap (answered (listing t) out) (sym test) ∙ listed-as t out in
+      (ap (λ (x : Listed). x .length) e, ap (λ (x : Listed). x .out) e)
+
+  pub listed-enough : longestText ≤ length out
+      → (length (listing t) ≡ listed t out .length) × (put out 0 (listing t) ≡ listed t out .out)
+  unfolding answered
+  listed-enough h =
+      let test = le-ltb (length out) longestText h in
+      let e : answered (listing t) out false ≡ listed t out = ap (answered (listing t) out) (sym test) ∙ listed-as t out in
+      (ap (λ (x : Listed). x .length) e, ap (λ (x : Listed). x .out) e)
+
+  pub listed-long : (after : List ℕ) (r : ℕ) → longestText ≤ length out → Written out 0 (listing t) after r
+      → (r ≡ listed t out .length) × (after ≡ listed t out .out)
+  listed-long after r h w =
+      let size : r ≡ length (listing t) = omega (arith, w .place) in
+      (size ∙ listed-enough h .0, w .bytes ∙ listed-enough h .1)
+
+  -- the length lies inside the output
+  pub listed-inside : listed t out .length ≤ length out
+  listed-inside = go (decLt (length out) longestText)
+    where
+      go : Dec (length out < longestText) → listed t out .length ≤ length out
+      go (yes h) = omega (arith, listed-short h .0)
+      go (no h) =
+          let enough : longestText ≤ length out = omega arith in
+          omega (arith, listed-enough enough .0, longest t)

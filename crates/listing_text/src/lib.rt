@@ -2,8 +2,8 @@
 // refusal number and record".
 use rules::Checked;
 ghost use mathlib.Core.Path.{_≡_};
-ghost use Prim.Native.Nat.{_+_, _≤_};
-ghost use mathlib.Core.List.{[], _∷_};
+ghost use Prim.Native.Nat.{ℕ, _+_, _%_, _≤_, _<_};
+ghost use mathlib.Core.List.{List, [], _∷_, _++_};
 ghost use lib.ListN.{length};
 ghost use Rattle.rules.specs.Words.{put};
 ghost use Rattle.rules.specs.Listing.{natural, integer, recordLine, recordLines};
@@ -14,6 +14,7 @@ ghost use Rattle.rules.specs.Translation.{translatedRecords};
 ghost use Rattle.rules.specs.Records.{recordAt};
 ghost use Rattle.tables.specs.Within.{Within};
 ghost use Rattle.listing_text.specs.Text.{lowDigits, Room, Written, spaced, three, headText, childrenText, literalText, refusalLine, recordsOf, longestText, listed};
+ghost use Rattle.listing_text.specs.Input.{keptLength, keptBytes, Kept};
 
 // How many decimal digits a number has.
 fn count_digits(n: u64) -> usize
@@ -178,4 +179,57 @@ pub fn write_listing(table: &[u8], out: &mut [u8]) -> usize
         Checked::Accepted => write_translation(table, out),
         Checked::Refused(number, record) => write_refusal(out, number, record),
     }
+}
+
+// The bytes that come behind the first `count`, as long as 257 records have room for them.
+fn copy(kept: &mut [u8], count: usize, more: &[u8])
+    requires { ⌜ (count < 4128) × (4128 ≤ length (now kept)) ⌝ }
+    ensures { λ _. ⌜ now (kept .exit) ≡ keptBytes (now (kept .entry)) count (now (more .entry)) ⌝ }
+{
+    let mut i: usize = 0;
+    while i < more.len() && count + i < 4112 {
+        kept[count + i] = more[i];
+        i += 1;
+    }
+}
+
+// Of a longer input only what is over a multiple of 16 counts.
+fn count_round(count: usize, more: usize) -> usize
+    ensures { λ r. ⌜ r ≡ 4112 + (count + more) % 16 ⌝ }
+{
+    4112 + (count % 16 + more % 16) % 16
+}
+
+fn count_on(count: usize, more: usize) -> usize
+    ensures { λ r. ⌜ r ≡ keptLength (count + more) ⌝ }
+{
+    if 4112 <= count {
+        return count_round(count, more);
+    }
+    if 4112 - count <= more {
+        return count_round(count, more);
+    }
+    count + more
+}
+
+// More of an input is kept: its bytes as long as there are at most 257 records, then its length by 16 alone.
+pub fn keep(kept: &mut [u8], count: usize, more: &[u8]) -> usize
+    requires { ⌜ (count < 4128) × (4128 ≤ length (now kept)) ⌝ }
+    ensures count { λ r. ⌜ r ≡ keptLength (count + length (now (more .entry))) ⌝ }
+    ensures bytes { λ _. ⌜ now (kept .exit) ≡ keptBytes (now (kept .entry)) count (now (more .entry)) ⌝ }
+    ensures input { λ r. ⌜ ((whole : List ℕ) → Kept whole (now (kept .entry)) count → Kept (whole ++ now (more .entry)) (now (kept .exit)) r) ⌝ }
+    ensures small { λ r. ⌜ r < 4128 ⌝ }
+{
+    copy(kept, count, more);
+    count_on(count, more.len())
+}
+
+// The listing of a whole input, of which `count` bytes are kept. The output is as in `write_listing`.
+pub fn write_kept(kept: &[u8], count: usize, out: &mut [u8]) -> usize
+    requires { ⌜ (count < 4128) × (4128 ≤ length (now kept)) ⌝ }
+    ensures length { λ r. ⌜ ((whole : List ℕ) → Kept whole (now (kept .entry)) count → r ≡ listed whole (now (out .entry)) .length) ⌝ }
+    ensures text { λ _. ⌜ ((whole : List ℕ) → Kept whole (now (kept .entry)) count → now (out .exit) ≡ listed whole (now (out .entry)) .out) ⌝ }
+    ensures inside { λ r. ⌜ r ≤ length (now (out .entry)) ⌝ }
+{
+    write_listing(&kept[..count], out)
 }
