@@ -229,7 +229,7 @@ pub fn write_kept(kept: &[u8], count: usize, out: &mut [u8]) -> usize
     requires { ⌜ (count < 4128) × (4128 ≤ length (now kept)) ⌝ }
     ensures length { λ r. ⌜ ((whole : List ℕ) → Kept whole (now (kept .entry)) count → r ≡ listed whole (now (out .entry)) .length) ⌝ }
     ensures text { λ _. ⌜ ((whole : List ℕ) → Kept whole (now (kept .entry)) count → now (out .exit) ≡ listed whole (now (out .entry)) .out) ⌝ }
-    ensures inside { λ r. ⌜ r ≤ length (now (out .entry)) ⌝ }
+    ensures inside { λ r. ⌜ r ≤ length (now (out .exit)) ⌝ }
 {
     write_listing(&kept[..count], out)
 }
