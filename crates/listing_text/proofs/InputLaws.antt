@@ -17,16 +17,11 @@ use Rattle.listing_text.specs.Text.{refusalLine}
 use Rattle.listing_text.proofs.ListedLaws.{refused-listing}
 
 -- ---- the length
-unfoldable keptBy : ℕ → Bool → ℕ
-keptBy n b = elim b as (λ x. ℕ) [ true ↦ n | false ↦ tooMany + n % 16 ]
-
 pub kept-below : (n : ℕ) → n < tooMany → keptLength n ≡ n
-unfolding keptBy
-kept-below n h = ap (keptBy n) (lt-ltb n tooMany h)
+kept-below n h = rw (lt-ltb n tooMany h, keptLength)
 
 pub kept-above : (n : ℕ) → tooMany ≤ n → keptLength n ≡ tooMany + n % 16
-unfolding keptBy
-kept-above n h = ap (keptBy n) (le-ltb n tooMany h)
+kept-above n h = rw (le-ltb n tooMany h, keptLength)
 
 pub kept-small : (n : ℕ) → keptLength n < 4128
 kept-small n = go (decLt n tooMany)

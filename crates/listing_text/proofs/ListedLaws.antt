@@ -3,10 +3,8 @@ use Prim.Native.Nat.{ℕ, _+_, _≤_, _<_}
 use native.Mathlib.Omega.{arith}
 use native.Mathlib.Decide.{decLt}
 use mathlib.Core.Path.{_≡_, refl, sym, ap, _∙_}
-use mathlib.Core.Bool.{Bool, true, false}
 use mathlib.Core.List.{List}
 use borrow.Author.Tests.{lt-ltb, le-ltb}
-use lib.Dec.{ltb}
 use lib.ListN.{length}
 use Rattle.rules.specs.Words.{put}
 use Rattle.rules.specs.Kinds.{source}
@@ -15,7 +13,7 @@ use Rattle.rules.specs.declared.Checked.{Checked}
 use Rattle.rules.specs.declared.Checked.the-variants as checked
 use Rattle.rules.specs.Translation.{translatedRecords}
 use Rattle.rules.specs.Listing.{recordLines, listingBy, listing}
-use Rattle.listing_text.specs.Text.{Written, refusalLine, longestText, Listed, listed}
+use Rattle.listing_text.specs.Text.{Written, refusalLine, longestText, textInto, listed}
 use Rattle.listing_text.proofs.LongestText.{length-refusal}
 use Rattle.listing_text.proofs.TranslationLaws.{lines-fit}
 
@@ -34,37 +32,17 @@ longest t = by-word (check source t) refl
     by-word checked.Accepted e = omega (arith, ap length (accepted-listing t e), lines-fit t e)
     by-word (checked.Refused k n) e = omega (arith, ap length (refused-listing t k n e), length-refusal k n)
 
--- `listed` with its text and its test apart
-unfoldable answered : List ℕ → List ℕ → Bool → Listed
-answered text out b =
-    elim b as (λ x. Listed) [
-      | true ↦ record { length = 0; out = out }
-      | false ↦ record { length = length text; out = put out 0 text }
-    ]
-
-listed-as : (t out : List ℕ) → answered (listing t) out (ltb (length out) longestText) ≡ listed t out
-unfolding answered
-listed-as t out = refl
-
+-- by the length of the output
 pub listed-same : (s t out : List ℕ) → listing s ≡ listing t → listed s out ≡ listed t out
-listed-same s t out e =
-    sym (listed-as s out) ∙ ap (λ (x : List ℕ). answered x out (ltb (length out) longestText)) e ∙ listed-as t out
+listed-same s t out e = ap (λ (text : List ℕ). textInto text out) e
 
 module _ (t out : List ℕ) where
   pub listed-short : length out < longestText → (_≡_ {A = ℕ} 0 (listed t out .length)) × (out ≡ listed t out .out)
-  unfolding answered
-  listed-short h =
-      let test = lt-ltb (length out) longestText h in
-      let e : answered (listing t) out true ≡ listed t out = ap (answered (listing t) out) (sym test) ∙ listed-as t out in
-      (ap (λ (x : Listed). x .length) e, ap (λ (x : Listed). x .out) e)
+  listed-short h = let e = lt-ltb (length out) longestText h in (rw (e, textInto), rw (e, textInto))
 
   pub listed-enough : longestText ≤ length out
       → (length (listing t) ≡ listed t out .length) × (put out 0 (listing t) ≡ listed t out .out)
-  unfolding answered
-  listed-enough h =
-      let test = le-ltb (length out) longestText h in
-      let e : answered (listing t) out false ≡ listed t out = ap (answered (listing t) out) (sym test) ∙ listed-as t out in
-      (ap (λ (x : Listed). x .length) e, ap (λ (x : Listed). x .out) e)
+  listed-enough h = let e = le-ltb (length out) longestText h in (rw (e, textInto), rw (e, textInto))
 
   pub listed-long : (after : List ℕ) (r : ℕ) → longestText ≤ length out → Written out 0 (listing t) after r
       → (r ≡ listed t out .length) × (after ≡ listed t out .out)

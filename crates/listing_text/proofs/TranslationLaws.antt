@@ -2,9 +2,10 @@
 use Prim.Native.Nat.{ℕ, suc, _+_, _*_, _≤_, _<_}
 use native.Mathlib.Omega.{arith}
 use mathlib.Core.Path.{_≡_, refl, ap, _∙_}
-use mathlib.Core.Bool.{Bool, true, false}
+use mathlib.Core.Bool.{false}
 use mathlib.Core.List.{List}
 use borrow.Author.Tests.{le-ltb}
+use lib.Dec.{ltb}
 use lib.ListN.{length, take}
 use lib.Seq.{take-append-seam}
 use Rattle.rules.specs.Words.{put, table}
@@ -15,7 +16,7 @@ use Rattle.rules.specs.declared.Checked.the-variants as checked
 use Rattle.rules.specs.Nodes.{sourceProgram}
 use Rattle.rules.specs.Translation.{translate, statementTree, treeSize, emit, translatedRecords, translation}
 use Rattle.rules.specs.Listing.{recordLines}
-use Rattle.rules.specs.Answers.{answer, Translated, translatedInto}
+use Rattle.rules.specs.Answers.{translatedInto}
 use Rattle.rules.specs.declared.Answer.{Answer}
 use Rattle.rules.proofs.WordLaws.{length-put}
 use Rattle.rules.proofs.Sound.{startScope}
@@ -58,31 +59,22 @@ module _ (t : List ℕ) (a : check source t ≡ checked.Accepted) where
       refl (λ j l. table-record (translatedRecords t) j records-fit l)
 
   -- what the translator hands back, in an output that is long enough
-  unfoldable into : List ℕ → Bool → Translated
-  into o b =
-      elim b as (λ x. Translated) [
-        | true ↦ record { answer = answer 20 0 0 0; out = o }
-        | false ↦ record { answer = answer 0 (recordCount (translation t)) 0 0; out = put o 0 (translation t) }
-      ]
-
   module _ (o : List ℕ) (room : 57344 ≤ length o) (m : List ℕ) (r : Answer)
       (e : r ≡ translatedInto (translation t) o .answer) (f : m ≡ translatedInto (translation t) o .out) where
     size : length (translation t) ≡ 16 * length (translatedRecords t)
     size = table-length (translatedRecords t)
 
-    long-enough : translatedInto (translation t) o ≡ into o false
-    unfolding into
-    long-enough = ap (into o) (le-ltb (length o) (length (translation t)) (omega (arith, size, few-records)))
+    enough : ltb (length o) (length (translation t)) ≡ false
+    enough = le-ltb (length o) (length (translation t)) (omega (arith, size, few-records))
 
     pub record-count : r .«record» * 16 ≡ length (translation t)
-    unfolding into
     record-count =
-        let k = ap (λ (x : Answer). x .«record») (e ∙ ap (λ (x : Translated). x .answer) long-enough) in
-        omega (arith, k, table-count (translatedRecords t), size)
+        let k : translatedInto (translation t) o .answer .«record» ≡ recordCount (translation t) =
+        rw (enough, translatedInto) in
+        omega (arith, ap (λ (x : Answer). x .«record») e, k, table-count (translatedRecords t), size)
 
     bytes-put : m ≡ put o 0 (translation t)
-    unfolding into
-    bytes-put = f ∙ ap (λ (x : Translated). x .out) long-enough
+    bytes-put = f ∙ rw (enough, translatedInto)
 
     pub inside : r .«record» * 16 ≤ length m
     inside =

@@ -62,10 +62,13 @@ pub record Listed : Type 0 where
   pub length : ℕ
   pub out : List ℕ
 
--- the listing at the start of the output; nothing where the output is shorter than the longest listing
-abbrev pub listed : List ℕ → List ℕ → Listed
-listed t out =
+-- a text at the start of the output; nothing where the output is shorter than the longest listing
+abbrev pub textInto : List ℕ → List ℕ → Listed
+textInto text out =
     elim (ltb (length out) longestText) [
       | true ↦ record { length = 0; out = out }
-      | false ↦ record { length = length (listing t); out = put out 0 (listing t) }
+      | false ↦ record { length = length text; out = put out 0 text }
     ]
+
+abbrev pub listed : List ℕ → List ℕ → Listed
+listed t out = textInto (listing t) out
