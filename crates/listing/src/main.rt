@@ -3,8 +3,9 @@
 ghost use Prim.Native.Nat.{_≤_, _<_};
 ghost use lib.ListN.{length};
 
-// Reads the whole input and keeps what its listing needs of it. A proved loop has to end, and nothing says that an
-// input does: so the turns are counted down, from a number that no run uses up.
+// Reads the whole input and keeps what its listing needs of it: nothing at first, and `keep` promises the same with each
+// part. A proved loop has to end, and nothing says that an input does: so the turns are counted down, from a number that
+// no run uses up.
 fn read_input(kept: &mut [u8]) -> usize
     requires { ⌜ 4128 ≤ length (now kept) ⌝ }
     ensures { λ r. ⌜ r < 4128 ⌝ }

@@ -4,7 +4,7 @@ use native.Mathlib.Omega.{arith}
 use native.Mathlib.Decide.{ℕ-discrete, decLt}
 use mathlib.Core.Path.{_≡_, refl, sym, ap, _∙_}
 use mathlib.Core.Bool.{Bool, true, false}
-use mathlib.Core.List.{List, _++_, append-assoc}
+use mathlib.Core.List.{List, [], _++_}
 use borrow.Author.Tests.{lt-ltb, le-ltb}
 use lib.ListN.{length, take, drop, length-append}
 use lib.Seq.{paste, take-all, length-take-le, take-append-seam}
@@ -66,6 +66,10 @@ kept-front w l m n e h =
     ap (λ (x : List ℕ). take (n + length m) (x ++ m ++ drop (n + length m) l)) h
     ∙ ap (λ (k : ℕ). take k (w ++ m ++ drop (n + length m) l)) size
     ∙ take-append-seam (w ++ m) (drop (n + length m) l)
+
+-- before anything is read, and with each part that is
+pub kept-start : (l : List ℕ) → Kept [] l 0
+kept-start l = record { counted = sym (kept-below 0 (omega arith)); bytes = λ h. refl }
 
 pub kept-more : (w l m l′ : List ℕ) (count r : ℕ) → r ≡ keptLength (count + length m) → l′ ≡ keptBytes l count m
     → Kept w l count → Kept (w ++ m) l′ r

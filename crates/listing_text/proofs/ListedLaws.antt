@@ -11,14 +11,13 @@ use Rattle.rules.specs.Kinds.{source}
 use Rattle.rules.specs.Checker.{check}
 use Rattle.rules.specs.declared.Checked.{Checked}
 use Rattle.rules.specs.declared.Checked.the-variants as checked
-use Rattle.rules.specs.Translation.{translatedRecords}
-use Rattle.rules.specs.Listing.{recordLines, listingBy, listing}
-use Rattle.listing_text.specs.Text.{Written, refusalLine, longestText, textInto, listed}
+use Rattle.rules.specs.Listing.{listingBy, listing}
+use Rattle.listing_text.specs.Text.{Written, refusalLine, translatedLines, longestText, textInto, listed}
 use Rattle.listing_text.proofs.LongestText.{length-refusal}
 use Rattle.listing_text.proofs.TranslationLaws.{lines-fit}
 
 -- by the checker's word
-pub accepted-listing : (t : List ℕ) → check source t ≡ checked.Accepted → recordLines 1 (translatedRecords t) ≡ listing t
+pub accepted-listing : (t : List ℕ) → check source t ≡ checked.Accepted → translatedLines t ≡ listing t
 accepted-listing t e = ap (λ x. listingBy x t) (sym e)
 
 pub refused-listing : (t : List ℕ) (k n : ℕ) → check source t ≡ checked.Refused k n → refusalLine k n ≡ listing t

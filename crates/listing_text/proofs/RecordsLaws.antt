@@ -10,7 +10,7 @@ use Rattle.rules.specs.Records.{Record, recordCount, recordAt}
 use Rattle.rules.specs.Listing.{recordLine, recordLines}
 use Rattle.rules.proofs.WordLaws.{length-put, put-put}
 use Rattle.translation.proofs.Puts.{put-none}
-use Rattle.listing_text.specs.Text.{Room, Written, recordsOf}
+use Rattle.listing_text.specs.Text.{Room, Written, tableLines}
 
 -- to put the text that is left is to put the whole
 pub record Remaining (l whole d : List ℕ) (at : ℕ) (rest : List ℕ) : Type 0 where
@@ -52,7 +52,7 @@ module _ (l whole : List ℕ) (room : Room l 0 whole) where
 unfoldable pub linesFrom : List ℕ → ℕ → ℕ → List ℕ
 linesFrom t n k = recordLines (suc n) (table n k (λ i. recordAt t (suc i)))
 
-pub lines-all : (t : List ℕ) → linesFrom t 0 (recordCount t) ≡ recordLines 1 (recordsOf t)
+pub lines-all : (t : List ℕ) → linesFrom t 0 (recordCount t) ≡ tableLines t
 unfolding linesFrom
 lines-all t = refl
 
@@ -60,7 +60,8 @@ pub lines-none : (t : List ℕ) (n : ℕ) → linesFrom t n 0 ≡ []
 unfolding linesFrom recordLines table
 lines-none t n = refl
 
-lines-suc : (t : List ℕ) (n k : ℕ) → linesFrom t n (suc k) ≡ recordLine (suc n) (recordAt t (suc n)) ++ linesFrom t (suc n) k
+lines-suc : (t : List ℕ) (n k : ℕ)
+    → linesFrom t n (suc k) ≡ recordLine (suc n) (recordAt t (suc n)) ++ linesFrom t (suc n) k
 unfolding linesFrom recordLines table
 lines-suc t n k = refl
 

@@ -29,7 +29,7 @@ use Rattle.rules.proofs.TargetFitting.{statement-fits}
 use Rattle.rules.proofs.EmittedBytes.{emit-fits}
 use Rattle.rules.proofs.RecordBytes.{AllFit, noRecord, table-record, table-count, table-length}
 use Rattle.rules.proofs.Rows.{table-list}
-use Rattle.listing_text.specs.Text.{recordsOf, longestText}
+use Rattle.listing_text.specs.Text.{recordsOf, tableLines, translatedLines, longestText}
 use Rattle.listing_text.proofs.LongestText.{length-lines}
 
 module _ (t : List ℕ) (a : check source t ≡ checked.Accepted) where
@@ -49,7 +49,7 @@ module _ (t : List ℕ) (a : check source t ≡ checked.Accepted) where
       (sound-translation (sourceProgram t) startScope (sound-source t a)))
       (omega (arith, tree-small))
 
-  pub lines-fit : length (recordLines 1 (translatedRecords t)) ≤ longestText
+  pub lines-fit : length (translatedLines t) ≤ longestText
   lines-fit = omega (arith, few-records, length-lines 1 (translatedRecords t) (omega (arith, few-records)) records-fit)
 
   pub records-back : recordsOf (translation t) ≡ translatedRecords t
@@ -87,5 +87,5 @@ module _ (t : List ℕ) (a : check source t ≡ checked.Accepted) where
         ∙ ap (take (length (translation t))) bytes-put
         ∙ take-append-seam (translation t) _
 
-    pub lines-back : recordLines 1 (recordsOf (take (r .«record» * 16) m)) ≡ recordLines 1 (translatedRecords t)
-    lines-back = ap (λ (x : List ℕ). recordLines 1 (recordsOf x)) bytes-back ∙ ap (recordLines 1) records-back
+    pub lines-back : tableLines (take (r .«record» * 16) m) ≡ translatedLines t
+    lines-back = ap tableLines bytes-back ∙ ap (recordLines 1) records-back

@@ -14,7 +14,8 @@ use Rattle.rules.specs.Records.{Record}
 use Rattle.rules.specs.Listing.{natural, integer, recordLine}
 use Rattle.rules.proofs.WordLaws.{length-put}
 use Rattle.translation.proofs.Puts.{put-one, put-then}
-use Rattle.listing_text.specs.Text.{lowDigits, Room, Written, spaced, three, headText, childrenText, literalText, refusalLine}
+use Rattle.listing_text.specs.Text.{lowDigits, Room, Written, spaced, three}
+use Rattle.listing_text.specs.Text.{headText, childrenText, literalText, refusalLine}
 use Rattle.listing_text.proofs.DigitLaws.{digits-low}
 
 pub natural-written : (l m : List ℕ) (at count n : ℕ) → count ≡ length (natural n) → m ≡ put l at (lowDigits count n)
@@ -59,10 +60,14 @@ written-then {l} {m} {o} {xs} {ys} {at} {next} h w v =
       place = omega (arith, w .place, v .place);
     }
 
--- three texts in a row
-module _ (xs ys zs : List ℕ) {text : List ℕ} (e : text ≡ xs ++ ys ++ zs) (l : List ℕ) (at : ℕ) (room : Room l at text) where
+-- three texts in a row, with room for them
+pub record Row (l : List ℕ) (at : ℕ) (text xs ys zs : List ℕ) : Type 0 where
+  pub parts : text ≡ xs ++ ys ++ zs
+  pub room : Room l at text
+
+module _ {l text xs ys zs : List ℕ} {at : ℕ} (row : Row l at text xs ys zs) where
   whole : Room l at (xs ++ ys ++ zs)
-  whole = room-as l at e room
+  whole = room-as l at (row .parts) (row .room)
 
   front : Room l at (xs ++ ys)
   front = room-first l (xs ++ ys) zs at whole
@@ -79,7 +84,7 @@ module _ (xs ys zs : List ℕ) {text : List ℕ} (e : text ≡ xs ++ ys ++ zs) (
       third-room = room-second zs whole (written-then front w v)
 
       pub all-written : {p : List ℕ} {last : ℕ} → Written o third zs p last → Written l at text p last
-      all-written u = written-as (sym e) (written-then whole (written-then front w v) u)
+      all-written u = written-as (sym (row .parts)) (written-then whole (written-then front w v) u)
 
 -- a record's line and a refusal's
 pub record-text : (n : ℕ) (r : Record) → recordLine n r ≡ headText n r ++ childrenText r ++ literalText r

@@ -7,7 +7,8 @@ use lib.ListN.{length}
 use lib.Dec.{ltb}
 use Rattle.rules.specs.Words.{put, table}
 use Rattle.rules.specs.Records.{Record, recordCount, recordAt}
-use Rattle.rules.specs.Listing.{natural, integer, line, listing}
+use Rattle.rules.specs.Translation.{translatedRecords}
+use Rattle.rules.specs.Listing.{natural, integer, line, recordLines, listing}
 
 -- a number's low digits, as many as asked
 unfoldable pub lowDigits : ℕ → ℕ → List ℕ
@@ -45,9 +46,15 @@ literalText r = integer (r .literal) ++ (10 ∷ [])
 abbrev pub refusalLine : ℕ → ℕ → List ℕ
 refusalLine k n = line (natural k) (natural n ∷ [])
 
--- a table's records
+-- a table's records and their lines; those of a translation
 abbrev pub recordsOf : List ℕ → List Record
 recordsOf t = table 0 (recordCount t) (λ i. recordAt t (suc i))
+
+abbrev pub tableLines : List ℕ → List ℕ
+tableLines t = recordLines 1 (recordsOf t)
+
+abbrev pub translatedLines : List ℕ → List ℕ
+translatedLines t = recordLines 1 (translatedRecords t)
 
 -- 52 bytes for a line, since a number has at most 4 digits, kind and mark 3, a child 5, a literal 20 signs; and 3,584
 -- lines, 14 for each of 256 records

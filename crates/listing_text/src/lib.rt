@@ -2,19 +2,20 @@
 // refusal number and record".
 use rules::Checked;
 ghost use mathlib.Core.Path.{_≡_};
-ghost use Prim.Native.Nat.{ℕ, _+_, _%_, _≤_, _<_};
-ghost use mathlib.Core.List.{List, [], _∷_, _++_};
+ghost use Prim.Native.Nat.{_+_, _%_, _≤_, _<_};
+ghost use mathlib.Core.List.{[], _∷_};
 ghost use lib.ListN.{length};
 ghost use Rattle.rules.specs.Words.{put};
-ghost use Rattle.rules.specs.Listing.{natural, integer, recordLine, recordLines};
+ghost use Rattle.rules.specs.Listing.{natural, integer, recordLine};
 ghost use Rattle.rules.specs.Kinds.{source};
 ghost use Rattle.rules.specs.Checker.{check};
 ghost use Rattle.rules.specs.declared.Checked.the-variants as checked;
-ghost use Rattle.rules.specs.Translation.{translatedRecords};
 ghost use Rattle.rules.specs.Records.{recordAt};
 ghost use Rattle.tables.specs.Within.{Within};
-ghost use Rattle.listing_text.specs.Text.{lowDigits, Room, Written, spaced, three, headText, childrenText, literalText, refusalLine, recordsOf, longestText, listed};
-ghost use Rattle.listing_text.specs.Input.{keptLength, keptBytes, Kept};
+ghost use Rattle.listing_text.specs.Text.{lowDigits, Room, Written, spaced, three, headText, childrenText};
+ghost use Rattle.listing_text.specs.Text.{literalText, refusalLine, tableLines, translatedLines};
+ghost use Rattle.listing_text.specs.Text.{longestText, listed};
+ghost use Rattle.listing_text.specs.Input.{keptLength, keptBytes, KeepsMore, ListsInput};
 
 // How many decimal digits a number has.
 fn count_digits(n: u64) -> usize
@@ -142,8 +143,8 @@ fn write_refusal(out: &mut [u8], number: u32, record: u32) -> usize
 
 // The lines of all records of a table.
 fn write_records(table: &[u8], out: &mut [u8]) -> usize
-    requires { ⌜ Room (now out) 0 (recordLines 1 (recordsOf (now table))) ⌝ }
-    ensures { λ r. ⌜ Written (now (out .entry)) 0 (recordLines 1 (recordsOf (now (table .entry)))) (now (out .exit)) r ⌝ }
+    requires { ⌜ Room (now out) 0 (tableLines (now table)) ⌝ }
+    ensures { λ r. ⌜ Written (now (out .entry)) 0 (tableLines (now (table .entry))) (now (out .exit)) r ⌝ }
 {
     let count = table.len() / 16;
     let mut at: usize = 0;
@@ -158,7 +159,7 @@ fn write_records(table: &[u8], out: &mut [u8]) -> usize
 // The lines of an accepted table's translation, of which there are at most 3,584.
 fn write_translation(table: &[u8], out: &mut [u8]) -> usize
     requires { ⌜ (check source (now table) ≡ checked.Accepted) × (longestText ≤ length (now out)) ⌝ }
-    ensures { λ r. ⌜ Written (now (out .entry)) 0 (recordLines 1 (translatedRecords (now (table .entry)))) (now (out .exit)) r ⌝ }
+    ensures { λ r. ⌜ Written (now (out .entry)) 0 (translatedLines (now (table .entry))) (now (out .exit)) r ⌝ }
 {
     let mut target = [0u8; 57344];
     let answer = translation::translate_accepted(table, &mut target);
@@ -181,7 +182,7 @@ pub fn write_listing(table: &[u8], out: &mut [u8]) -> usize
     }
 }
 
-// The bytes that come behind the first `count`, as long as 257 records have room for them.
+// The bytes that come behind the first `count` are kept, as long as 257 records have room for them.
 fn copy(kept: &mut [u8], count: usize, more: &[u8])
     requires { ⌜ (count < 4128) × (4128 ≤ length (now kept)) ⌝ }
     ensures { λ _. ⌜ now (kept .exit) ≡ keptBytes (now (kept .entry)) count (now (more .entry)) ⌝ }
@@ -200,6 +201,7 @@ fn count_round(count: usize, more: usize) -> usize
     4112 + (count % 16 + more % 16) % 16
 }
 
+// How many bytes count as kept when more come.
 fn count_on(count: usize, more: usize) -> usize
     ensures { λ r. ⌜ r ≡ keptLength (count + more) ⌝ }
 {
@@ -217,7 +219,7 @@ pub fn keep(kept: &mut [u8], count: usize, more: &[u8]) -> usize
     requires { ⌜ (count < 4128) × (4128 ≤ length (now kept)) ⌝ }
     ensures count { λ r. ⌜ r ≡ keptLength (count + length (now (more .entry))) ⌝ }
     ensures bytes { λ _. ⌜ now (kept .exit) ≡ keptBytes (now (kept .entry)) count (now (more .entry)) ⌝ }
-    ensures input { λ r. ⌜ ((whole : List ℕ) → Kept whole (now (kept .entry)) count → Kept (whole ++ now (more .entry)) (now (kept .exit)) r) ⌝ }
+    ensures input { λ r. ⌜ KeepsMore (now (kept .entry)) count (now (more .entry)) (now (kept .exit)) r ⌝ }
     ensures small { λ r. ⌜ r < 4128 ⌝ }
 {
     copy(kept, count, more);
@@ -227,8 +229,7 @@ pub fn keep(kept: &mut [u8], count: usize, more: &[u8]) -> usize
 // The listing of a whole input, of which `count` bytes are kept. The output is as in `write_listing`.
 pub fn write_kept(kept: &[u8], count: usize, out: &mut [u8]) -> usize
     requires { ⌜ (count < 4128) × (4128 ≤ length (now kept)) ⌝ }
-    ensures length { λ r. ⌜ ((whole : List ℕ) → Kept whole (now (kept .entry)) count → r ≡ listed whole (now (out .entry)) .length) ⌝ }
-    ensures text { λ _. ⌜ ((whole : List ℕ) → Kept whole (now (kept .entry)) count → now (out .exit) ≡ listed whole (now (out .entry)) .out) ⌝ }
+    ensures listing { λ r. ⌜ ListsInput (now (kept .entry)) count (now (out .entry)) r (now (out .exit)) ⌝ }
     ensures inside { λ r. ⌜ r ≤ length (now (out .exit)) ⌝ }
 {
     write_listing(&kept[..count], out)

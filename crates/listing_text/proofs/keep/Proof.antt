@@ -23,8 +23,16 @@ returns c =
     let a = w .before .before .before .before .args in
     let n = c .count-on .ensures in
     let same = w .copy .ensures in
-    let small = kept-small (a .count + length (a .more .now)) in
-    (n, (same, ((λ whole h. kept-more whole (a .kept .now) (a .more .now) _ (a .count) _ n same h), omega (arith, n, small))))
+    let small = kept-small (a .count + length (a .more .now)) in (
+      n,
+      (
+        same,
+        (
+          (λ whole h. kept-more whole (a .kept .now) (a .more .now) _ (a .count) _ n same h),
+          omega (arith, n, small),
+        ),
+      ),
+    )
 
 pub keep-spec : {M : Type 1} → statement M
 keep-spec = tie.close (tie.spec copy-requires count-on-requires same-length returns)

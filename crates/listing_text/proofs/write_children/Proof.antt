@@ -30,7 +30,8 @@ returns c =
     let w = c .before .before in
     let t = w .before .before in
     let b = t .before in
-    written-as (three-same (b .before .child-a .ensures) (b .child-b .ensures) (t .child-c .ensures)) (w .write-three .ensures)
+    written-as (three-same (b .before .child-a .ensures) (b .child-b .ensures) (t .child-c .ensures))
+    (w .write-three .ensures)
 
 pub write-children-spec : {M : Type 1} → statement M
 write-children-spec =

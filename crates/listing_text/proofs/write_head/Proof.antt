@@ -21,7 +21,8 @@ write-three-requires : tie.Need-write-three-requires
 write-three-requires c κs =
     let m = c .before in
     let s = m .before .before .before .before in
-    room-as (s .args .out .now) (s .args .at) (three-same refl (sym (m .before .kind .ensures)) (sym (m .mark .ensures))) (s .pre .1)
+    room-as (s .args .out .now) (s .args .at)
+    (three-same refl (sym (m .before .kind .ensures)) (sym (m .mark .ensures))) (s .pre .1)
 
 same-length : tie.Need-same-length
 same-length c = search needs

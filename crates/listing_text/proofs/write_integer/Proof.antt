@@ -5,7 +5,8 @@ use borrow.Author.Needs.{needs}
 use lib.IntN.{natAbs}
 use mir.Facts.{toZ-ofZ}
 use Rattle.rules.specs.Listing.{natural, integer}
-use Rattle.listing_text.proofs.WriteLaws.{room-as, written-as, room-first, room-second, written-then, integer-negative, integer-other}
+use Rattle.listing_text.proofs.WriteLaws.{room-as, written-as, room-first, room-second, written-then}
+use Rattle.listing_text.proofs.WriteLaws.{integer-negative, integer-other}
 use Rattle.listing_text.proofs.write_integer.Statement.{statement}
 use Rattle.listing_text.proofs.write_integer.Tie as tie
 

@@ -1,13 +1,10 @@
 -- `listing_text::write_kept` meets its contract: what is kept has the whole input's listing. Assumes nothing.
 use native.Mathlib.Omega.{arith}
-use Prim.Native.Nat.{ℕ}
-use mathlib.Core.List.{List}
 use mathlib.Core.Path.{_≡_, sym, ap, _∙_}
 use borrow.Author.Needs.{needs}
 use lib.ListN.{length, take}
 use lib.Seq.{length-take-le}
-use Rattle.listing_text.specs.Text.{Listed, listed}
-use Rattle.listing_text.specs.Input.{Kept}
+use Rattle.listing_text.specs.Text.{Listed}
 use Rattle.listing_text.proofs.ListedLaws.{listed-same, listed-inside}
 use Rattle.listing_text.proofs.InputLaws.{kept-listing}
 use Rattle.listing_text.proofs.write_kept.Statement.{statement}
@@ -30,12 +27,12 @@ returns c =
     let s = w .before .before .before .before .before in
     let a = s .args in
     let t = take (a .count) (a .kept .now) in
-    let same : (whole : List ℕ) → Kept whole (a .kept .now) (a .count) → listed t (a .out .now) ≡ listed whole (a .out .now) =
-    λ whole k. listed-same t whole (a .out .now) (kept-listing whole (a .kept .now) (a .count) (s .pre .1) k) in
     let e = w .write-listing .ensures in
     let size : length (w .write-listing .last .1 .0) ≡ length (a .out .now) = search needs in (
-      (λ whole k. e .0 ∙ ap (λ (x : Listed). x .length) (same whole k)),
-      ((λ whole k. e .1 ∙ ap (λ (x : Listed). x .out) (same whole k)), omega (arith, size, e .0, listed-inside t (a .out .now))),
+      (λ whole k.
+          let same = listed-same t whole (a .out .now) (kept-listing whole (a .kept .now) (a .count) (s .pre .1) k) in
+          (e .0 ∙ ap (λ (x : Listed). x .length) same, e .1 ∙ ap (λ (x : Listed). x .out) same)),
+      omega (arith, size, e .0, listed-inside t (a .out .now)),
     )
 
 pub write-kept-spec : {M : Type 1} → statement M

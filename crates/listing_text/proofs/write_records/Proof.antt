@@ -4,15 +4,17 @@ use native.Mathlib.Omega.{arith}
 use mathlib.Core.Path.{_≡_, refl, sym, ap, _∙_, subst}
 use borrow.Author.Needs.{needs}
 use Rattle.rules.specs.Records.{recordCount, recordAt}
-use Rattle.rules.specs.Listing.{recordLine, recordLines}
-use Rattle.listing_text.specs.Text.{recordsOf}
-use Rattle.listing_text.proofs.RecordsLaws.{Remaining, remaining-start, remaining-room, remaining-step, remaining-none, remaining-as, linesFrom, lines-all, lines-none, lines-next}
+use Rattle.rules.specs.Listing.{recordLine}
+use Rattle.listing_text.specs.Text.{tableLines}
+use Rattle.listing_text.proofs.RecordsLaws.{Remaining, remaining-as, remaining-start, remaining-room}
+use Rattle.listing_text.proofs.RecordsLaws.{remaining-step, remaining-none}
+use Rattle.listing_text.proofs.RecordsLaws.{linesFrom, lines-all, lines-none, lines-next}
 use Rattle.listing_text.proofs.write_records.Statement.{statement}
 use Rattle.listing_text.proofs.write_records.Tie as tie
 
 abbrev Inv-loop : tie.InvT-loop
 Inv-loop table out₀ count at₀ n₀ out at n =
-    (n ≤ recordCount table) × Remaining out₀ (recordLines 1 (recordsOf table)) out at (linesFrom table n (recordCount table - n))
+    (n ≤ recordCount table) × Remaining out₀ (tableLines table) out at (linesFrom table n (recordCount table - n))
 
 abbrev μ-loop : tie.MeasureT-loop
 μ-loop table out₀ count at₀ n₀ out at n = recordCount table - n
@@ -24,7 +26,7 @@ loop-holds c =
     let none : recordCount t - 0 ≡ recordCount t = omega arith in
     let all = ap (linesFrom t 0) none ∙ lines-all t in
     let l = s .args .out .now in
-    (omega arith, remaining-as (sym all) (remaining-start l (recordLines 1 (recordsOf t)) (s .pre)))
+    (omega arith, remaining-as (sym all) (remaining-start l (tableLines t) (s .pre)))
 
 add-n : tie.Need-add-n Inv-loop μ-loop
 add-n c = search needs
@@ -38,7 +40,7 @@ write-record-requires c κs =
     let line = recordLine (p .loop .n + 1) (recordAt t (p .loop .n + 1)) in
     let rest = linesFrom t (p .loop .n + 1) (recordCount t - (p .loop .n + 1)) in (
       (omega arith, omega arith),
-      remaining-room (s .args .out .now) (recordLines 1 (recordsOf t)) (s .pre) line rest
+      remaining-room (s .args .out .now) (tableLines t) (s .pre) line rest
           (remaining-as next (p .loop .inv .1)),
     )
 
@@ -55,7 +57,7 @@ loop-again c =
     let line = recordLine (p .loop .n + 1) (recordAt t (p .loop .n + 1)) in
     let rest = linesFrom t (p .loop .n + 1) (recordCount t - (p .loop .n + 1)) in (
       omega arith,
-      remaining-step (s .args .out .now) (recordLines 1 (recordsOf t)) (s .pre) line rest
+      remaining-step (s .args .out .now) (tableLines t) (s .pre) line rest
           (remaining-as next (p .loop .inv .1)) (w .write-record .ensures),
     )
 
@@ -68,7 +70,7 @@ returns c =
     let s = p .before .before .before in
     let t = s .args .table .now in
     let none : recordCount t - p .loop .n ≡ 0 = omega arith in
-    remaining-none (s .args .out .now) (recordLines 1 (recordsOf t)) (s .pre)
+    remaining-none (s .args .out .now) (tableLines t) (s .pre)
     (remaining-as (ap (linesFrom t (p .loop .n)) none ∙ lines-none t (p .loop .n)) (p .loop .inv .1))
 
 pub write-records-spec : {M : Type 1} → statement M

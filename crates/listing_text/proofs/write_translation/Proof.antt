@@ -5,9 +5,7 @@ use mathlib.Core.Path.{_≡_, sym, ap, _∙_}
 use borrow.Author.Needs.{needs}
 use lib.ListN.{length, take, replicate, length-replicate}
 use lib.Seq.{length-take-le}
-use Rattle.rules.specs.Listing.{recordLines}
-use Rattle.rules.specs.Translation.{translatedRecords}
-use Rattle.listing_text.specs.Text.{recordsOf}
+use Rattle.listing_text.specs.Text.{tableLines, translatedLines}
 use Rattle.listing_text.proofs.WriteLaws.{room-as, written-as}
 use Rattle.listing_text.proofs.TranslationLaws.{lines-fit, inside, lines-back}
 use Rattle.listing_text.proofs.write_translation.Statement.{statement}
@@ -40,8 +38,8 @@ slice-aggregate-write-records : tie.Need-slice-aggregate-write-records
 slice-aggregate-write-records c = sym (length-take-le _ _ (array-share-prefix-target (c .before)))
 
 same-lines : (c : tie.After-translate-accepted)
-    → recordLines 1 (recordsOf (take (c .translate-accepted .result .«record» * 16) (c .translate-accepted .last .1 .0)))
-    ≡ recordLines 1 (translatedRecords (c .before .before .before .before .args .table .now))
+    → tableLines (take (c .translate-accepted .result .«record» * 16) (c .translate-accepted .last .1 .0))
+    ≡ translatedLines (c .before .before .before .before .args .table .now)
 same-lines c =
     let s = c .before .before .before .before in
     lines-back (s .args .table .now) (s .pre .0) (replicate 57344 0) zeros-enough (c .translate-accepted .last .1 .0)
