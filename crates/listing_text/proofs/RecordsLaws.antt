@@ -6,7 +6,7 @@ use mathlib.Core.Path.{_≡_, refl, sym, ap, _∙_, subst}
 use mathlib.Core.List.{List, [], _++_}
 use lib.ListN.{length, length-append}
 use Rattle.rules.specs.Words.{put, table}
-use Rattle.rules.specs.Records.{Record, recordCount, recordAt}
+use Rattle.rules.specs.Records.{recordCount, recordAt}
 use Rattle.rules.specs.Listing.{recordLine, recordLines}
 use Rattle.rules.proofs.WordLaws.{length-put, put-put}
 use Rattle.translation.proofs.Puts.{put-none}

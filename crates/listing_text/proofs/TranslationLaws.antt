@@ -1,5 +1,5 @@
 -- The translation of an accepted table: its records are read back, and their lines fit.
-use Prim.Native.Nat.{ℕ, suc, _+_, _*_, _≤_, _<_}
+use Prim.Native.Nat.{ℕ, suc, _+_, _*_, _≤_}
 use native.Mathlib.Omega.{arith}
 use mathlib.Core.Path.{_≡_, refl, ap, _∙_}
 use mathlib.Core.Bool.{false}
@@ -9,12 +9,12 @@ use lib.Dec.{ltb}
 use lib.ListN.{length, take}
 use lib.Seq.{take-append-seam}
 use Rattle.rules.specs.Words.{put, table}
-use Rattle.rules.specs.Records.{Record, recordCount, recordAt, tableBytes}
+use Rattle.rules.specs.Records.{recordCount, recordAt}
 use Rattle.rules.specs.Kinds.{source, target}
 use Rattle.rules.specs.Checker.{check}
 use Rattle.rules.specs.declared.Checked.the-variants as checked
 use Rattle.rules.specs.Nodes.{sourceProgram}
-use Rattle.rules.specs.Translation.{translate, statementTree, treeSize, emit, translatedRecords, translation}
+use Rattle.rules.specs.Translation.{translate, statementTree, treeSize, translatedRecords, translation}
 use Rattle.rules.specs.Listing.{recordLines}
 use Rattle.rules.specs.Answers.{translatedInto}
 use Rattle.rules.specs.declared.Answer.{Answer}

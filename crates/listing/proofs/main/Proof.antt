@@ -21,7 +21,7 @@ write-kept-requires : tie.Need-write-kept-requires
 write-kept-requires c κs = search needs
 
 array-share-prefix-text : tie.Need-array-share-prefix-text
-array-share-prefix-text c = c .before .write-kept .ensures .1 .1
+array-share-prefix-text c = c .before .write-kept .ensures .1
 
 slice-aggregate-write-all : tie.Need-slice-aggregate-write-all
 slice-aggregate-write-all c = sym (length-take-le _ _ (array-share-prefix-text (c .before)))

@@ -1,7 +1,6 @@
 -- `listing_text::keep` meets its contract. Assumes nothing.
 use Prim.Native.Nat.{_+_}
 use native.Mathlib.Omega.{arith}
-use mathlib.Core.Path.{_≡_}
 use lib.ListN.{length}
 use borrow.Author.Needs.{needs}
 use Rattle.listing_text.proofs.InputLaws.{kept-small, kept-more}

@@ -1,9 +1,9 @@
 -- `listing_text::write_digits` meets its contract: to put the digits of `rest` that are left is to put them all.
 -- Assumes nothing.
-use Prim.Native.Nat.{suc, _-_, _≤_}
+use Prim.Native.Nat.{_≤_}
 use native.Mathlib.Omega.{arith}
 use borrow.Author.Needs.{needs}
-use mathlib.Core.Path.{_≡_, refl, sym, ap, _∙_}
+use mathlib.Core.Path.{_≡_, refl, sym, _∙_}
 use lib.ListN.{length, length-set}
 use Rattle.rules.specs.Words.{put}
 use Rattle.listing_text.specs.Text.{lowDigits}

@@ -1,5 +1,5 @@
 -- `listing_text::write_head` meets its contract. Assumes nothing.
-use mathlib.Core.Path.{_≡_, refl, sym}
+use mathlib.Core.Path.{refl, sym}
 use borrow.Author.Needs.{needs}
 use Rattle.listing_text.proofs.WriteLaws.{room-as, written-as, three-same}
 use Rattle.listing_text.proofs.write_head.Statement.{statement}

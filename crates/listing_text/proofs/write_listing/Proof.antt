@@ -1,7 +1,7 @@
 -- `listing_text::write_listing` meets its contract: the checker's refusal, or the translation of an accepted table.
 -- Assumes nothing.
 use native.Mathlib.Omega.{arith}
-use mathlib.Core.Path.{_≡_, sym, _∙_}
+use mathlib.Core.Path.{sym, _∙_}
 use borrow.Author.Needs.{needs}
 use Rattle.listing_text.proofs.WriteLaws.{written-as}
 use Rattle.listing_text.proofs.LongestText.{length-refusal}

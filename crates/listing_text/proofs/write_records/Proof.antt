@@ -1,7 +1,7 @@
 -- `listing_text::write_records` meets its contract: to put the lines that are left is to put them all. Assumes nothing.
 use Prim.Native.Nat.{_+_, _-_, _≤_}
 use native.Mathlib.Omega.{arith}
-use mathlib.Core.Path.{_≡_, refl, sym, ap, _∙_, subst}
+use mathlib.Core.Path.{_≡_, sym, ap, _∙_}
 use borrow.Author.Needs.{needs}
 use Rattle.rules.specs.Records.{recordCount, recordAt}
 use Rattle.rules.specs.Listing.{recordLine}
