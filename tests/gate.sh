@@ -10,6 +10,9 @@ rt ci 2>&1 | tee build/ci.log
 verdict=$(tail -n 1 build/ci.log)
 grep -qxE '[1-9][0-9]* passed, 0 failed' <<<"$verdict"
 
+# The listing program against stored texts, which the Rust tests below derive.
+tests/listing/compare.sh target/bin/listing
+
 # Cargo's folder lies outside target/, which `rt ci` removes.
 export CARGO_TARGET_DIR="$PWD/build/cargo"
 cargo test --release --offline --manifest-path tests/reference/Cargo.toml

@@ -46,7 +46,7 @@ pub fn subtract(a: i64, b: i64) -> Number
 }
 
 // At most 2^63.
-fn magnitude(a: i64) -> u64
+pub fn magnitude(a: i64) -> u64
     ensures { λ r. ⌜ r ≡ natAbs a ⌝ }
 {
     if a < 0 {

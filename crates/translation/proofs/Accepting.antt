@@ -24,7 +24,7 @@ use Rattle.rules.proofs.SizeBound.{size-bound}
 use Rattle.sizes.specs.Trees.{copyAt, Sorted}
 use Rattle.emission.specs.Emission.{Emitted}
 use Rattle.assertions.specs.Tests.{TermLevels, PredicateLevels}
-use Rattle.simple.specs.Statements.{StatementLevels, StatementAt}
+use Rattle.simple_statements.specs.Statements.{StatementLevels, StatementAt}
 use Rattle.emission.proofs.Emitting.{bytes-emit}
 use Rattle.sizes.proofs.Sizes.{tree-as}
 use Rattle.translation.proofs.Compounds.{statement-as}

@@ -11,12 +11,12 @@ use Rattle.rules.specs.Translation.{translate, expressionTree, statementTree, n
 use Rattle.rules.proofs.Standing.{stands-at}
 use Rattle.sizes.specs.Trees.{targetTree, copyAt, sortAt}
 use Rattle.emission.specs.Emission.{sequenceTree}
-use Rattle.simple.specs.Statements.{StatementLevels, StatementNode, StatementAt}
+use Rattle.simple_statements.specs.Statements.{StatementLevels, StatementNode, StatementAt}
 use Rattle.translation.specs.Lets.{overTree, letTree}
 use Rattle.emission.proofs.Emitting.{Some, some, statement-some}
 use Rattle.emission.proofs.Copying.{copy-at}
 use Rattle.sizes.proofs.Sizes.{none-at, tree-as}
-use Rattle.simple.proofs.Statements.{statement-sort}
+use Rattle.simple_statements.proofs.Statements.{statement-sort}
 
 pub statement-as : (y : SourceNode) → nodeSort y ≡ 5 → StatementLevels (sourceStatement y) → StatementNode y
 statement-as (expressionNode x) e h = absurd (omega arith)

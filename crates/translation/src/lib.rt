@@ -10,7 +10,7 @@ ghost use Rattle.rules.specs.declared.Checked.the-variants as checked;
 ghost use Rattle.emission.specs.Emission.{Room, Emitted};
 ghost use Rattle.sizes.specs.Trees.{copyAt};
 ghost use Rattle.translation.specs.Lets.{overTree, endingTree};
-ghost use Rattle.simple.specs.Statements.{StatementAt};
+ghost use Rattle.simple_statements.specs.Statements.{StatementAt};
 
 // A record without children, then one of statement s over it.
 fn emit_over(
@@ -83,7 +83,7 @@ fn emit_statement(table: &[u8], n: usize, out: &mut [u8], at: usize) -> usize
             let i = emission::emit_sequence(out, h, p, n);
             emission::emit_record(out, i, 47, v, i, 0, 0, n as i64)
         }
-        _ => simple::emit_simple(table, n, out, at),
+        _ => simple_statements::emit_simple(table, n, out, at),
     }
 }
 

@@ -11,6 +11,7 @@ pub mod grammar;
 pub mod host;
 pub mod limits;
 pub mod listing;
+pub mod listings;
 pub mod machine;
 pub mod memory;
 pub mod numbers;

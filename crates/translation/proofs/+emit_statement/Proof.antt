@@ -11,7 +11,7 @@ use Rattle.sizes.specs.Trees.{copyAt}
 use Rattle.translation.specs.Lets.{letTree}
 use Rattle.emission.proofs.Emitting.{emitted-as, emitted-none, emitted-node, some, root-some, field-some}
 use Rattle.emission.proofs.Parts.{number-literal, emitted-sequence, emitted-over}
-use Rattle.simple.proofs.Statements.{statement-law, number-small}
+use Rattle.simple_statements.proofs.Statements.{statement-law, number-small}
 use Rattle.translation.proofs.Compounds.{sequence-tree, branch-tree, while-tree, let-tree, statement-has, copy-has}
 use Prim.Native.Nat.{ℕ, _<_}
 use borrow.Fn.Kinds.{In}
@@ -30,7 +30,7 @@ use Rattle.translation.proofs.emit_over.Reads as emit-over-reads
 use Rattle.emission.proofs.emit_part.Reads as emit-part-reads
 use Rattle.emission.proofs.emit_record.Reads as emit-record-reads
 use Rattle.emission.proofs.emit_sequence.Reads as emit-sequence-reads
-use Rattle.simple.proofs.emit_simple.Reads as emit-simple-reads
+use Rattle.simple_statements.proofs.emit_simple.Reads as emit-simple-reads
 use Rattle.translation.proofs.+emit_statement.{statement}
 use Rattle.translation.proofs.+emit_statement.Tie.{close}
 

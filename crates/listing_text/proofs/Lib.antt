@@ -1,0 +1,7 @@
+pub mod DigitLaws
+pub mod WriteLaws
+pub mod RecordsLaws
+pub mod LongestText
+pub mod TranslationLaws
+pub mod ListedLaws
+pub mod InputLaws
