@@ -1,33 +1,39 @@
 -- From what the checker, the translator and the two runs answer to what running a table both ways is held to.
-use Prim.Native.Nat.{ℕ, _*_, _≤_}
+use Prim.Native.Nat.{ℕ, _+_, _*_, _≤_}
 use native.Mathlib.Omega.{arith}
 use mathlib.Core.Bool.{Bool, true, false, not, _||_}
 use mathlib.Core.List.{List}
+use mathlib.Core.Logic.{_≢_}
 use mathlib.Core.Path.{_≡_, refl, sym, ap, _∙_, subst}
-use borrow.Author.Tests.{eq-eqb, le-ltb}
+use borrow.Author.Tests.{eq-eqb, ne-eqb, le-ltb}
 use lib.Dec.{eqb, ltb}
-use lib.ListN.{length, take}
+use lib.ListN.{length, take, drop, length-append}
 use lib.Seq.{take-at}
 use Rattle.rules.specs.Words.{put}
 use Rattle.rules.specs.Records.{recordCount}
 use Rattle.rules.specs.Kinds.{source, target}
 use Rattle.rules.specs.Checker.{check, inputsFault, memoryFault, observationFault}
 use Rattle.rules.specs.Translation.{translation}
-use Rattle.rules.specs.Answers.{runPlain, runWatched}
+use Rattle.rules.specs.Answers.{answer, Translated, translatedBy, translateSource, WatchedRun, runPlain, runWatched}
 use Rattle.rules.specs.Demand3.{Agreement}
 use Rattle.rules.specs.declared.Answer.{Answer}
 use Rattle.rules.specs.declared.Checked.{Checked}
 use Rattle.rules.specs.declared.Checked.the-variants as checked
 use Rattle.rules.proofs.AcceptedPrograms.{accepted-program}
 use Rattle.rules.proofs.Claim.{demand-3}
-use Rattle.recorder.specs.BothRuns.{Lent, BothRuns, bothRan, bothTested, bothBy, runBoth, Unrefused, plainShown, watchedShown, AnsweredBoth}
+use Rattle.recorder.specs.declared.Both.{Both}
+use Rattle.recorder.specs.BothRuns.{Lent, lent, both, BothRuns, bothRefused, bothRan, bothTested, bothBy, runBoth, Ready, Unrefused, plainShown, watchedShown, AnsweredBoth}
+
+-- a buffer of the right length is not refused, and one of another is
+pub right-length : (l : List ℕ) (n : ℕ) → length l ≡ n → not (eqb (length l) n) ≡ false
+right-length l n e = ap not (eq-eqb (length l) n e)
+
+pub wrong-length : (l : List ℕ) (n : ℕ) → length l ≢ n → not (eqb (length l) n) ≡ true
+wrong-length l n d = ap not (ne-eqb (length l) n d)
 
 -- the runs that answers and buffers show agree
 abbrev Agreed : List ℕ → List ℕ → ℕ → BothRuns → Type 0
 Agreed t i f y = Agreement t i f (plainShown (y .plain) (y .buffers)) (watchedShown (y .watched) (y .buffers))
-
-right-length : (l : List ℕ) (n : ℕ) → length l ≡ n → not (eqb (length l) n) ≡ false
-right-length l n e = ap not (eq-eqb (length l) n e)
 
 module _ (t i : List ℕ) (f : ℕ) (x : Lent) where
   -- what an accepted table comes to, by the tests of the inputs and the buffers
@@ -37,34 +43,121 @@ module _ (t i : List ℕ) (f : ℕ) (x : Lent) where
   accepted-runs p q r s c a b d e =
       ap (λ (k : Checked). bothBy k t i f x) c ∙ (λ j. bothTested (a j) (b j) (d j) (e j) t i f x)
 
-  both-ran : Unrefused t i x → runBoth t i f x ≡ bothRan t i f x
-  both-ran u =
-      accepted-runs false false false false (u .accepted) (u .inputs)
-      (λ j. right-length (x .memory) 18424 (u .memory) j || right-length (x .second) 18424 (u .second) j)
-      (right-length (x .observation) 3064 (u .observation)) (le-ltb _ _ (u .room))
+  room-tested : (s : Bool) → Ready t i x → ltb (length (x .out)) (length (translation t)) ≡ s
+      → runBoth t i f x ≡ bothTested false false false s t i f x
+  room-tested s h e =
+      accepted-runs false false false s (h .accepted) (h .inputs)
+      (λ j. right-length (x .memory) 18424 (h .memory) j || right-length (x .second) 18424 (h .second) j)
+      (right-length (x .observation) 3064 (h .observation)) e
 
-  agreed : Unrefused t i x → Agreed t i f (runBoth t i f x)
-  agreed u =
-      subst (Agreed t i f) (sym (both-ran u))
-      (demand-3 t i f (x .memory) (x .second) (x .observation) (u .accepted) (u .inputs) (u .memory) (u .second)
-      (u .observation))
+  agreed : (y : BothRuns) → Ready t i x → y ≡ bothRan t i f x → Agreed t i f y
+  agreed y h e =
+      subst (Agreed t i f) (sym e)
+      (demand-3 t i f (x .memory) (x .second) (x .observation) (h .accepted) (h .inputs) (h .memory) (h .second)
+      (h .observation))
 
   -- answers and buffers that are those of the definition are those that demand 3 speaks of
-  pub answered-both : (y : BothRuns) (p w : Answer) (exit : Lent) → runBoth t i f x ≡ y → p ≡ y .plain → w ≡ y .watched
+  answered-both : (y : BothRuns) (p w : Answer) (exit : Lent) → runBoth t i f x ≡ y → p ≡ y .plain → w ≡ y .watched
       → exit ≡ y .buffers → AnsweredBoth t i f x p w exit
   answered-both y p w exit e a b c =
-      let shown : runBoth t i f x ≡ record { plain = p; watched = w; buffers = exit } =
-      e ∙ (λ j. record { plain = sym a j; watched = sym b j; buffers = sym c j }) in
+      let shown : record { plain = p; watched = w; buffers = exit } ≡ runBoth t i f x =
+      (λ j. record { plain = a j; watched = b j; buffers = c j }) ∙ sym e in
       record {
         plain = a ∙ sym (ap (λ (z : BothRuns). z .plain) e);
         watched = b ∙ sym (ap (λ (z : BothRuns). z .watched) e);
         buffers = c ∙ sym (ap (λ (z : BothRuns). z .buffers) e);
-        agreement = λ u. subst (Agreed t i f) shown (agreed u);
+        agreement = λ u. agreed _ (u .ready) (shown ∙ room-tested false (u .ready) (le-ltb _ _ (u .room)));
       }
 
--- the translation is whole records, and stands in front of what the output held
-pub translation-front : (t i : List ℕ) (f : ℕ) (x : Lent) → Unrefused t i x
-    → take (recordCount (translation t) * 16) (put (x .out) 0 (translation t)) ≡ translation t
-translation-front t i f x u =
-    let a = accepted-program target (translation t) (agreed t i f x u .accepted) in
-    take-at (translation t) _ (recordCount (translation t) * 16) (omega (arith, a .whole))
+  pub refused-both : (k n : ℕ) (r : Both) → runBoth t i f x ≡ bothRefused k n x
+      → r ≡ both (answer k n 0 0) (answer k n 0 0) → AnsweredBoth t i f x (r .plain) (r .watched) x
+  refused-both k n r e a =
+      answered-both (bothRefused k n x) (r .plain) (r .watched) x e (ap (λ (z : Both). z .plain) a)
+      (ap (λ (z : Both). z .watched) a) refl
+
+-- ---- the translation, which answered a and left y
+module _ (t i : List ℕ) (f : ℕ) (x : Lent) (h : Ready t i x) (a : Answer) (y : List ℕ)
+    (p : a ≡ translateSource t (x .out) .answer) (q : y ≡ translateSource t (x .out) .out) where
+  abbrev tooShort : Bool
+  tooShort = ltb (length (x .out)) (length (translation t))
+
+  -- with its test apart
+  abbrev into : Bool → Translated
+  into b =
+      elim b as (λ z. Translated) [
+        | true ↦ record { answer = answer 20 0 0 0; out = x .out }
+        | false ↦
+            record { answer = answer 0 (recordCount (translation t)) 0 0; out = put (x .out) 0 (translation t) }
+      ]
+
+  translated : (b : Bool) → tooShort ≡ b → translateSource t (x .out) ≡ into b
+  translated b s = ap (λ (k : Checked). translatedBy k t (x .out)) (h .accepted) ∙ (λ j. into (s j))
+
+  number-is : (b : Bool) → tooShort ≡ b → a .number ≡ into b .answer .number
+  number-is b s = ap (λ (z : Answer). z .number) (p ∙ ap (λ (w : Translated). w .answer) (translated b s))
+
+  -- where the output does not hold it
+  pub too-short : (r : Both) → a .number ≢ 0 → r ≡ both (answer 20 0 0 0) (answer 20 0 0 0)
+      → AnsweredBoth t i f x (r .plain) (r .watched) (lent y (x .memory) (x .second) (x .observation))
+  too-short r d e = go tooShort refl
+    where
+      go : (b : Bool) → tooShort ≡ b
+          → AnsweredBoth t i f x (r .plain) (r .watched) (lent y (x .memory) (x .second) (x .observation))
+      go true s =
+          let same = q ∙ ap (λ (w : Translated). w .out) (translated true s) in
+          subst (λ (z : List ℕ). AnsweredBoth t i f x (r .plain) (r .watched)
+          (lent z (x .memory) (x .second) (x .observation))) (sym same)
+          (refused-both t i f x 20 0 r (room-tested t i f x true h s) e)
+      go false s = absurd (d (number-is false s))
+
+  -- where it does
+  record Held : Type 0 where
+    room : tooShort ≡ false
+    count : a .«record» ≡ recordCount (translation t)
+    bytes : y ≡ put (x .out) 0 (translation t)
+
+  held : a .number ≡ 0 → Held
+  held z = go tooShort refl
+    where
+      go : (b : Bool) → tooShort ≡ b → Held
+      go true s = absurd (omega (arith, z, number-is true s))
+      go false s =
+          let e = translated false s in
+          record {
+            room = s;
+            count = ap (λ (k : Answer). k .«record») (p ∙ ap (λ (w : Translated). w .answer) e);
+            bytes = q ∙ ap (λ (w : Translated). w .out) e;
+          }
+
+  -- the translation is whole records, and stands in front
+  module _ (w : Held) where
+    whole : length (translation t) ≡ a .«record» * 16
+    whole =
+        let n = agreed t i f x _ h refl .accepted in
+        omega (arith, accepted-program target (translation t) n .whole, w .count)
+
+    held-front : take (a .«record» * 16) y ≡ translation t
+    held-front =
+        ap (take (a .«record» * 16)) (w .bytes) ∙ take-at (translation t) _ (a .«record» * 16) whole
+
+  module _ (z : a .number ≡ 0) where
+    pub target-fits : a .«record» * 16 ≤ length y
+    target-fits =
+        let rest = drop (0 + length (translation t)) (x .out) in
+        omega (arith, whole (held z), ap length (held z .bytes), length-append (translation t) rest)
+
+    pub ran-both : (r : Both) (m m₁ o : List ℕ)
+        → r ≡ both (runPlain t i f (x .memory) .answer)
+        (runWatched (take (a .«record» * 16) y) i f (x .second) (x .observation) .answer)
+        → m ≡ runPlain t i f (x .memory) .memory
+        → m₁ ≡ runWatched (take (a .«record» * 16) y) i f (x .second) (x .observation) .memory
+        → o ≡ runWatched (take (a .«record» * 16) y) i f (x .second) (x .observation) .observation
+        → AnsweredBoth t i f x (r .plain) (r .watched) (lent y m m₁ o)
+    ran-both r m m₁ o b c d e =
+        let e₁ = held-front (held z) in
+        let run : List ℕ → WatchedRun = λ u. runWatched u i f (x .second) (x .observation) in
+        answered-both t i f x (bothRan t i f x) (r .plain) (r .watched) (lent y m m₁ o)
+        (room-tested t i f x false h (held z .room)) (ap (λ (k : Both). k .plain) b)
+        (ap (λ (k : Both). k .watched) b ∙ ap (λ (u : List ℕ). run u .answer) e₁)
+        (λ j. lent (held z .bytes j) (c j) ((d ∙ ap (λ (u : List ℕ). run u .memory) e₁) j)
+        ((e ∙ ap (λ (u : List ℕ). run u .observation) e₁) j))

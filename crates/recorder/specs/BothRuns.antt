@@ -15,6 +15,10 @@ use Rattle.rules.specs.Demand3.{Agreement}
 use Rattle.rules.specs.declared.Answer.{Answer}
 use Rattle.rules.specs.declared.Checked.{Checked}
 use Rattle.rules.specs.declared.Checked.the-variants as checked
+use Rattle.recorder.specs.declared.Both.{Both}
+
+abbrev pub both : Answer → Answer → Both
+both p w = record { plain = p; watched = w }
 
 -- the lent buffers: the translation's, the plain run's memory, and the watched run's two
 pub record Lent : Type 0 where
@@ -65,13 +69,17 @@ bothBy checked.Accepted t i f x =
 abbrev pub runBoth : List ℕ → List ℕ → ℕ → Lent → BothRuns
 runBoth t i f x = bothBy (check source t) t i f x
 
--- nothing is refused
-pub record Unrefused (t i : List ℕ) (x : Lent) : Type 0 where
+-- both runs may start: an accepted table, inputs without fault, and memories of the right lengths
+pub record Ready (t i : List ℕ) (x : Lent) : Type 0 where
   pub accepted : check source t ≡ checked.Accepted
   pub inputs : inputsFault i ≡ false
   pub memory : length (x .memory) ≡ memoryLength
   pub second : length (x .second) ≡ memoryLength
   pub observation : length (x .observation) ≡ observationLength
+
+-- nothing is refused: the output holds the translation too
+pub record Unrefused (t i : List ℕ) (x : Lent) : Type 0 where
+  pub ready : Ready t i x
   pub room : length (translation t) ≤ length (x .out)
 
 -- the runs that the answers and the buffers show
