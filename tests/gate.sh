@@ -5,6 +5,8 @@ set -euo pipefail
 cd "$(dirname "$0")/.."
 trap '[ $? -eq 0 ] || echo "the gate failed"' EXIT
 
+tests/documents.sh
+
 mkdir -p build
 rt ci 2>&1 | tee build/ci.log
 verdict=$(tail -n 1 build/ci.log)

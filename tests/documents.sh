@@ -1,0 +1,32 @@
+#!/usr/bin/env bash
+# Checks that every definition, theorem, function and file that docs/SENTENCES.md names exists.
+set -euo pipefail
+cd "$(dirname "$0")/.."
+page=docs/SENTENCES.md
+missing=0
+
+miss() {
+    echo "$page names $1, which is not there"
+    missing=1
+}
+
+# The names between backquotes, each once.
+names=$(grep -o '`[^`]*`' "$page" | tr -d '`' | sort -u)
+[ -n "$names" ] || { echo "$page names nothing"; exit 1; }
+
+while IFS= read -r name; do
+    case $name in
+    *::*) grep -qE "fn ${name##*::}\(" "crates/${name%%::*}/src/"*.rt 2>/dev/null || miss "$name" ;;
+    crates/* | tests/*) [ -e "$name" ] || miss "$name" ;;
+    rules/*) [ -e "crates/$name" ] || miss "$name" ;;
+    reference/* | compare/*) [ -e "tests/$name" ] || miss "$name" ;;
+    [A-Z]*.*)
+        grep -qE "^ *((pub|abbrev|unfoldable|record|data) )*${name#*.} *[:(]" \
+            "crates/rules/specs/${name%%.*}.antt" "crates/rules/proofs/${name%%.*}.antt" 2>/dev/null || miss "$name"
+        ;;
+    [A-Z]*) [ -e "crates/rules/proofs/$name.antt" ] || grep -q "enum $name " crates/rules/src/lib.rt || miss "$name" ;;
+    esac
+done <<<"$names"
+
+[ "$missing" -eq 0 ] || exit 1
+echo "docs/SENTENCES.md: $(wc -l <<<"$names") names, all there"
