@@ -1,5 +1,6 @@
 # make demo: the main job on an example table.
 # make test: the gate, which .ci/run calls.
+# make bench: the library beside an interpreter written in C; make instructions counts instead of timing.
 export CARGO_TARGET_DIR := $(CURDIR)/build/cargo
 
 LIBRARY := target/staticlib/librecorder.a
@@ -7,7 +8,7 @@ LIBRARY_FILES := crates.txt $(shell find crates -type f -not -path '*/must-fail/
 HOST_FLAGS := -std=c11 -O2 -Wall -Wextra -Wpedantic -Wconversion -Wshadow -Werror
 EXAMPLE := examples/two-assertions.txt
 
-.PHONY: demo test
+.PHONY: demo test bench instructions
 
 demo: build/recorder
 	@sed -n '/^# number/q; s/^# \{0,1\}//p' $(EXAMPLE)
@@ -15,6 +16,9 @@ demo: build/recorder
 
 test:
 	@tests/gate.sh
+
+bench instructions: $(LIBRARY)
+	@$(MAKE) --no-print-directory -C bench $@
 
 # The C host, and the same with the compiler's sanitizers.
 build/recorder build/recorder-checked: $(wildcard host/*.c host/*.h) include/recorder.h $(LIBRARY)

@@ -1,0 +1,98 @@
+//! The C interpreter gives the answers and leaves the bytes of the second implementation, on seeded cases.
+
+use reference::generator::{Case, Generator};
+use reference::plain::run_plain;
+use reference::watched::run_watched;
+use reference::Answer;
+use std::collections::BTreeMap;
+
+const CASES: u32 = 20_000;
+
+#[repr(C)]
+struct Returned {
+    number: u32,
+    record: u32,
+    fuel: u32,
+    free_cells: u32,
+}
+
+extern "C" {
+    fn interpreter_run_plain(
+        table: *const u8,
+        table_len: usize,
+        inputs: *const u8,
+        inputs_len: usize,
+        fuel: u32,
+        memory: *mut u8,
+        memory_len: usize,
+    ) -> Returned;
+    fn interpreter_run_watched(
+        table: *const u8,
+        table_len: usize,
+        inputs: *const u8,
+        inputs_len: usize,
+        fuel: u32,
+        memory: *mut u8,
+        memory_len: usize,
+        observation: *mut u8,
+        observation_len: usize,
+    ) -> Returned;
+}
+
+fn answer(returned: Returned) -> Answer {
+    Answer::ending(returned.number, returned.record, returned.fuel, returned.free_cells)
+}
+
+/// The C run of a case, on memories of its own.
+fn run_c(case: &Case, watched: bool) -> (Answer, Vec<u8>, Vec<u8>) {
+    let (table, inputs) = (&case.table, &case.inputs);
+    let (mut memory, mut observation) = (case.memory.clone(), case.observation.clone());
+    // The functions write only within the lengths that they are given.
+    let returned = unsafe {
+        let (t, i, m) = (table.as_ptr(), inputs.as_ptr(), memory.as_mut_ptr());
+        if watched {
+            let o = observation.as_mut_ptr();
+            let lengths = (memory.len(), observation.len());
+            interpreter_run_watched(t, table.len(), i, inputs.len(), case.fuel, m, lengths.0, o, lengths.1)
+        } else {
+            interpreter_run_plain(t, table.len(), i, inputs.len(), case.fuel, m, memory.len())
+        }
+    };
+    (answer(returned), memory, observation)
+}
+
+fn run_reference(case: &Case, watched: bool) -> (Answer, Vec<u8>, Vec<u8>) {
+    let (mut memory, mut observation) = (case.memory.clone(), case.observation.clone());
+    let answer = if watched {
+        run_watched(&case.table, &case.inputs, case.fuel, &mut memory, &mut observation)
+    } else {
+        run_plain(&case.table, &case.inputs, case.fuel, &mut memory)
+    };
+    (answer, memory, observation)
+}
+
+/// An accepted source program, with memories that are not refused.
+fn accepted(generator: &mut Generator) -> Case {
+    let case = generator.source_case();
+    let table = generator.accepted_source();
+    let fuel = generator.fuel_for(&table);
+    Case { table, fuel, inputs: generator.inputs(), memory: generator.memory(), ..case }
+}
+
+fn compare(what: &str, watched: bool, make: fn(&mut Generator) -> Case) {
+    let mut generator = Generator::new(5);
+    let mut numbers = BTreeMap::new();
+    for number in 0..CASES {
+        let case = make(&mut generator);
+        let expected = run_reference(&case, watched);
+        assert!(run_c(&case, watched) == expected, "{what}, case {number}: {:?}", expected.0);
+        *numbers.entry(expected.0.number).or_insert(0) += 1;
+    }
+    println!("{what}: {CASES} cases agree, by their numbers: {numbers:?}");
+}
+
+fn main() {
+    compare("accepted programs, plain run", false, accepted);
+    compare("source tables, plain run", false, |generator| generator.source_case());
+    compare("target tables, watched run", true, |generator| generator.target_case());
+}

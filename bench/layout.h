@@ -1,0 +1,40 @@
+/* Document 01's bytes as C structures, on a little-endian machine. Packed: the host may lend bytes at any address. */
+#ifndef LAYOUT_H
+#define LAYOUT_H
+
+#include <stdint.h>
+
+enum { SOURCE_RECORDS = 256, TARGET_RECORDS = 4096, NAMES = 255, CELLS = 1024, VARIABLES = 64, TEMPORARIES = 64 };
+
+#define LAID_OUT __attribute__((packed, may_alias))
+
+typedef struct LAID_OUT record {
+    uint8_t kind, mark;
+    uint16_t child[3];
+    int64_t literal;
+} record;
+
+typedef struct LAID_OUT block {
+    uint8_t state, zero;
+    uint16_t first, length, zeros;
+} block;
+
+typedef struct LAID_OUT cell {
+    uint8_t kind, owner, name, zeros[5];
+    int64_t number;
+} cell;
+
+typedef struct LAID_OUT execution_memory {
+    block blocks[NAMES];
+    cell cells[CELLS];
+} execution_memory;
+
+typedef struct LAID_OUT observation_memory {
+    block blocks[NAMES];
+    uint8_t marks[CELLS];
+} observation_memory;
+
+_Static_assert(sizeof(record) == 16 && sizeof(execution_memory) == 18424 && sizeof(observation_memory) == 3064,
+               "the layouts of document 01");
+
+#endif
