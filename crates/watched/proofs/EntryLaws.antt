@@ -38,7 +38,7 @@ use Rattle.rules.proofs.Padding.{node-padded}
 use Rattle.rules.proofs.TargetFields.{statementAt}
 use Rattle.temporaries.specs.Bytes.{temporaryIn, temporaryPlace, temporaryAt, temporariesOf}
 use Rattle.statements.specs.declared.Ended.{Ended}
-use Rattle.watched.specs.Watching.{lent, Ready, resultOf, Ran, Leaves, watchFrom, AnsweredBy}
+use Rattle.watched_statements.specs.Watching.{lent, Ready, resultOf, Ran, Leaves, watchFrom, AnsweredBy}
 
 -- ---- the start
 pub temporaries-start : temporariesOf (replicate 1024 0) ≡ startTemporaries

@@ -1,6 +1,4 @@
 -- Laws for the proofs of the watched run.
-pub mod Laws
-pub mod ActLaws
 pub mod ReadyLaws
 pub mod MemberLaws
 pub mod EntryLaws

@@ -25,8 +25,8 @@ use Rattle.temporaries.specs.Bytes.{temporariesOf}
 use Rattle.statements.specs.declared.Ended.{Ended}
 use Rattle.statements.specs.Ending.{result}
 use Rattle.statements.proofs.ChangeLaws.{becomes-is, made-by, unmade-by}
-use Rattle.watched.specs.Watching.{Lent, lent, goFrom, watchFrom, LentFits, Ready, enclosed, IsBranch, choice, resultOf, Ran}
-use Rattle.watched.proofs.Laws.{observation-same, Kept, kept-then, ran-kept, ran-is, ran-from, watch-finished, next-goes, next-stays}
+use Rattle.watched_statements.specs.Watching.{Lent, lent, goFrom, watchFrom, LentFits, Ready, enclosed, IsBranch, choice, resultOf, Ran}
+use Rattle.watched_statements.proofs.Laws.{observation-same, Kept, kept-then, ran-kept, ran-is, ran-from, watch-finished, next-goes, next-stays}
 use Rattle.watched.proofs.ReadyLaws.{run-kept}
 
 -- what a branch tests, by its kind

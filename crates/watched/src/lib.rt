@@ -1,5 +1,4 @@
 // The watched run of an accepted target table.
-mod acts;
 mod runs;
 
 ghost use mathlib.Core.Path.{_≡_};
@@ -15,7 +14,7 @@ ghost use Rattle.rules.specs.Answers.{watchedEnded, watchedOutcome, watchedBy, 
 ghost use Rattle.rules.specs.declared.Checked.the-variants as checked;
 ghost use Rattle.rules.proofs.Fits.{FitsMemory, FitsObservation};
 ghost use Rattle.rules.proofs.TargetFields.{statementAt};
-ghost use Rattle.watched.specs.Watching.{lent, Ready, Leaves, AnsweredBy};
+ghost use Rattle.watched_statements.specs.Watching.{lent, Ready, Leaves, AnsweredBy};
 use rules::Answer;
 use rules::Checked;
 use runs::run;

@@ -2,10 +2,7 @@
 ghost use mathlib.Core.Path.{_≡_};
 ghost use Rattle.rules.specs.Records.{kindOf};
 ghost use Rattle.evaluation.specs.State.{variablesOf};
-ghost use Rattle.watched.specs.Watching.{lent, Ready, Inside, enclosed, IsBranch, Ran, Runs};
-use super::acts::statement_of;
-use super::acts::step;
-use super::acts::test;
+ghost use Rattle.watched_statements.specs.Watching.{lent, Ready, Inside, enclosed, IsBranch, Ran, Runs};
 use blocks::Making;
 use rules::Test;
 use statements::Ended;
@@ -31,7 +28,7 @@ pub fn run(
         46 => repeat(table, n, variables, temporaries, mem, obs, fuel),
         47 => enclose(table, n, variables, temporaries, mem, obs, fuel),
         66 => branch(table, n, variables, temporaries, mem, obs, fuel),
-        _ => step(table, n, variables, temporaries, mem, obs, fuel),
+        _ => watched_statements::step(table, n, variables, temporaries, mem, obs, fuel),
     }
 }
 
@@ -79,12 +76,12 @@ fn branch(
 {
     let then = tables::child_b(&table[..], n);
     let other = tables::child_c(&table[..], n);
-    match test(table, n, variables, &*temporaries, &*mem) {
+    match watched_statements::test(table, n, variables, &*temporaries, &*mem) {
         Test::Yes => run(table, then, variables, temporaries, mem, obs, fuel),
         Test::No => run(table, other, variables, temporaries, mem, obs, fuel),
         Test::Stopped(k) => Ended {
             number: k,
-            statement: statement_of(table, n),
+            statement: watched_statements::statement_of(table, n),
             fuel,
         },
     }
@@ -128,7 +125,7 @@ fn repeat(
             Test::Stopped(k) => {
                 return Ended {
                     number: k,
-                    statement: statement_of(table, n),
+                    statement: watched_statements::statement_of(table, n),
                     fuel: left,
                 };
             }
@@ -136,7 +133,7 @@ fn repeat(
     }
     Ended {
         number: 32,
-        statement: statement_of(table, n),
+        statement: watched_statements::statement_of(table, n),
         fuel: 0,
     }
 }
@@ -161,7 +158,7 @@ fn enclose(
         Making::Name(k) => run_inside(table, n, variables, temporaries, mem, obs, fuel, k),
         Making::Stopped(c) => Ended {
             number: c,
-            statement: statement_of(table, n),
+            statement: watched_statements::statement_of(table, n),
             fuel,
         },
     }

@@ -16,8 +16,8 @@ use Rattle.rules.proofs.TargetFields.{statementAt, numberAt}
 use Rattle.rules.proofs.TargetArms.{watch-sequence}
 use Rattle.evaluation.specs.State.{variablesOf}
 use Rattle.temporaries.specs.Bytes.{temporariesOf}
-use Rattle.watched.specs.Watching.{lent}
-use Rattle.watched.proofs.Laws.{kept-same, kept-memory, ran-is, ran-from, ran-finished, ran-ended, next-goes, next-stays}
+use Rattle.watched_statements.specs.Watching.{lent}
+use Rattle.watched_statements.proofs.Laws.{kept-same, kept-memory, ran-is, ran-from, ran-finished, ran-ended, next-goes, next-stays}
 use Rattle.watched.proofs.ReadyLaws.{ready-within, ready-first, ready-later, branch-parts, ready-then, ready-else, ready-turn, ready-made}
 use Rattle.watched.proofs.MemberLaws.{branch-by, turn-by, turn-out, let-made, let-unmade, Turning, turn-ends, turn-again, turn-spends, inside-ends}
 use Prim.Native.Nat.{ℕ, _<_}
@@ -50,9 +50,9 @@ use Rattle.tables.proofs.child_b.Reads as child-b-reads
 use Rattle.tables.proofs.child_c.Reads as child-c-reads
 use Rattle.tables.proofs.kind.Reads as kind-reads
 use Rattle.tables.proofs.mark.Reads as mark-reads
-use Rattle.watched.proofs.acts.statement_of.Reads as statement-of-reads
-use Rattle.watched.proofs.acts.step.Reads as step-reads
-use Rattle.watched.proofs.acts.test.Reads as test-reads
+use Rattle.watched_statements.proofs.statement_of.Reads as statement-of-reads
+use Rattle.watched_statements.proofs.step.Reads as step-reads
+use Rattle.watched_statements.proofs.test.Reads as test-reads
 use Rattle.watched.proofs.runs.+branch+enclose+repeat+run+run_inside+sequence.{statement}
 use Rattle.watched.proofs.runs.+branch+enclose+repeat+run+run_inside+sequence.Tie.{close}
 

@@ -1,0 +1,144 @@
+-- What a statement that runs no other does, by what its parts answer.
+use Prim.Native.Nat.{ℕ}
+use mathlib.Core.Bool.{Bool, cond}
+use mathlib.Core.List.{List}
+use mathlib.Core.Logic.{_≢_}
+use mathlib.Core.Path.{_≡_, refl, sym, ap, _∙_, subst}
+use borrow.Author.Tests.{ne-eqb}
+use Rattle.rules.specs.Kinds.{statement}
+use Rattle.rules.specs.Records.{kindOf}
+use Rattle.rules.specs.Memory.{Change, changed, stopped}
+use Rattle.rules.specs.Evaluation.{Variables}
+use Rattle.rules.specs.Observation.{Noted, noted, refused}
+use Rattle.rules.specs.TargetTrees.{TargetStatement}
+use Rattle.rules.specs.Watched.{WatchedOutcome, finished, ended, Watching, after, decide, taken, observed}
+use Rattle.rules.specs.Layout.{memoryOf, observationOf}
+use Rattle.rules.specs.declared.Evaluated.{Evaluated}
+use Rattle.rules.specs.declared.Evaluated.the-variants as evaluated
+use Rattle.rules.specs.declared.Test.{Test}
+use Rattle.rules.specs.declared.Test.the-variants as test
+use Rattle.rules.proofs.Keeping.{Ending}
+use Rattle.rules.proofs.Endings.{WatchedEnds, watch-endings}
+use Rattle.rules.proofs.TargetFields.{HasSort, statement-kinds}
+use Rattle.temporaries.specs.Bytes.{temporariesOf}
+use Rattle.statements.specs.declared.Ended.{Ended}
+use Rattle.statements.specs.Ending.{result, concluded, assertNumber, Does}
+use Rattle.statements.proofs.ChangeLaws.{becomes-same}
+use Rattle.steps.specs.Steps.{Takes, Observes}
+use Rattle.watched_statements.specs.Watching.{lent, goFrom, watchFrom, IsAct, Ran}
+use Rattle.watched_statements.proofs.Laws.{observation-same, ran-is, ends-above}
+
+concluded-stop : (c s f : ℕ) → Ending 50 c → concluded c s f ≡ result c s f
+concluded-stop c s f h = ap (λ (b : Bool). cond b (result 0 0 f) (result c s f)) (ne-eqb c 0 (ends-above c h))
+
+-- the outcome by a change of the memory, a value for a temporary, a call, and an assertion
+module _ (l o τ : List ℕ) (s f r : ℕ) where
+  ran-change : (c : Change) (l₁ : List ℕ) → WatchedEnds (after s (observationOf o) (temporariesOf τ) f c)
+      → Does c r l l₁
+      → Ran (after s (observationOf o) (temporariesOf τ) f c) (concluded r s f) (lent l o τ) (lent l₁ o τ)
+  ran-change (changed m) l₁ h w = record {
+    answer = rw (w .number) refl;
+    memory = w .memory;
+    observation = observation-same refl;
+    temporaries = refl;
+  }
+  ran-change (stopped c m) l₁ h w = record {
+    answer = rw (w .number) (concluded-stop c s f h);
+    memory = w .memory;
+    observation = observation-same refl;
+    temporaries = refl;
+  }
+
+  ran-taken : (n : ℕ) (e : Evaluated) (τ₁ : List ℕ) → WatchedEnds (goFrom (taken s n e) (lent l o τ) f)
+      → Takes τ τ₁ r n e → Ran (goFrom (taken s n e) (lent l o τ) f) (concluded r s f) (lent l o τ) (lent l o τ₁)
+  ran-taken n (evaluated.Value v) τ₁ h w = record {
+    answer = rw (w .number) refl;
+    memory = becomes-same refl;
+    observation = observation-same refl;
+    temporaries = w .temporaries;
+  }
+  ran-taken n (evaluated.Stopped c) τ₁ h w = record {
+    answer = rw (w .number) (concluded-stop c s f h);
+    memory = becomes-same refl;
+    observation = observation-same refl;
+    temporaries = w .temporaries;
+  }
+
+  ran-observed : (z : Noted) (o₁ : List ℕ) → WatchedEnds (goFrom (observed s z) (lent l o τ) f) → Observes o o₁ r z
+      → Ran (goFrom (observed s z) (lent l o τ) f) (concluded r s f) (lent l o τ) (lent l o₁ τ)
+  ran-observed (noted x) o₁ h w = record {
+    answer = rw (w .number) refl;
+    memory = becomes-same refl;
+    observation = w .memory;
+    temporaries = refl;
+  }
+  ran-observed (refused c) o₁ h w = record {
+    answer = rw (w .number) (concluded-stop c s f h);
+    memory = becomes-same refl;
+    observation = w .memory;
+    temporaries = refl;
+  }
+
+  abbrev asserted : Test → Watching
+  asserted t m₁ o₁ τ₁ f₁ = decide s t finished (λ m₂ o₂ τ₂ f₂. ended 33 s m₂ o₂ τ₂ f₂) m₁ o₁ τ₁ f₁
+
+  ran-asserted : (t : Test) → WatchedEnds (goFrom (asserted t) (lent l o τ) f) → r ≡ assertNumber t
+      → Ran (goFrom (asserted t) (lent l o τ) f) (concluded r s f) (lent l o τ) (lent l o τ)
+  ran-asserted test.Yes h e = record {
+    answer = rw e refl;
+    memory = becomes-same refl;
+    observation = observation-same refl;
+    temporaries = refl;
+  }
+  ran-asserted test.No h e = record {
+    answer = rw e refl;
+    memory = becomes-same refl;
+    observation = observation-same refl;
+    temporaries = refl;
+  }
+  ran-asserted (test.Stopped c) h e = record {
+    answer = rw e (concluded-stop c s f h);
+    memory = becomes-same refl;
+    observation = observation-same refl;
+    temporaries = refl;
+  }
+
+-- a statement whose outcome is one of these
+module _ (a : TargetStatement) (ρ : Variables) (l o τ : List ℕ) (s r : ℕ) where
+  ends : (f : ℕ) (w : WatchedOutcome) → watchFrom a ρ (lent l o τ) f ≡ w → WatchedEnds w
+  ends f w e = subst WatchedEnds e (watch-endings a ρ (memoryOf l) (observationOf o) (temporariesOf τ) f)
+
+  pub acts-change : (c : Change) (l₁ : List ℕ)
+      → ((f : ℕ) → watchFrom a ρ (lent l o τ) f ≡ after s (observationOf o) (temporariesOf τ) f c) → Does c r l l₁
+      → (f : ℕ) → Ran (watchFrom a ρ (lent l o τ) f) (concluded r s f) (lent l o τ) (lent l₁ o τ)
+  acts-change c l₁ e w f = ran-is (e f) (ran-change l o τ s f r c l₁ (ends f _ (e f)) w)
+
+  pub acts-taken : (n : ℕ) (v : Evaluated) (τ₁ : List ℕ)
+      → ((f : ℕ) → watchFrom a ρ (lent l o τ) f ≡ goFrom (taken s n v) (lent l o τ) f) → Takes τ τ₁ r n v
+      → (f : ℕ) → Ran (watchFrom a ρ (lent l o τ) f) (concluded r s f) (lent l o τ) (lent l o τ₁)
+  acts-taken n v τ₁ e w f = ran-is (e f) (ran-taken l o τ s f r n v τ₁ (ends f _ (e f)) w)
+
+  pub acts-observed : (z : Noted) (o₁ : List ℕ)
+      → ((f : ℕ) → watchFrom a ρ (lent l o τ) f ≡ goFrom (observed s z) (lent l o τ) f) → Observes o o₁ r z
+      → (f : ℕ) → Ran (watchFrom a ρ (lent l o τ) f) (concluded r s f) (lent l o τ) (lent l o₁ τ)
+  acts-observed z o₁ e w f = ran-is (e f) (ran-observed l o τ s f r z o₁ (ends f _ (e f)) w)
+
+  pub acts-asserted : (t : Test)
+      → ((f : ℕ) → watchFrom a ρ (lent l o τ) f ≡ goFrom (asserted l o τ s f r t) (lent l o τ) f) → r ≡ assertNumber t
+      → (f : ℕ) → Ran (watchFrom a ρ (lent l o τ) f) (concluded r s f) (lent l o τ) (lent l o τ)
+  acts-asserted t e w f = ran-is (e f) (ran-asserted l o τ s f r t (ends f _ (e f)) w)
+
+-- the last of these kinds is what is left
+pub last-act : {X : Type 0} (t : List ℕ) (n : ℕ) → HasSort statement t n → IsAct (kindOf t n) → {k : ℕ}
+    → k ≡ kindOf t n
+    → ((((((((((((X × (k ≢ 40)) × (k ≢ 41)) × (k ≢ 42)) × (k ≢ 43)) × (k ≢ 60)) × (k ≢ 61)) × (k ≢ 63)) × (k ≢ 64))
+    × (k ≢ 65)) × (k ≢ 67)) × (k ≢ 68)) × (k ≢ 69))
+    → kindOf t n ≡ 70
+last-act t n h a e r =
+    statement-kinds t n h
+    (λ d. r .0 .0 .0 .0 .0 .0 .0 .0 .0 .0 .0 .1 (e ∙ d)) (λ d. r .0 .0 .0 .0 .0 .0 .0 .0 .0 .0 .1 (e ∙ d))
+    (λ d. r .0 .0 .0 .0 .0 .0 .0 .0 .0 .1 (e ∙ d)) (λ d. r .0 .0 .0 .0 .0 .0 .0 .0 .1 (e ∙ d))
+    (a .0) (a .1) (a .2) (a .3)
+    (λ d. r .0 .0 .0 .0 .0 .0 .0 .1 (e ∙ d)) (λ d. r .0 .0 .0 .0 .0 .0 .1 (e ∙ d))
+    (λ d. r .0 .0 .0 .0 .0 .1 (e ∙ d)) (λ d. r .0 .0 .0 .0 .1 (e ∙ d)) (λ d. r .0 .0 .0 .1 (e ∙ d))
+    (a .4) (λ d. r .0 .0 .1 (e ∙ d)) (λ d. r .0 .1 (e ∙ d)) (λ d. r .1 (e ∙ d))

@@ -1,0 +1,117 @@
+-- From what the parts answer to what the whole does.
+use Prim.Native.Nat.{ℕ, suc, _<_}
+use native.Mathlib.Omega.{arith}
+use mathlib.Core.Bool.{Bool, cond}
+use mathlib.Core.List.{List}
+use mathlib.Core.Logic.{_≢_, _⊎_, inl, inr}
+use mathlib.Core.Path.{_≡_, refl, sym, ap, _∙_, subst}
+use borrow.Author.Tests.{ne-eqb}
+use Rattle.rules.specs.Memory.{Memory, Change, changed, stopped}
+use Rattle.rules.specs.Evaluation.{Variables}
+use Rattle.rules.specs.Observation.{Observation, Noted, noted, refused}
+use Rattle.rules.specs.TargetTrees.{TargetStatement}
+use Rattle.rules.specs.Watched.{Temporaries, WatchedOutcome, finished, ended, Watching, next, after, decide, taken, observed, watch}
+use Rattle.rules.specs.Layout.{memoryOf, observationOf, observationImage}
+use Rattle.rules.specs.declared.Evaluated.{Evaluated}
+use Rattle.rules.specs.declared.Evaluated.the-variants as evaluated
+use Rattle.rules.specs.declared.Test.{Test}
+use Rattle.rules.specs.declared.Test.the-variants as test
+use Rattle.rules.proofs.Keeping.{Ending}
+use Rattle.rules.proofs.Endings.{WatchedEnds, watch-endings}
+use Rattle.cells.specs.Changes.{Becomes, Exact}
+use Rattle.observation.specs.Calls.{ObservationBecomes}
+use Rattle.temporaries.specs.Bytes.{temporariesOf}
+use Rattle.statements.specs.declared.Ended.{Ended}
+use Rattle.statements.specs.Ending.{result, concluded, assertNumber, Does}
+use Rattle.statements.proofs.ChangeLaws.{becomes-same, becomes-then}
+use Rattle.watched_statements.specs.Watching.{Lent, lent, goFrom, watchFrom, resultOf, Ran}
+
+-- ---- the bytes
+pub observation-same : {l : List ℕ} {o : Observation} → observationOf l ≡ o → ObservationBecomes l l o
+observation-same e = record { view = e; exact = λ x. x }
+
+-- bytes that were exact stay so
+pub record Kept (x y : Lent) : Type 0 where
+  pub memory : Exact (x .memory) → Exact (y .memory)
+  pub observation : x .observation ≡ observationImage (observationOf (x .observation))
+      → y .observation ≡ observationImage (observationOf (y .observation))
+
+pub kept-same : (x : Lent) → Kept x x
+kept-same x = record { memory = λ e. e; observation = λ e. e }
+
+pub ran-kept : {w : WatchedOutcome} {r : Ended} {x y : Lent} → Ran w r x y → Kept x y
+ran-kept h = record { memory = h .memory .exact; observation = h .observation .exact }
+
+pub kept-then : {x y z : Lent} → Kept x y → Kept y z → Kept x z
+kept-then p q = record {
+  memory = λ e. q .memory (p .memory e);
+  observation = λ e. q .observation (p .observation e);
+}
+
+-- the memory alone is changed
+pub kept-memory : {l l₁ : List ℕ} {m : Memory} (o τ : List ℕ) → Becomes l l₁ m → Kept (lent l o τ) (lent l₁ o τ)
+kept-memory o τ h = record { memory = h .exact; observation = λ e. e }
+
+-- ---- outcomes
+pub ran-is : {v w : WatchedOutcome} {r : Ended} {x y : Lent} → v ≡ w → Ran w r x y → Ran v r x y
+ran-is {v} {w} {r} {x} {y} e h = subst (λ (u : WatchedOutcome). Ran u r x y) (sym e) h
+
+-- what came before counts for the bytes alone
+pub ran-from : {w : WatchedOutcome} {r : Ended} {x y z : Lent} → Kept x y → Ran w r y z → Ran w r x z
+ran-from p h = record {
+  answer = h .answer;
+  memory = record { view = h .memory .view; exact = λ e. h .memory .exact (p .memory e) };
+  observation = record { view = h .observation .view; exact = λ e. h .observation .exact (p .observation e) };
+  temporaries = h .temporaries;
+}
+
+-- what changes nothing
+pub ran-finished : (x : Lent) (f : ℕ) → Ran (goFrom finished x f) (result 0 0 f) x x
+ran-finished x f = record {
+  answer = refl;
+  memory = becomes-same refl;
+  observation = observation-same refl;
+  temporaries = refl;
+}
+
+pub ran-ended : (x : Lent) (c s f : ℕ) → Ran (goFrom (ended c s) x f) (result c s f) x x
+ran-ended x c s f = record {
+  answer = refl;
+  memory = becomes-same refl;
+  observation = observation-same refl;
+  temporaries = refl;
+}
+
+-- no ending has the number 0
+pub ends-above : (c : ℕ) → Ending 50 c → c ≢ 0
+ends-above c (inl h) e = omega arith
+ends-above c (inr h) e = omega arith
+
+-- the number 0 says that it finished, any other that it ended
+outcome-finished : (w : WatchedOutcome) (r : Ended) (x y : Lent) → WatchedEnds w → Ran w r x y → r .number ≡ 0
+    → w ≡ goFrom finished y (r .fuel)
+outcome-finished (finished m o τ f) r x y h v e =
+    λ i. finished (sym (v .memory .view) i) (sym (v .observation .view) i) (sym (v .temporaries) i)
+    (sym (v .answer) i .fuel)
+outcome-finished (ended c s m o τ f) r x y h v e =
+    absurd (ends-above c h (sym (ap (λ (q : Ended). q .number) (v .answer)) ∙ e))
+
+outcome-ended : (w : WatchedOutcome) (k : Watching) (r : Ended) (x y : Lent) → Ran w r x y → r .number ≢ 0
+    → Ran (next w k) r x y
+outcome-ended (finished m o τ f) k r x y v e = absurd (e (ap (λ (q : Ended). q .number) (v .answer)))
+outcome-ended (ended c s m o τ f) k r x y v e = v
+
+module _ (s : TargetStatement) (ρ : Variables) (f : ℕ) (k : Watching) (r : Ended) (x y : Lent)
+    (w : Ran (watchFrom s ρ x f) r x y) where
+  pub watch-finished : r .number ≡ 0 → watchFrom s ρ x f ≡ goFrom finished y (r .fuel)
+  watch-finished e = outcome-finished (watchFrom s ρ x f) r x y (watch-endings s ρ (memoryOf (x .memory))
+      (observationOf (x .observation)) (temporariesOf (x .temporaries)) f) w e
+
+  -- what comes next goes on from there
+  pub next-goes : (q : Ended) (z : Lent) → r .number ≡ 0 → Ran (goFrom k y (r .fuel)) q y z
+      → Ran (next (watchFrom s ρ x f) k) q x z
+  next-goes q z e v =
+      ran-is (ap (λ (u : WatchedOutcome). next u k) (watch-finished e)) (ran-from (ran-kept w) v)
+
+  pub next-stays : r .number ≢ 0 → Ran (next (watchFrom s ρ x f) k) r x y
+  next-stays e = outcome-ended (watchFrom s ρ x f) k r x y w e

@@ -1,0 +1,3 @@
+-- Laws for the proofs of the watched run's statements.
+pub mod Laws
+pub mod ActLaws

@@ -1,0 +1,333 @@
+use mathlib.Core.Path.{sym, _∙_}
+use Rattle.rules.specs.Kinds.{target}
+use Rattle.rules.specs.Records.{markOf}
+use Rattle.rules.specs.Evaluation.{condition}
+use Rattle.rules.specs.Watched.{heldIn}
+use Rattle.rules.specs.Layout.{memoryOf, observationOf}
+use Rattle.rules.proofs.TargetFields.{statementAt, numberAt}
+use Rattle.rules.proofs.TargetArms.{watch-skip, watch-assign, watch-new, watch-free, watch-address, watch-value, watch-operation, watch-query, watch-not, watch-assert-on, watch-store-block, watch-delete-block, watch-initialise}
+use Rattle.evaluation.specs.State.{variablesOf}
+use Rattle.temporaries.specs.Bytes.{temporariesOf}
+use Rattle.watched_statements.specs.Watching.{lent}
+use Rattle.watched_statements.proofs.Laws.{ran-is, ran-finished}
+use Rattle.watched_statements.proofs.ActLaws.{last-act, acts-change, acts-taken, acts-observed, acts-asserted}
+use Rattle.watched_statements.proofs.ReadyLaws.{ready-within, assign-fits}
+use borrow.Author.Needs.{needs}
+use Rattle.watched_statements.proofs.act.Statement.{statement}
+use Rattle.watched_statements.proofs.act.Tie as tie
+
+kind-requires : tie.Need-kind-requires
+kind-requires c κs =
+    let s = c .before in
+    ready-within (s .args .table .now) (s .args .n) _ _ (s .pre .0)
+
+assign-requires : tie.Need-assign-requires
+assign-requires c κs =
+    let after-match = c .before .before in
+    let after-kind = after-match .before in
+    let s = after-kind .before .before in
+    let q = sym (after-kind .kind .ensures) ∙ after-match .match .keys2 in
+    (s .pre .0 .is, q, assign-fits (s .args .table .now) (s .args .n) _ _ (s .pre .0) q)
+
+allocate-requires : tie.Need-allocate-requires
+allocate-requires c κs =
+    let after-match = c .before .before in
+    let after-kind = after-match .before in
+    (after-kind .before .before .pre .0 .is, sym (after-kind .kind .ensures) ∙ after-match .match .keys3)
+
+release-requires : tie.Need-release-requires
+release-requires c κs =
+    let after-match = c .before .before in
+    let after-kind = after-match .before in
+    (after-kind .before .before .pre .0 .is, sym (after-kind .kind .ensures) ∙ after-match .match .keys4)
+
+take-address-requires : tie.Need-take-address-requires
+take-address-requires c κs =
+    let after-match = c .before .before in
+    let after-kind = after-match .before in
+    (after-kind .before .before .pre .0 .is, sym (after-kind .kind .ensures) ∙ after-match .match .keys5)
+
+take-value-requires : tie.Need-take-value-requires
+take-value-requires c κs =
+    let after-match = c .before .before in
+    let after-kind = after-match .before in
+    (after-kind .before .before .pre .0 .is, sym (after-kind .kind .ensures) ∙ after-match .match .keys6)
+
+take-operation-requires : tie.Need-take-operation-requires
+take-operation-requires c κs =
+    let after-kind = c .before .before in
+    (after-kind .before .before .pre .0 .is, sym (after-kind .kind .ensures) ∙ c .before .match .keys7)
+
+take-query-requires : tie.Need-take-query-requires
+take-query-requires c κs =
+    let after-match = c .before .before in
+    let after-kind = after-match .before in
+    (after-kind .before .before .pre .0 .is, sym (after-kind .kind .ensures) ∙ after-match .match .keys8)
+
+take-not-requires : tie.Need-take-not-requires
+take-not-requires c κs =
+    let after-kind = c .before .before in
+    (after-kind .before .before .pre .0 .is, sym (after-kind .kind .ensures) ∙ c .before .match .keys9)
+
+assert-requires : tie.Need-assert-requires
+assert-requires c κs =
+    let after-kind = c .before .before in
+    (after-kind .before .before .pre .0 .is, sym (after-kind .kind .ensures) ∙ c .before .match .keys10)
+
+record-block-requires : tie.Need-record-block-requires
+record-block-requires c κs =
+    let after-match = c .before .before in
+    let after-kind = after-match .before in
+    (after-kind .before .before .pre .0 .is, sym (after-kind .kind .ensures) ∙ after-match .match .keys11)
+
+delete-block-requires : tie.Need-delete-block-requires
+delete-block-requires c κs =
+    let after-match = c .before .before in
+    let after-kind = after-match .before in
+    (after-kind .before .before .pre .0 .is, sym (after-kind .kind .ensures) ∙ after-match .match .keys12)
+
+mark-cell-requires : tie.Need-mark-cell-requires
+mark-cell-requires c κs =
+    let after-match = c .before .before in
+    let after-kind = after-match .before in
+    let s = after-kind .before .before in
+    let h = s .pre .0 .is in
+    (h, last-act (s .args .table .now) (s .args .n) h (s .pre .1) (after-kind .kind .ensures) (after-match .match .rest))
+
+returns : tie.Need-returns
+returns c =
+    let s = c .before .before .before in
+    let q = sym (c .before .kind .ensures) ∙ c .match .keys1 in
+    let T = s .args .table .now in
+    let n = s .args .n in
+    let ρ = variablesOf (s .args .variables .now) in
+    let l = s .args .mem .now in
+    let o = s .args .obs .now in
+    let τ = s .args .temporaries .now in
+    let h = s .pre .0 .is in
+    λ f. ran-is (watch-skip T n h ρ (memoryOf l) (observationOf o) (temporariesOf τ) f q) (ran-finished
+    (lent l o τ) f)
+
+returns-2 : tie.Need-returns-2
+returns-2 c =
+    let after-match = c .before .before .before in
+    let after-kind = after-match .before in
+    let s = after-kind .before .before in
+    let T = s .args .table .now in
+    let n = s .args .n in
+    let ρ = variablesOf (s .args .variables .now) in
+    let l = s .args .mem .now in
+    let o = s .args .obs .now in
+    let τ = s .args .temporaries .now in
+    let h = s .pre .0 .is in
+    let q = sym (after-kind .kind .ensures) ∙ after-match .match .keys2 in
+    acts-change (statementAt T n) ρ l o τ (numberAt T n) (c .assign .result) _ _
+    (λ f. watch-assign T n h ρ (memoryOf l) (observationOf o) (temporariesOf τ) f q) (c .assign .ensures)
+
+returns-3 : tie.Need-returns-3
+returns-3 c =
+    let after-match = c .before .before .before in
+    let after-kind = after-match .before in
+    let s = after-kind .before .before in
+    let T = s .args .table .now in
+    let n = s .args .n in
+    let ρ = variablesOf (s .args .variables .now) in
+    let l = s .args .mem .now in
+    let o = s .args .obs .now in
+    let τ = s .args .temporaries .now in
+    let h = s .pre .0 .is in
+    let q = sym (after-kind .kind .ensures) ∙ after-match .match .keys3 in
+    acts-change (statementAt T n) ρ l o τ (numberAt T n) (c .allocate .result) _ _
+    (λ f. watch-new T n h ρ (memoryOf l) (observationOf o) (temporariesOf τ) f q) (c .allocate .ensures)
+
+returns-4 : tie.Need-returns-4
+returns-4 c =
+    let after-match = c .before .before .before in
+    let after-kind = after-match .before in
+    let s = after-kind .before .before in
+    let T = s .args .table .now in
+    let n = s .args .n in
+    let ρ = variablesOf (s .args .variables .now) in
+    let l = s .args .mem .now in
+    let o = s .args .obs .now in
+    let τ = s .args .temporaries .now in
+    let h = s .pre .0 .is in
+    let q = sym (after-kind .kind .ensures) ∙ after-match .match .keys4 in
+    acts-change (statementAt T n) ρ l o τ (numberAt T n) (c .release .result) _ _
+    (λ f. watch-free T n h ρ (memoryOf l) (observationOf o) (temporariesOf τ) f q) (c .release .ensures)
+
+returns-5 : tie.Need-returns-5
+returns-5 c =
+    let after-match = c .before .before .before in
+    let after-kind = after-match .before in
+    let s = after-kind .before .before in
+    let T = s .args .table .now in
+    let n = s .args .n in
+    let ρ = variablesOf (s .args .variables .now) in
+    let l = s .args .mem .now in
+    let o = s .args .obs .now in
+    let τ = s .args .temporaries .now in
+    let h = s .pre .0 .is in
+    let q = sym (after-kind .kind .ensures) ∙ after-match .match .keys5 in
+    acts-taken (statementAt T n) ρ l o τ (numberAt T n) (c .take-address .result) _ _ _
+    (λ f. watch-address T n h ρ (memoryOf l) (observationOf o) (temporariesOf τ) f q) (c .take-address .ensures)
+
+returns-6 : tie.Need-returns-6
+returns-6 c =
+    let after-match = c .before .before .before in
+    let after-kind = after-match .before in
+    let s = after-kind .before .before in
+    let T = s .args .table .now in
+    let n = s .args .n in
+    let ρ = variablesOf (s .args .variables .now) in
+    let l = s .args .mem .now in
+    let o = s .args .obs .now in
+    let τ = s .args .temporaries .now in
+    let h = s .pre .0 .is in
+    let q = sym (after-kind .kind .ensures) ∙ after-match .match .keys6 in
+    acts-taken (statementAt T n) ρ l o τ (numberAt T n) (c .take-value .result) _ _ _
+    (λ f. watch-value T n h ρ (memoryOf l) (observationOf o) (temporariesOf τ) f q) (c .take-value .ensures)
+
+returns-7 : tie.Need-returns-7
+returns-7 c =
+    let after-match = c .before .before in
+    let after-kind = after-match .before in
+    let s = after-kind .before .before in
+    let T = s .args .table .now in
+    let n = s .args .n in
+    let ρ = variablesOf (s .args .variables .now) in
+    let l = s .args .mem .now in
+    let o = s .args .obs .now in
+    let τ = s .args .temporaries .now in
+    let h = s .pre .0 .is in
+    let q = sym (after-kind .kind .ensures) ∙ after-match .match .keys7 in
+    acts-taken (statementAt T n) ρ l o τ (numberAt T n) (c .take-operation .result) _ _ _
+    (λ f. watch-operation T n h ρ (memoryOf l) (observationOf o) (temporariesOf τ) f q) (c .take-operation .ensures)
+
+returns-8 : tie.Need-returns-8
+returns-8 c =
+    let after-match = c .before .before .before in
+    let after-kind = after-match .before in
+    let s = after-kind .before .before in
+    let T = s .args .table .now in
+    let n = s .args .n in
+    let ρ = variablesOf (s .args .variables .now) in
+    let l = s .args .mem .now in
+    let o = s .args .obs .now in
+    let τ = s .args .temporaries .now in
+    let h = s .pre .0 .is in
+    let q = sym (after-kind .kind .ensures) ∙ after-match .match .keys8 in
+    acts-taken (statementAt T n) ρ l o τ (numberAt T n) (c .take-query .result) _ _ _
+    (λ f. watch-query T n h ρ (memoryOf l) (observationOf o) (temporariesOf τ) f q) (c .take-query .ensures)
+
+returns-9 : tie.Need-returns-9
+returns-9 c =
+    let after-match = c .before .before in
+    let after-kind = after-match .before in
+    let s = after-kind .before .before in
+    let T = s .args .table .now in
+    let n = s .args .n in
+    let ρ = variablesOf (s .args .variables .now) in
+    let l = s .args .mem .now in
+    let o = s .args .obs .now in
+    let τ = s .args .temporaries .now in
+    let h = s .pre .0 .is in
+    let q = sym (after-kind .kind .ensures) ∙ after-match .match .keys9 in
+    acts-taken (statementAt T n) ρ l o τ (numberAt T n) (c .take-not .result) _ _ _
+    (λ f. watch-not T n h ρ (memoryOf l) (observationOf o) (temporariesOf τ) f q) (c .take-not .ensures)
+
+returns-10 : tie.Need-returns-10
+returns-10 c =
+    let after-match = c .before .before in
+    let after-kind = after-match .before in
+    let s = after-kind .before .before in
+    let T = s .args .table .now in
+    let n = s .args .n in
+    let ρ = variablesOf (s .args .variables .now) in
+    let l = s .args .mem .now in
+    let o = s .args .obs .now in
+    let τ = s .args .temporaries .now in
+    let h = s .pre .0 .is in
+    let q = sym (after-kind .kind .ensures) ∙ after-match .match .keys10 in
+    acts-asserted (statementAt T n) ρ l o τ (numberAt T n) (c .assert .result)
+    (condition (heldIn (temporariesOf τ) (markOf T n)))
+    (λ f. watch-assert-on T n h ρ (memoryOf l) (observationOf o) (temporariesOf τ) f q) (c .assert .ensures)
+
+returns-11 : tie.Need-returns-11
+returns-11 c =
+    let after-match = c .before .before .before in
+    let after-kind = after-match .before in
+    let s = after-kind .before .before in
+    let T = s .args .table .now in
+    let n = s .args .n in
+    let ρ = variablesOf (s .args .variables .now) in
+    let l = s .args .mem .now in
+    let o = s .args .obs .now in
+    let τ = s .args .temporaries .now in
+    let h = s .pre .0 .is in
+    let q = sym (after-kind .kind .ensures) ∙ after-match .match .keys11 in
+    acts-observed (statementAt T n) ρ l o τ (numberAt T n) (c .record-block .result) _ _
+    (λ f. watch-store-block T n h ρ (memoryOf l) (observationOf o) (temporariesOf τ) f q) (c .record-block .ensures)
+
+returns-12 : tie.Need-returns-12
+returns-12 c =
+    let after-match = c .before .before .before in
+    let after-kind = after-match .before in
+    let s = after-kind .before .before in
+    let T = s .args .table .now in
+    let n = s .args .n in
+    let ρ = variablesOf (s .args .variables .now) in
+    let l = s .args .mem .now in
+    let o = s .args .obs .now in
+    let τ = s .args .temporaries .now in
+    let h = s .pre .0 .is in
+    let q = sym (after-kind .kind .ensures) ∙ after-match .match .keys12 in
+    acts-observed (statementAt T n) ρ l o τ (numberAt T n) (c .delete-block .result) _ _
+    (λ f. watch-delete-block T n h ρ (memoryOf l) (observationOf o) (temporariesOf τ) f q) (c .delete-block .ensures)
+
+returns-13 : tie.Need-returns-13
+returns-13 c =
+    let after-match = c .before .before .before in
+    let after-kind = after-match .before in
+    let s = after-kind .before .before in
+    let T = s .args .table .now in
+    let n = s .args .n in
+    let ρ = variablesOf (s .args .variables .now) in
+    let l = s .args .mem .now in
+    let o = s .args .obs .now in
+    let τ = s .args .temporaries .now in
+    let h = s .pre .0 .is in
+    let q = last-act T n h (s .pre .1) (after-kind .kind .ensures) (after-match .match .rest) in
+    acts-observed (statementAt T n) ρ l o τ (numberAt T n) (c .mark-cell .result) _ _
+    (λ f. watch-initialise T n h ρ (memoryOf l) (observationOf o) (temporariesOf τ) f q) (c .mark-cell .ensures)
+
+pub act-spec : {M : Type 1} → statement M
+act-spec =
+    tie.close
+    (tie.spec
+    kind-requires
+    assign-requires
+    allocate-requires
+    release-requires
+    take-address-requires
+    take-value-requires
+    take-operation-requires
+    take-query-requires
+    take-not-requires
+    assert-requires
+    record-block-requires
+    delete-block-requires
+    mark-cell-requires
+    returns
+    returns-2
+    returns-3
+    returns-4
+    returns-5
+    returns-6
+    returns-7
+    returns-8
+    returns-9
+    returns-10
+    returns-11
+    returns-12
+    returns-13)

@@ -1,0 +1,28 @@
+use mathlib.Core.Path.{sym, ap}
+use Rattle.rules.specs.Kinds.{target}
+use Rattle.rules.specs.Memory.{freed}
+use Rattle.rules.specs.Layout.{memoryOf}
+use Rattle.rules.proofs.StatementArms.{statement-within, free-child}
+use Rattle.statements.proofs.ChangeLaws.{does-is}
+use borrow.Author.Needs.{needs}
+use Rattle.watched_statements.proofs.release.Statement.{statement}
+use Rattle.watched_statements.proofs.release.Tie as tie
+
+evaluate-a-requires : tie.Need-evaluate-a-requires
+evaluate-a-requires c κs =
+    let s = c .before in
+    let T = s .args .table .now in
+    (statement-within target T (s .args .n) (s .pre .0), free-child target T (s .args .n) (s .pre .0) (s .pre .1) .2)
+
+free-at-requires : tie.Need-free-at-requires
+free-at-requires c κs = tt
+
+returns : tie.Need-returns
+returns c =
+    let after-evaluate-a = c .before .before in
+    let l = after-evaluate-a .before .before .args .mem .now in
+    does-is {r = c .free-at .result} {a = l} {b = c .free-at .last .0}
+    (sym (ap (freed (memoryOf l)) (after-evaluate-a .evaluate-a .ensures))) (c .free-at .ensures)
+
+pub release-spec : {M : Type 1} → statement M
+release-spec = tie.close (tie.spec evaluate-a-requires free-at-requires returns)

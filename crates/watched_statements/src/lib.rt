@@ -1,0 +1,283 @@
+// The statements that run no other, and what the others test.
+ghost use mathlib.Core.Path.{_≡_};
+ghost use Prim.Native.Nat.{suc};
+ghost use Rattle.rules.specs.Kinds.{statement};
+ghost use Rattle.rules.specs.Records.{kindOf, markOf, childA, childB, childC};
+ghost use Rattle.rules.specs.Nodes.{operatorOf, queryOf};
+ghost use Rattle.rules.specs.Memory.{assigned, allocated, freed, onValue};
+ghost use Rattle.rules.specs.Evaluation.{addressOf, operated, opposite, condition};
+ghost use Rattle.rules.specs.Observation.{storeBlock, deleteBlock, initialise, queryObservation};
+ghost use Rattle.rules.specs.Watched.{heldIn, calledOn, calledOnTwo};
+ghost use Rattle.rules.specs.Layout.{memoryOf, observationOf};
+ghost use Rattle.rules.specs.declared.Evaluated.the-variants as evaluated;
+ghost use Rattle.rules.proofs.TargetFields.{HasSort, numberAt};
+ghost use Rattle.cells.specs.Changes.{EvaluatedFits};
+ghost use Rattle.evaluation.specs.State.{variablesOf};
+ghost use Rattle.temporaries.specs.Bytes.{temporariesOf};
+ghost use Rattle.statements.specs.Children.{foundIn, valueIn};
+ghost use Rattle.statements.specs.Ending.{assertNumber, Does};
+ghost use Rattle.steps.specs.Steps.{Takes, Observes};
+ghost use Rattle.watched_statements.specs.Watching.{lent, Ready, IsAct, IsBranch, choice, Runs, Acts};
+use rules::Test;
+use statements::Ended;
+
+// The source statement that record n came from.
+pub fn statement_of(table: &[u8; 65536], n: usize) -> u32
+    requires { ⌜ HasSort statement (now table) n ⌝ }
+    ensures { λ r. ⌜ r ≡ numberAt (now (table .entry)) n ⌝ }
+{
+    let literal = tables::literal(&table[..], n);
+    literal as u32
+}
+
+// 41: place A takes expression B.
+fn assign(
+    table: &[u8; 65536],
+    n: usize,
+    variables: &[u16; 64],
+    temporaries: &[u8; 1024],
+    mem: &mut [u8; 18424],
+) -> u32
+    requires { ⌜ HasSort statement (now table) n × (kindOf (now table) n ≡ 41)
+        × EvaluatedFits (valueIn (now table) (childB (now table) n) (now variables) (now temporaries) (now mem)) ⌝ }
+    ensures { λ r. ⌜ Does (assigned (memoryOf (now (mem .entry)))
+        (foundIn (now (table .entry)) (childA (now (table .entry)) n) (now (variables .entry))
+        (now (temporaries .entry)) (now (mem .entry)))
+        (valueIn (now (table .entry)) (childB (now (table .entry)) n) (now (variables .entry))
+        (now (temporaries .entry)) (now (mem .entry))))
+        r (now (mem .entry)) (now (mem .exit)) ⌝ }
+{
+    let f = statements::find_a(table, n, variables, temporaries, &*mem);
+    let e = statements::evaluate_b(table, n, variables, temporaries, &*mem);
+    statements::store_at(mem, f, e)
+}
+
+// 42: place A takes a new block of B cells.
+fn allocate(
+    table: &[u8; 65536],
+    n: usize,
+    variables: &[u16; 64],
+    temporaries: &[u8; 1024],
+    mem: &mut [u8; 18424],
+) -> u32
+    requires { ⌜ HasSort statement (now table) n × (kindOf (now table) n ≡ 42) ⌝ }
+    ensures { λ r. ⌜ Does (allocated (memoryOf (now (mem .entry)))
+        (foundIn (now (table .entry)) (childA (now (table .entry)) n) (now (variables .entry))
+        (now (temporaries .entry)) (now (mem .entry)))
+        (valueIn (now (table .entry)) (childB (now (table .entry)) n) (now (variables .entry))
+        (now (temporaries .entry)) (now (mem .entry))))
+        r (now (mem .entry)) (now (mem .exit)) ⌝ }
+{
+    let f = statements::find_a(table, n, variables, temporaries, &*mem);
+    let e = statements::evaluate_b(table, n, variables, temporaries, &*mem);
+    statements::new_at(mem, f, e)
+}
+
+// 43: what A points to is freed.
+fn release(
+    table: &[u8; 65536],
+    n: usize,
+    variables: &[u16; 64],
+    temporaries: &[u8; 1024],
+    mem: &mut [u8; 18424],
+) -> u32
+    requires { ⌜ HasSort statement (now table) n × (kindOf (now table) n ≡ 43) ⌝ }
+    ensures { λ r. ⌜ Does (freed (memoryOf (now (mem .entry)))
+        (valueIn (now (table .entry)) (childA (now (table .entry)) n) (now (variables .entry))
+        (now (temporaries .entry)) (now (mem .entry))))
+        r (now (mem .entry)) (now (mem .exit)) ⌝ }
+{
+    let e = statements::evaluate_a(table, n, variables, temporaries, &*mem);
+    statements::free_at(mem, e)
+}
+
+// 60: the temporary takes the address of place A.
+fn take_address(
+    table: &[u8; 65536],
+    n: usize,
+    variables: &[u16; 64],
+    temporaries: &mut [u8; 1024],
+    mem: &[u8; 18424],
+) -> u32
+    requires { ⌜ HasSort statement (now table) n × (kindOf (now table) n ≡ 60) ⌝ }
+    ensures { λ r. ⌜ Takes (now (temporaries .entry)) (now (temporaries .exit)) r (markOf (now (table .entry)) n)
+        (addressOf (foundIn (now (table .entry)) (childA (now (table .entry)) n) (now (variables .entry))
+        (now (temporaries .entry)) (now (mem .entry)))) ⌝ }
+{
+    let f = statements::find_a(table, n, variables, &*temporaries, mem);
+    let e = values::address(f);
+    steps::take_evaluated(temporaries, tables::mark(&table[..], n) as usize, e)
+}
+
+// 61: the temporary takes expression A.
+fn take_value(
+    table: &[u8; 65536],
+    n: usize,
+    variables: &[u16; 64],
+    temporaries: &mut [u8; 1024],
+    mem: &[u8; 18424],
+) -> u32
+    requires { ⌜ HasSort statement (now table) n × (kindOf (now table) n ≡ 61) ⌝ }
+    ensures { λ r. ⌜ Takes (now (temporaries .entry)) (now (temporaries .exit)) r (markOf (now (table .entry)) n)
+        (valueIn (now (table .entry)) (childA (now (table .entry)) n) (now (variables .entry))
+        (now (temporaries .entry)) (now (mem .entry))) ⌝ }
+{
+    let e = statements::evaluate_a(table, n, variables, &*temporaries, mem);
+    steps::take_evaluated(temporaries, tables::mark(&table[..], n) as usize, e)
+}
+
+// 63: the temporary takes an operator of the two after it.
+fn take_operation(table: &[u8; 65536], n: usize, temporaries: &mut [u8; 1024]) -> u32
+    requires { ⌜ HasSort statement (now table) n × (kindOf (now table) n ≡ 63) ⌝ }
+    ensures { λ r. ⌜ Takes (now (temporaries .entry)) (now (temporaries .exit)) r (markOf (now (table .entry)) n)
+        (operated (operatorOf (childC (now (table .entry)) n))
+        (heldIn (temporariesOf (now (temporaries .entry))) (suc (markOf (now (table .entry)) n)))
+        (heldIn (temporariesOf (now (temporaries .entry))) (suc (suc (markOf (now (table .entry)) n))))) ⌝ }
+{
+    let operator = tables::child_c(&table[..], n) as u8;
+    steps::take_operation(temporaries, tables::mark(&table[..], n) as usize, operator)
+}
+
+// 64: the temporary takes a query of the one after it.
+fn take_query(table: &[u8; 65536], n: usize, temporaries: &mut [u8; 1024], obs: &[u8; 3064]) -> u32
+    requires { ⌜ HasSort statement (now table) n × (kindOf (now table) n ≡ 64) ⌝ }
+    ensures { λ r. ⌜ Takes (now (temporaries .entry)) (now (temporaries .exit)) r (markOf (now (table .entry)) n)
+        (onValue (heldIn (temporariesOf (now (temporaries .entry))) (suc (markOf (now (table .entry)) n)))
+        evaluated.Stopped (queryObservation (queryOf (childC (now (table .entry)) n))
+        (observationOf (now (obs .entry))))) ⌝ }
+{
+    let query = tables::child_c(&table[..], n) as u8;
+    let first = tables::mark(&table[..], n) as usize;
+    steps::take_query(temporaries, obs, first, query)
+}
+
+// 65: the temporary takes 1 where the one after it is 0, else 0.
+fn take_not(table: &[u8; 65536], n: usize, temporaries: &mut [u8; 1024]) -> u32
+    requires { ⌜ HasSort statement (now table) n × (kindOf (now table) n ≡ 65) ⌝ }
+    ensures { λ r. ⌜ Takes (now (temporaries .entry)) (now (temporaries .exit)) r (markOf (now (table .entry)) n)
+        (onValue (heldIn (temporariesOf (now (temporaries .entry))) (suc (markOf (now (table .entry)) n)))
+        evaluated.Stopped opposite) ⌝ }
+{
+    steps::take_not(temporaries, tables::mark(&table[..], n) as usize)
+}
+
+// 67: the temporary is asserted.
+fn assert(table: &[u8; 65536], n: usize, temporaries: &[u8; 1024]) -> u32
+    requires { ⌜ HasSort statement (now table) n × (kindOf (now table) n ≡ 67) ⌝ }
+    ensures { λ r. ⌜ r ≡ assertNumber (condition (heldIn (temporariesOf (now (temporaries .entry)))
+        (markOf (now (table .entry)) n))) ⌝ }
+{
+    let t = steps::test_temporary(temporaries, tables::mark(&table[..], n) as usize);
+    statements::assert_number(t)
+}
+
+// 68: the block that the temporary points to is recorded, the next being its length.
+fn record_block(
+    table: &[u8; 65536],
+    n: usize,
+    temporaries: &[u8; 1024],
+    obs: &mut [u8; 3064],
+) -> u32
+    requires { ⌜ HasSort statement (now table) n × (kindOf (now table) n ≡ 68) ⌝ }
+    ensures { λ r. ⌜ Observes (now (obs .entry)) (now (obs .exit)) r
+        (calledOnTwo (heldIn (temporariesOf (now (temporaries .entry))) (markOf (now (table .entry)) n))
+        (heldIn (temporariesOf (now (temporaries .entry))) (suc (markOf (now (table .entry)) n)))
+        (storeBlock (observationOf (now (obs .entry))))) ⌝ }
+{
+    steps::record_block(temporaries, obs, tables::mark(&table[..], n) as usize)
+}
+
+// 69: the block that the temporary points to is deleted.
+fn delete_block(
+    table: &[u8; 65536],
+    n: usize,
+    temporaries: &[u8; 1024],
+    obs: &mut [u8; 3064],
+) -> u32
+    requires { ⌜ HasSort statement (now table) n × (kindOf (now table) n ≡ 69) ⌝ }
+    ensures { λ r. ⌜ Observes (now (obs .entry)) (now (obs .exit)) r
+        (calledOn (heldIn (temporariesOf (now (temporaries .entry))) (markOf (now (table .entry)) n))
+        (deleteBlock (observationOf (now (obs .entry))))) ⌝ }
+{
+    steps::delete_block(temporaries, obs, tables::mark(&table[..], n) as usize)
+}
+
+// 70: the cell that the temporary points to is marked.
+fn mark_cell(table: &[u8; 65536], n: usize, temporaries: &[u8; 1024], obs: &mut [u8; 3064]) -> u32
+    requires { ⌜ HasSort statement (now table) n × (kindOf (now table) n ≡ 70) ⌝ }
+    ensures { λ r. ⌜ Observes (now (obs .entry)) (now (obs .exit)) r
+        (calledOn (heldIn (temporariesOf (now (temporaries .entry))) (markOf (now (table .entry)) n))
+        (initialise (observationOf (now (obs .entry))))) ⌝ }
+{
+    steps::mark_cell(temporaries, obs, tables::mark(&table[..], n) as usize)
+}
+
+// A statement that runs no other: the number that it ends with, 0 where it finished.
+fn act(
+    table: &[u8; 65536],
+    n: usize,
+    variables: &[u16; 64],
+    temporaries: &mut [u8; 1024],
+    mem: &mut [u8; 18424],
+    obs: &mut [u8; 3064],
+) -> u32
+    requires { ⌜ Ready (now table) n (variablesOf (now variables)) (lent (now mem) (now obs) (now temporaries))
+        × IsAct (kindOf (now table) n) ⌝ }
+    ensures { λ r. ⌜ Acts (now (table .entry)) n (variablesOf (now (variables .entry))) r
+        (lent (now (mem .entry)) (now (obs .entry)) (now (temporaries .entry)))
+        (lent (now (mem .exit)) (now (obs .exit)) (now (temporaries .exit))) ⌝ }
+{
+    match tables::kind(&table[..], n) {
+        40 => 0,
+        41 => assign(table, n, variables, &*temporaries, mem),
+        42 => allocate(table, n, variables, &*temporaries, mem),
+        43 => release(table, n, variables, &*temporaries, mem),
+        60 => take_address(table, n, variables, temporaries, &*mem),
+        61 => take_value(table, n, variables, temporaries, &*mem),
+        63 => take_operation(table, n, temporaries),
+        64 => take_query(table, n, temporaries, &*obs),
+        65 => take_not(table, n, temporaries),
+        67 => assert(table, n, &*temporaries),
+        68 => record_block(table, n, &*temporaries, obs),
+        69 => delete_block(table, n, &*temporaries, obs),
+        _ => mark_cell(table, n, &*temporaries, obs),
+    }
+}
+
+// The same with its answer.
+pub fn step(
+    table: &[u8; 65536],
+    n: usize,
+    variables: &[u16; 64],
+    temporaries: &mut [u8; 1024],
+    mem: &mut [u8; 18424],
+    obs: &mut [u8; 3064],
+    fuel: u32,
+) -> Ended
+    requires { ⌜ Ready (now table) n (variablesOf (now variables)) (lent (now mem) (now obs) (now temporaries))
+        × IsAct (kindOf (now table) n) ⌝ }
+    ensures { λ r. ⌜ Runs (now (table .entry)) n (variablesOf (now (variables .entry))) fuel r
+        (lent (now (mem .entry)) (now (obs .entry)) (now (temporaries .entry)))
+        (lent (now (mem .exit)) (now (obs .exit)) (now (temporaries .exit))) ⌝ }
+{
+    let number = act(table, n, variables, temporaries, mem, obs);
+    statements::conclude(number, statement_of(table, n), fuel)
+}
+
+// What decides between B and C: condition A of 45, the temporary of 66.
+pub fn test(
+    table: &[u8; 65536],
+    n: usize,
+    variables: &[u16; 64],
+    temporaries: &[u8; 1024],
+    mem: &[u8; 18424],
+) -> Test
+    requires { ⌜ HasSort statement (now table) n × IsBranch (kindOf (now table) n) ⌝ }
+    ensures { λ r. ⌜ r ≡ choice (now (table .entry)) n (temporariesOf (now (temporaries .entry)))
+        (variablesOf (now (variables .entry))) (memoryOf (now (mem .entry))) ⌝ }
+{
+    if tables::kind(&table[..], n) == 66 {
+        return steps::test_temporary(temporaries, tables::mark(&table[..], n) as usize);
+    }
+    statements::test_a(table, n, variables, temporaries, mem)
+}
