@@ -2,8 +2,11 @@
 use Prim.Native.Nat.{ℕ}
 use mathlib.Core.Bool.{Bool, cond}
 use mathlib.Core.List.{List}
+use mathlib.Core.Logic.{_≢_}
 use mathlib.Core.Path.{_≡_, refl, sym, ap, _∙_, subst}
 use borrow.Author.Tests.{ne-eqb}
+use Rattle.rules.specs.Kinds.{statement}
+use Rattle.rules.specs.Records.{kindOf}
 use Rattle.rules.specs.Memory.{Change, changed, stopped}
 use Rattle.rules.specs.Evaluation.{Variables}
 use Rattle.rules.specs.Observation.{Noted, noted, refused}
@@ -16,12 +19,13 @@ use Rattle.rules.specs.declared.Test.{Test}
 use Rattle.rules.specs.declared.Test.the-variants as test
 use Rattle.rules.proofs.Keeping.{Ending}
 use Rattle.rules.proofs.Endings.{WatchedEnds, watch-endings}
+use Rattle.rules.proofs.TargetFields.{HasSort, statement-kinds}
 use Rattle.evaluation.specs.State.{temporariesOf}
 use Rattle.statements.specs.declared.Ended.{Ended}
 use Rattle.statements.specs.Ending.{result, concluded, assertNumber, Does}
 use Rattle.statements.proofs.ChangeLaws.{becomes-same}
 use Rattle.steps.specs.Steps.{Takes, Observes}
-use Rattle.watched.specs.Watching.{Lent, lent, goFrom, watchFrom, Ran}
+use Rattle.watched.specs.Watching.{lent, goFrom, watchFrom, IsAct, Ran}
 use Rattle.watched.proofs.Laws.{observation-same, ran-is, ends-above}
 
 concluded-stop : (c s f : ℕ) → Ending 50 c → concluded c s f ≡ result c s f
@@ -123,3 +127,18 @@ module _ (a : TargetStatement) (ρ : Variables) (l o τ : List ℕ) (s r : ℕ) 
       → ((f : ℕ) → watchFrom a ρ (lent l o τ) f ≡ goFrom (asserted l o τ s f r t) (lent l o τ) f) → r ≡ assertNumber t
       → (f : ℕ) → Ran (watchFrom a ρ (lent l o τ) f) (concluded r s f) (lent l o τ) (lent l o τ)
   acts-asserted t e w f = ran-is (e f) (ran-asserted l o τ s f r t (ends f _ (e f)) w)
+
+-- the last of these kinds is what is left
+pub last-act : {X : Type 0} (t : List ℕ) (n : ℕ) → HasSort statement t n → IsAct (kindOf t n) → {k : ℕ}
+    → k ≡ kindOf t n
+    → ((((((((((((X × (k ≢ 40)) × (k ≢ 41)) × (k ≢ 42)) × (k ≢ 43)) × (k ≢ 60)) × (k ≢ 61)) × (k ≢ 63)) × (k ≢ 64))
+    × (k ≢ 65)) × (k ≢ 67)) × (k ≢ 68)) × (k ≢ 69))
+    → kindOf t n ≡ 70
+last-act t n h a e r =
+    statement-kinds t n h
+    (λ d. r .0 .0 .0 .0 .0 .0 .0 .0 .0 .0 .0 .1 (e ∙ d)) (λ d. r .0 .0 .0 .0 .0 .0 .0 .0 .0 .0 .1 (e ∙ d))
+    (λ d. r .0 .0 .0 .0 .0 .0 .0 .0 .0 .1 (e ∙ d)) (λ d. r .0 .0 .0 .0 .0 .0 .0 .0 .1 (e ∙ d))
+    (a .0) (a .1) (a .2) (a .3)
+    (λ d. r .0 .0 .0 .0 .0 .0 .0 .1 (e ∙ d)) (λ d. r .0 .0 .0 .0 .0 .0 .1 (e ∙ d))
+    (λ d. r .0 .0 .0 .0 .0 .1 (e ∙ d)) (λ d. r .0 .0 .0 .0 .1 (e ∙ d)) (λ d. r .0 .0 .0 .1 (e ∙ d))
+    (a .4) (λ d. r .0 .0 .1 (e ∙ d)) (λ d. r .0 .1 (e ∙ d)) (λ d. r .1 (e ∙ d))

@@ -180,10 +180,12 @@ module _ (t i : List ℕ) (f : ℕ) (m o : List ℕ) where
       ]
 
   -- a refusal writes nothing
-  refused-as : (k : ℕ) (r : Answer) → watchedBy checked.Accepted t i f m o ≡ watchedRefused k 0 m o → r ≡ answer k 0 0 0
+  refused-as : (k : ℕ) (r : Answer) → watchedBy checked.Accepted t i f m o ≡ watchedRefused k 0 m o
+      → r ≡ answer k 0 0 0
       → AnsweredBy (watchedBy checked.Accepted t i f m o) r m o
   refused-as k r e w =
-      subst (λ (x : WatchedRun). AnsweredBy x r m o) (sym e) (record { answer = w; memory = refl; observation = refl })
+      subst (λ (x : WatchedRun). AnsweredBy x r m o) (sym e)
+      (record { answer = w; memory = refl; observation = refl })
 
   pub refuse-inputs : (r : Answer) → inputsFault i ≡ true → r ≡ answer 9 0 0 0
       → AnsweredBy (watchedBy checked.Accepted t i f m o) r m o

@@ -104,7 +104,8 @@ outcome-ended (ended c s m o τ f) k r x y v e = v
 module _ (s : TargetStatement) (ρ : Variables) (f : ℕ) (k : Watching) (r : Ended) (x y : Lent)
     (w : Ran (watchFrom s ρ x f) r x y) where
   pub watch-finished : r .number ≡ 0 → watchFrom s ρ x f ≡ goFrom finished y (r .fuel)
-  watch-finished e = outcome-finished (watchFrom s ρ x f) r x y (watch-endings s ρ (memoryOf (x .memory)) (observationOf (x .observation)) (temporariesOf (x .temporaries)) f) w e
+  watch-finished e = outcome-finished (watchFrom s ρ x f) r x y (watch-endings s ρ (memoryOf (x .memory))
+      (observationOf (x .observation)) (temporariesOf (x .temporaries)) f) w e
 
   -- what comes next goes on from there
   pub next-goes : (q : Ended) (z : Lent) → r .number ≡ 0 → Ran (goFrom k y (r .fuel)) q y z

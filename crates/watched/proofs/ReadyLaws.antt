@@ -119,8 +119,10 @@ module _ (t : List ℕ) (n : ℕ) (ρ : Variables) (x : Lent) (h : Ready t n ρ 
       (makeBlock-keeps FitsMemory fits-invariant memory u j (h .fits .memory)) .1
 
   -- a let's child may run where its block was made
-  pub ready-made : kindOf t n ≡ 47 → (k : ℕ) (l : List ℕ) → Becomes (x .memory) l (madeMemory memory (makeBlock memory fixed 1))
-      → making.Name k ≡ makingOf (makeBlock memory fixed 1) → Inside t n ρ (lent l (x .observation) (x .temporaries)) k
+  pub ready-made : kindOf t n ≡ 47 → (k : ℕ) (l : List ℕ) → Becomes (x .memory) l (madeMemory memory
+      (makeBlock memory fixed 1))
+      → making.Name k ≡ makingOf (makeBlock memory fixed 1) → Inside t n ρ (lent l (x .observation)
+      (x .temporaries)) k
   ready-made q k l w e = record {
     within = ready-within;
     smaller = let-child target t n (h .is) q .1;

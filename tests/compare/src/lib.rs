@@ -23,6 +23,17 @@ extern "C" {
         memory: *mut u8,
         memory_len: usize,
     ) -> Returned;
+    fn recorder_run_watched(
+        table: *const u8,
+        table_len: usize,
+        inputs: *const u8,
+        inputs_len: usize,
+        fuel: u32,
+        memory: *mut u8,
+        memory_len: usize,
+        observation: *mut u8,
+        observation_len: usize,
+    ) -> Returned;
     fn recorder_translate(table: *const u8, table_len: usize, out: *mut u8, out_len: usize) -> Returned;
 }
 
@@ -56,6 +67,28 @@ pub fn run_plain(table: &[u8], inputs: &[u8], fuel: u32, memory: &mut [u8]) -> A
             fuel,
             memory.as_mut_ptr(),
             memory.len(),
+        )
+    })
+}
+
+pub fn run_watched(
+    table: &[u8],
+    inputs: &[u8],
+    fuel: u32,
+    memory: &mut [u8],
+    observation: &mut [u8],
+) -> Answer {
+    answer(unsafe {
+        recorder_run_watched(
+            table.as_ptr(),
+            table.len(),
+            inputs.as_ptr(),
+            inputs.len(),
+            fuel,
+            memory.as_mut_ptr(),
+            memory.len(),
+            observation.as_mut_ptr(),
+            observation.len(),
         )
     })
 }

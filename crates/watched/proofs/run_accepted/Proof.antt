@@ -13,36 +13,50 @@ refuse-requires c κs = search needs
 
 returns : tie.Need-returns
 returns c =
-    let a = c .before .before .before .before .before .before .before .args in
-    refuse-inputs (a .table .now) (a .inputs .now) (a .fuel) (a .memory .now) (a .observation .now) (c .refuse .result)
-    (sym (c .before .before .has-inputs-fault .ensures) ∙ c .before .if1 .taken) (c .refuse .ensures)
+    let after-has-inputs-fault = c .before .before in
+    let a = after-has-inputs-fault .before .before .before .before .before .args in
+    refuse-inputs (a .table .now) (a .inputs .now) (a .fuel) (a .memory .now) (a .observation .now)
+    (c .refuse .result)
+    (sym (after-has-inputs-fault .has-inputs-fault .ensures) ∙ c .before .if1 .taken) (c .refuse .ensures)
 
 refuse-requires-2 : tie.Need-refuse-requires-2
 refuse-requires-2 c κs = search needs
 
 returns-2 : tie.Need-returns-2
 returns-2 c =
-    let a = c .before .before .before .before .before .before .before .before .args in
-    refuse-memory (a .table .now) (a .inputs .now) (a .fuel) (a .memory .now) (a .observation .now) (c .refuse2 .result)
-    (sym (c .before .before .before .has-inputs-fault .ensures) ∙ c .before .before .if1 .left) (memory-refused (a .memory .now) (c .before .if2 .taken)) (c .refuse2 .ensures)
+    let after-if1 = c .before .before in
+    let after-has-inputs-fault = after-if1 .before in
+    let a = after-has-inputs-fault .before .before .before .before .before .args in
+    refuse-memory (a .table .now) (a .inputs .now) (a .fuel) (a .memory .now) (a .observation .now)
+    (c .refuse2 .result)
+    (sym (after-has-inputs-fault .has-inputs-fault .ensures) ∙ after-if1 .if1 .left) (memory-refused
+    (a .memory .now) (c .before .if2 .taken)) (c .refuse2 .ensures)
 
 refuse-requires-3 : tie.Need-refuse-requires-3
 refuse-requires-3 c κs = search needs
 
 returns-3 : tie.Need-returns-3
 returns-3 c =
-    let a = c .before .before .before .before .before .before .before .before .before .args in
+    let after-if2 = c .before .before in
+    let after-if1 = after-if2 .before in
+    let after-has-inputs-fault = after-if1 .before in
+    let a = after-has-inputs-fault .before .before .before .before .before .args in
     refuse-observation (a .table .now) (a .inputs .now) (a .fuel) (a .memory .now) (a .observation .now)
-    (c .refuse3 .result) (sym (c .before .before .before .before .has-inputs-fault .ensures) ∙ c .before .before .before .if1 .left) (memory-accepted (a .memory .now) (c .before .before .if2 .left))
+    (c .refuse3 .result) (sym (after-has-inputs-fault .has-inputs-fault .ensures) ∙ after-if1 .if1 .left)
+    (memory-accepted (a .memory .now) (after-if2 .if2 .left))
     (observation-refused (a .observation .now) (c .before .if3 .taken)) (c .refuse3 .ensures)
 
 run-inputs-requires : tie.Need-run-inputs-requires
 run-inputs-requires c κs =
-    let s = c .before .before .before .before .before .before .before .before .before .before in (
+    let after-if3 = c .before .before in
+    let after-if2 = after-if3 .before in
+    let after-if1 = after-if2 .before in
+    let after-has-inputs-fault = after-if1 .before in
+    let s = after-has-inputs-fault .before .before .before .before .before in (
       s .pre,
-      sym (c .before .before .before .before .before .has-inputs-fault .ensures) ∙ c .before .before .before .before .if1 .left,
-      memory-accepted (s .args .memory .now) (c .before .before .before .if2 .left),
-      observation-accepted (s .args .observation .now) (c .before .before .if3 .left),
+      sym (after-has-inputs-fault .has-inputs-fault .ensures) ∙ after-if1 .if1 .left,
+      memory-accepted (s .args .memory .now) (after-if2 .if2 .left),
+      observation-accepted (s .args .observation .now) (after-if3 .if3 .left),
     )
 
 same-length : tie.Need-same-length
@@ -53,10 +67,17 @@ same-length-2 c = search needs
 
 returns-4 : tie.Need-returns-4
 returns-4 c =
-    let a = c .before .before .before .before .before .before .before .before .before .before .before .before .before .before .before .args in
-    run-both (a .table .now) (a .inputs .now) (a .fuel) (a .memory .now) (a .observation .now) (c .before .before .before .before .run-inputs .result) _ _
-    (sym (c .before .before .before .before .before .before .before .before .before .before .has-inputs-fault .ensures) ∙ c .before .before .before .before .before .before .before .before .before .if1 .left) (memory-accepted (a .memory .now) (c .before .before .before .before .before .before .before .before .if2 .left))
-    (observation-accepted (a .observation .now) (c .before .before .before .before .before .before .before .if3 .left)) (c .before .before .before .before .run-inputs .ensures)
+    let after-run-inputs = c .before .before .before .before in
+    let after-if3 = after-run-inputs .before .before .before in
+    let after-if2 = after-if3 .before in
+    let after-if1 = after-if2 .before in
+    let after-has-inputs-fault = after-if1 .before in
+    let a = after-has-inputs-fault .before .before .before .before .before .args in
+    run-both (a .table .now) (a .inputs .now) (a .fuel) (a .memory .now) (a .observation .now)
+    (after-run-inputs .run-inputs .result) _ _
+    (sym (after-has-inputs-fault .has-inputs-fault .ensures) ∙ after-if1 .if1 .left) (memory-accepted
+    (a .memory .now) (after-if2 .if2 .left))
+    (observation-accepted (a .observation .now) (after-if3 .if3 .left)) (after-run-inputs .run-inputs .ensures)
 
 pub run-accepted-spec : {M : Type 1} → statement M
 run-accepted-spec =

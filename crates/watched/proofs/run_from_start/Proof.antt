@@ -9,13 +9,15 @@ start-variables-requires c κs = search needs
 
 run-requires : tie.Need-run-requires
 run-requires c κs =
-    rw (c .before .before .before .before .start-variables .ensures) (c .before .before .before .before .before .pre)
+    let after-start-variables = c .before .before .before .before in
+    rw (after-start-variables .start-variables .ensures) (after-start-variables .before .pre)
 
 returns : tie.Need-returns
 returns c =
-    let s = c .before .before .before .before .before .before .args in
+    let after-start-variables = c .before .before .before .before .before in
+    let s = after-start-variables .before .args in
     leaves-start (statementAt (s .table .now) (s .n)) (s .fuel) (c .run .result) (s .mem .now) _ (s .obs .now) _ _
-    (rw (c .before .before .before .before .before .start-variables .ensures) at (c .run .ensures))
+    (rw (after-start-variables .start-variables .ensures) at (c .run .ensures))
 
 pub run-from-start-spec : {M : Type 1} → statement M
 run-from-start-spec = tie.close (tie.spec start-variables-requires run-requires returns)

@@ -11,30 +11,34 @@ run-memories-requires c κs = search needs
 
 slice-aggregate-copy : tie.Need-slice-aggregate-copy
 slice-aggregate-copy c =
-    let s = c .before .before .before .before .before .before .before .before .before in
-    let x = exit-lengths (s .args .table .now) (s .args .inputs .now) (s .args .fuel) (c .before .before .run-memories .result) _ _
-    (s .pre .0) (s .pre .1) (c .before .before .run-memories .ensures) in
+    let after-run-memories = c .before .before in
+    let s = after-run-memories .before .before .before .before .before .before .before in
+    let x = exit-lengths (s .args .table .now) (s .args .inputs .now) (s .args .fuel) _ _ _ (s .pre .0) (s .pre .1)
+    (after-run-memories .run-memories .ensures) in
     sym (x .0)
 
 copy-requires : tie.Need-copy-requires
 copy-requires c κs =
-    let s = c .before .before .before .before .before .before .before .before .before in
-    let x = exit-lengths (s .args .table .now) (s .args .inputs .now) (s .args .fuel) (c .before .before .run-memories .result) _ _
-    (s .pre .0) (s .pre .1) (c .before .before .run-memories .ensures) in
+    let after-run-memories = c .before .before in
+    let s = after-run-memories .before .before .before .before .before .before .before in
+    let x = exit-lengths (s .args .table .now) (s .args .inputs .now) (s .args .fuel) _ _ _ (s .pre .0) (s .pre .1)
+    (after-run-memories .run-memories .ensures) in
     omega (arith, x .0, memory-whole (s .args .memory .now) (s .pre .2))
 
 slice-aggregate-copy-2 : tie.Need-slice-aggregate-copy-2
 slice-aggregate-copy-2 c =
-    let s = c .before .before .before .before .before .before .before .before .before .before .before .before .before .before in
-    let x = exit-lengths (s .args .table .now) (s .args .inputs .now) (s .args .fuel) (c .before .before .before .before .before .before .before .run-memories .result) _ _
-    (s .pre .0) (s .pre .1) (c .before .before .before .before .before .before .before .run-memories .ensures) in
+    let after-run-memories = c .before .before .before .before .before .before .before in
+    let s = after-run-memories .before .before .before .before .before .before .before in
+    let x = exit-lengths (s .args .table .now) (s .args .inputs .now) (s .args .fuel) _ _ _ (s .pre .0) (s .pre .1)
+    (after-run-memories .run-memories .ensures) in
     sym (x .1)
 
 copy-requires-2 : tie.Need-copy-requires-2
 copy-requires-2 c κs =
-    let s = c .before .before .before .before .before .before .before .before .before .before .before .before .before .before in
-    let x = exit-lengths (s .args .table .now) (s .args .inputs .now) (s .args .fuel) (c .before .before .before .before .before .before .before .run-memories .result) _ _
-    (s .pre .0) (s .pre .1) (c .before .before .before .before .before .before .before .run-memories .ensures) in
+    let after-run-memories = c .before .before .before .before .before .before .before in
+    let s = after-run-memories .before .before .before .before .before .before .before in
+    let x = exit-lengths (s .args .table .now) (s .args .inputs .now) (s .args .fuel) _ _ _ (s .pre .0) (s .pre .1)
+    (after-run-memories .run-memories .ensures) in
     omega (arith, x .1, observation-whole (s .args .observation .now) (s .pre .3))
 
 same-length : tie.Need-same-length
@@ -45,18 +49,21 @@ same-length-2 c = search needs
 
 returns : tie.Need-returns
 returns c =
-    let s = c .before .before .before .before .before .before .before .before .before .before .before .before .before .before .before .before .before in
-    let w = c .before .before .before .before .before .before .before .before .before .before .run-memories .ensures in
-    let x = exit-lengths (s .args .table .now) (s .args .inputs .now) (s .args .fuel) (c .before .before .before .before .before .before .before .before .before .before .run-memories .result) _ _
-    (s .pre .0) (s .pre .1) w in
+    let after-copy2 = c .before .before in
+    let after-copy = after-copy2 .before .before .before .before .before in
+    let after-run-memories = after-copy .before .before .before in
+    let s = after-run-memories .before .before .before .before .before .before .before in
+    let w = after-run-memories .run-memories .ensures in
+    let x = exit-lengths (s .args .table .now) (s .args .inputs .now) (s .args .fuel) _ _ _ (s .pre .0)
+    (s .pre .1) w in
     record {
       answer = w .answer;
       memory =
-          c .before .before .before .before .before .before .before .copy .ensures
+          after-copy .copy .ensures
           ∙ put-all (s .args .memory .now) _ (memory-whole (s .args .memory .now) (s .pre .2) ∙ sym (x .0))
           ∙ w .memory;
       observation =
-          c .before .before .copy2 .ensures
+          after-copy2 .copy2 .ensures
           ∙ put-all (s .args .observation .now) _
           (observation-whole (s .args .observation .now) (s .pre .3) ∙ sym (x .1))
           ∙ w .observation;

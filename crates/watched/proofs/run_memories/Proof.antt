@@ -17,9 +17,12 @@ start-observation-requires c κs =
 
 run-table-requires : tie.Need-run-table-requires
 run-table-requires c κs =
-    let s = c .before .before .before .before .before .before .before .before in
-    let r = start-ready (s .args .inputs .now) (s .pre .1) (c .before .before .before .before .start .last .0) (c .before .before .start-observation .last .0)
-    (c .before .before .before .before .start .ensures) (c .before .before .start-observation .ensures) in
+    let after-start-observation = c .before .before in
+    let after-start = after-start-observation .before .before in
+    let s = after-start .before .before .before .before in
+    let r = start-ready (s .args .inputs .now) (s .pre .1) (after-start .start .last .0)
+    (after-start-observation .start-observation .last .0)
+    (after-start .start .ensures) (after-start-observation .start-observation .ensures) in
     (s .pre .0, r .0, r .1)
 
 count-free-requires : tie.Need-count-free-requires
@@ -27,10 +30,15 @@ count-free-requires c κs = search needs
 
 returns : tie.Need-returns
 returns c =
-    let s = c .before .before .before .before .before .before .before .before .before .before .before in
-    entry-ends (s .args .inputs .now) (s .pre .1) (c .before .before .before .before .before .before .before .start .last .0) (c .before .before .before .before .before .start-observation .last .0) (c .before .before .before .before .before .before .before .start .ensures)
-    (c .before .before .before .before .before .start-observation .ensures) (s .args .table .now) (s .args .fuel) (c .before .before .run-table .result) _ _ (c .count-free .result)
-    (c .before .before .run-table .ensures) (c .count-free .ensures)
+    let after-run-table = c .before .before in
+    let after-start-observation = after-run-table .before .before .before in
+    let after-start = after-start-observation .before .before in
+    let s = after-start .before .before .before .before in
+    entry-ends (s .args .inputs .now) (s .pre .1) (after-start .start .last .0)
+    (after-start-observation .start-observation .last .0) (after-start .start .ensures)
+    (after-start-observation .start-observation .ensures) (s .args .table .now) (s .args .fuel)
+    (after-run-table .run-table .result) _ _ (c .count-free .result)
+    (after-run-table .run-table .ensures) (c .count-free .ensures)
 
 pub run-memories-spec : {M : Type 1} → statement M
 run-memories-spec =

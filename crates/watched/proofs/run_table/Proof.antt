@@ -21,20 +21,23 @@ copy-requires c κs =
 
 run-from-start-requires : tie.Need-run-from-start-requires
 run-from-start-requires c κs =
-    let s = c .before .before .before .before .before .before .before in
-    rw (c .before .before .before .before .copy .ensures)
-    (ready-start (s .args .table .now) (replicate 65536 0) (s .pre .0) (s .args .mem .now) (s .args .obs .now) (s .pre .1)
+    let after-copy = c .before .before .before .before in
+    let s = after-copy .before .before .before in
+    rw (after-copy .copy .ensures)
+    (ready-start (s .args .table .now) (replicate 65536 0) (s .pre .0) (s .args .mem .now) (s .args .obs .now)
+    (s .pre .1)
     (s .pre .2))
 
 returns : tie.Need-returns
 returns c =
-    let s = c .before .before .before .before .before .before .before .before in
+    let after-copy = c .before .before .before .before .before in
+    let s = after-copy .before .before .before in
     let m = memoryOf (s .args .mem .now) in
     let o = observationOf (s .args .obs .now) in
     leaves-is
     (ap (λ (x : TargetStatement). watch x startVariables m o startTemporaries (s .args .fuel))
     (sym (same-program (s .args .table .now) (replicate 65536 0) (s .pre .0))))
-    (rw (c .before .before .before .before .before .copy .ensures) at (c .run-from-start .ensures))
+    (rw (after-copy .copy .ensures) at (c .run-from-start .ensures))
 
 pub run-table-spec : {M : Type 1} → statement M
 run-table-spec =

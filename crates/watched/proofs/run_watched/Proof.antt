@@ -12,7 +12,9 @@ enum-told c = search needs
 
 run-accepted-requires : tie.Need-run-accepted-requires
 run-accepted-requires c κs =
-    sym (c .before .before .before .before .check-target .ensures) ∙ c .before .before .enum-told .given .1
+    let after-enum-told = c .before .before in
+    let after-check-target = after-enum-told .before .before in
+    sym (after-check-target .check-target .ensures) ∙ after-enum-told .enum-told .given .1
 
 enum-known-k : tie.Need-enum-known-k
 enum-known-k c = search needs
@@ -28,15 +30,22 @@ same-length-2 c = search needs
 
 returns : tie.Need-returns
 returns c =
-    let a = c .before .before .before .before .before .before .before .before .before .before .before .before .before .before .args in
+    let after-run-accepted = c .before .before .before .before in
+    let after-enum-told = after-run-accepted .before .before .before in
+    let after-check-target = after-enum-told .before .before in
+    let a = after-check-target .before .before .before .before .before .args in
     answered-by _ _ (a .table .now) (a .inputs .now) (a .fuel) (a .memory .now) (a .observation .now)
-    (c .before .before .before .before .run-accepted .result) _ _ (sym (c .before .before .before .before .before .before .before .before .before .check-target .ensures) ∙ c .before .before .before .before .before .before .before .enum-told .given .1) (c .before .before .before .before .run-accepted .ensures)
+    (after-run-accepted .run-accepted .result) _ _ (sym (after-check-target .check-target .ensures)
+    ∙ after-enum-told .enum-told .given .1) (after-run-accepted .run-accepted .ensures)
 
 returns-2 : tie.Need-returns-2
 returns-2 c =
-    let a = c .before .before .before .before .before .before .before .before .before .args in
-    answered-by _ _ (a .table .now) (a .inputs .now) (a .fuel) (a .memory .now) (a .observation .now) (c .refuse .result)
-    (a .memory .now) (a .observation .now) (sym (c .before .before .before .before .check-target .ensures) ∙ c .before .before .k .given .1)
+    let after-k = c .before .before in
+    let after-check-target = after-k .before .before in
+    let a = after-check-target .before .before .before .before .before .args in
+    answered-by _ _ (a .table .now) (a .inputs .now) (a .fuel) (a .memory .now) (a .observation .now)
+    (c .refuse .result)
+    (a .memory .now) (a .observation .now) (sym (after-check-target .check-target .ensures) ∙ after-k .k .given .1)
     (record { answer = c .refuse .ensures; memory = refl; observation = refl })
 
 pub run-watched-spec : {M : Type 1} → statement M

@@ -4,12 +4,12 @@ use Rattle.rules.specs.Records.{markOf}
 use Rattle.rules.specs.Evaluation.{condition}
 use Rattle.rules.specs.Watched.{heldIn}
 use Rattle.rules.specs.Layout.{memoryOf, observationOf}
-use Rattle.rules.proofs.TargetFields.{statementAt, numberAt, statement-kinds}
+use Rattle.rules.proofs.TargetFields.{statementAt, numberAt}
 use Rattle.rules.proofs.TargetArms.{watch-skip, watch-assign, watch-new, watch-free, watch-address, watch-value, watch-operation, watch-query, watch-not, watch-assert-on, watch-store-block, watch-delete-block, watch-initialise}
 use Rattle.evaluation.specs.State.{variablesOf, temporariesOf}
 use Rattle.watched.specs.Watching.{lent}
 use Rattle.watched.proofs.Laws.{ran-is, ran-finished}
-use Rattle.watched.proofs.ActLaws.{acts-change, acts-taken, acts-observed, acts-asserted}
+use Rattle.watched.proofs.ActLaws.{last-act, acts-change, acts-taken, acts-observed, acts-asserted}
 use Rattle.watched.proofs.ReadyLaws.{ready-within, assign-fits}
 use borrow.Author.Needs.{needs}
 use Rattle.watched.proofs.acts.act.Statement.{statement}
@@ -22,66 +22,76 @@ kind-requires c κs =
 
 assign-requires : tie.Need-assign-requires
 assign-requires c κs =
-    let s = c .before .before .before .before .before in
-    let q = sym (c .before .before .before .kind .ensures) ∙ c .before .before .match .keys2 in
+    let after-match = c .before .before in
+    let after-kind = after-match .before in
+    let s = after-kind .before .before in
+    let q = sym (after-kind .kind .ensures) ∙ after-match .match .keys2 in
     (s .pre .0 .is, q, assign-fits (s .args .table .now) (s .args .n) _ _ (s .pre .0) q)
 
 allocate-requires : tie.Need-allocate-requires
 allocate-requires c κs =
-    (c .before .before .before .before .before .pre .0 .is, sym (c .before .before .before .kind .ensures) ∙ c .before .before .match .keys3)
+    let after-match = c .before .before in
+    let after-kind = after-match .before in
+    (after-kind .before .before .pre .0 .is, sym (after-kind .kind .ensures) ∙ after-match .match .keys3)
 
 release-requires : tie.Need-release-requires
 release-requires c κs =
-    (c .before .before .before .before .before .pre .0 .is, sym (c .before .before .before .kind .ensures) ∙ c .before .before .match .keys4)
+    let after-match = c .before .before in
+    let after-kind = after-match .before in
+    (after-kind .before .before .pre .0 .is, sym (after-kind .kind .ensures) ∙ after-match .match .keys4)
 
 take-address-requires : tie.Need-take-address-requires
 take-address-requires c κs =
-    (c .before .before .before .before .before .pre .0 .is, sym (c .before .before .before .kind .ensures) ∙ c .before .before .match .keys5)
+    let after-match = c .before .before in
+    let after-kind = after-match .before in
+    (after-kind .before .before .pre .0 .is, sym (after-kind .kind .ensures) ∙ after-match .match .keys5)
 
 take-value-requires : tie.Need-take-value-requires
 take-value-requires c κs =
-    (c .before .before .before .before .before .pre .0 .is, sym (c .before .before .before .kind .ensures) ∙ c .before .before .match .keys6)
+    let after-match = c .before .before in
+    let after-kind = after-match .before in
+    (after-kind .before .before .pre .0 .is, sym (after-kind .kind .ensures) ∙ after-match .match .keys6)
 
 take-operation-requires : tie.Need-take-operation-requires
 take-operation-requires c κs =
-    (c .before .before .before .before .pre .0 .is, sym (c .before .before .kind .ensures) ∙ c .before .match .keys7)
+    let after-kind = c .before .before in
+    (after-kind .before .before .pre .0 .is, sym (after-kind .kind .ensures) ∙ c .before .match .keys7)
 
 take-query-requires : tie.Need-take-query-requires
 take-query-requires c κs =
-    (c .before .before .before .before .before .pre .0 .is, sym (c .before .before .before .kind .ensures) ∙ c .before .before .match .keys8)
+    let after-match = c .before .before in
+    let after-kind = after-match .before in
+    (after-kind .before .before .pre .0 .is, sym (after-kind .kind .ensures) ∙ after-match .match .keys8)
 
 take-not-requires : tie.Need-take-not-requires
 take-not-requires c κs =
-    (c .before .before .before .before .pre .0 .is, sym (c .before .before .kind .ensures) ∙ c .before .match .keys9)
+    let after-kind = c .before .before in
+    (after-kind .before .before .pre .0 .is, sym (after-kind .kind .ensures) ∙ c .before .match .keys9)
 
 assert-requires : tie.Need-assert-requires
 assert-requires c κs =
-    (c .before .before .before .before .pre .0 .is, sym (c .before .before .kind .ensures) ∙ c .before .match .keys10)
+    let after-kind = c .before .before in
+    (after-kind .before .before .pre .0 .is, sym (after-kind .kind .ensures) ∙ c .before .match .keys10)
 
 record-block-requires : tie.Need-record-block-requires
 record-block-requires c κs =
-    (c .before .before .before .before .before .pre .0 .is, sym (c .before .before .before .kind .ensures) ∙ c .before .before .match .keys11)
+    let after-match = c .before .before in
+    let after-kind = after-match .before in
+    (after-kind .before .before .pre .0 .is, sym (after-kind .kind .ensures) ∙ after-match .match .keys11)
 
 delete-block-requires : tie.Need-delete-block-requires
 delete-block-requires c κs =
-    (c .before .before .before .before .before .pre .0 .is, sym (c .before .before .before .kind .ensures) ∙ c .before .before .match .keys12)
+    let after-match = c .before .before in
+    let after-kind = after-match .before in
+    (after-kind .before .before .pre .0 .is, sym (after-kind .kind .ensures) ∙ after-match .match .keys12)
 
 mark-cell-requires : tie.Need-mark-cell-requires
 mark-cell-requires c κs =
-    let s = c .before .before .before .before .before in
-    let k = c .before .before .before .kind .ensures in
-    let r = c .before .before .match .rest in
-    let a = s .pre .1 in (
-      s .pre .0 .is,
-      statement-kinds (s .args .table .now) (s .args .n) (s .pre .0 .is)
-          (λ e. r .0 .0 .0 .0 .0 .0 .0 .0 .0 .0 .0 .1 (k ∙ e))
-          (λ e. r .0 .0 .0 .0 .0 .0 .0 .0 .0 .0 .1 (k ∙ e))
-          (λ e. r .0 .0 .0 .0 .0 .0 .0 .0 .0 .1 (k ∙ e)) (λ e. r .0 .0 .0 .0 .0 .0 .0 .0 .1 (k ∙ e))
-          (a .0) (a .1) (a .2) (a .3) (λ e. r .0 .0 .0 .0 .0 .0 .0 .1 (k ∙ e))
-          (λ e. r .0 .0 .0 .0 .0 .0 .1 (k ∙ e)) (λ e. r .0 .0 .0 .0 .0 .1 (k ∙ e))
-          (λ e. r .0 .0 .0 .0 .1 (k ∙ e)) (λ e. r .0 .0 .0 .1 (k ∙ e)) (a .4) (λ e. r .0 .0 .1 (k ∙ e))
-          (λ e. r .0 .1 (k ∙ e)) (λ e. r .1 (k ∙ e)),
-    )
+    let after-match = c .before .before in
+    let after-kind = after-match .before in
+    let s = after-kind .before .before in
+    let h = s .pre .0 .is in
+    (h, last-act (s .args .table .now) (s .args .n) h (s .pre .1) (after-kind .kind .ensures) (after-match .match .rest))
 
 returns : tie.Need-returns
 returns c =
@@ -94,11 +104,14 @@ returns c =
     let o = s .args .obs .now in
     let τ = s .args .temporaries .now in
     let h = s .pre .0 .is in
-    λ f. ran-is (watch-skip T n h ρ (memoryOf l) (observationOf o) (temporariesOf τ) f q) (ran-finished (lent l o τ) f)
+    λ f. ran-is (watch-skip T n h ρ (memoryOf l) (observationOf o) (temporariesOf τ) f q) (ran-finished
+    (lent l o τ) f)
 
 returns-2 : tie.Need-returns-2
 returns-2 c =
-    let s = c .before .before .before .before .before .before in
+    let after-match = c .before .before .before in
+    let after-kind = after-match .before in
+    let s = after-kind .before .before in
     let T = s .args .table .now in
     let n = s .args .n in
     let ρ = variablesOf (s .args .variables .now) in
@@ -106,13 +119,15 @@ returns-2 c =
     let o = s .args .obs .now in
     let τ = s .args .temporaries .now in
     let h = s .pre .0 .is in
-    let q = sym (c .before .before .before .before .kind .ensures) ∙ c .before .before .before .match .keys2 in
+    let q = sym (after-kind .kind .ensures) ∙ after-match .match .keys2 in
     acts-change (statementAt T n) ρ l o τ (numberAt T n) (c .assign .result) _ _
     (λ f. watch-assign T n h ρ (memoryOf l) (observationOf o) (temporariesOf τ) f q) (c .assign .ensures)
 
 returns-3 : tie.Need-returns-3
 returns-3 c =
-    let s = c .before .before .before .before .before .before in
+    let after-match = c .before .before .before in
+    let after-kind = after-match .before in
+    let s = after-kind .before .before in
     let T = s .args .table .now in
     let n = s .args .n in
     let ρ = variablesOf (s .args .variables .now) in
@@ -120,13 +135,15 @@ returns-3 c =
     let o = s .args .obs .now in
     let τ = s .args .temporaries .now in
     let h = s .pre .0 .is in
-    let q = sym (c .before .before .before .before .kind .ensures) ∙ c .before .before .before .match .keys3 in
+    let q = sym (after-kind .kind .ensures) ∙ after-match .match .keys3 in
     acts-change (statementAt T n) ρ l o τ (numberAt T n) (c .allocate .result) _ _
     (λ f. watch-new T n h ρ (memoryOf l) (observationOf o) (temporariesOf τ) f q) (c .allocate .ensures)
 
 returns-4 : tie.Need-returns-4
 returns-4 c =
-    let s = c .before .before .before .before .before .before in
+    let after-match = c .before .before .before in
+    let after-kind = after-match .before in
+    let s = after-kind .before .before in
     let T = s .args .table .now in
     let n = s .args .n in
     let ρ = variablesOf (s .args .variables .now) in
@@ -134,13 +151,15 @@ returns-4 c =
     let o = s .args .obs .now in
     let τ = s .args .temporaries .now in
     let h = s .pre .0 .is in
-    let q = sym (c .before .before .before .before .kind .ensures) ∙ c .before .before .before .match .keys4 in
+    let q = sym (after-kind .kind .ensures) ∙ after-match .match .keys4 in
     acts-change (statementAt T n) ρ l o τ (numberAt T n) (c .release .result) _ _
     (λ f. watch-free T n h ρ (memoryOf l) (observationOf o) (temporariesOf τ) f q) (c .release .ensures)
 
 returns-5 : tie.Need-returns-5
 returns-5 c =
-    let s = c .before .before .before .before .before .before in
+    let after-match = c .before .before .before in
+    let after-kind = after-match .before in
+    let s = after-kind .before .before in
     let T = s .args .table .now in
     let n = s .args .n in
     let ρ = variablesOf (s .args .variables .now) in
@@ -148,13 +167,15 @@ returns-5 c =
     let o = s .args .obs .now in
     let τ = s .args .temporaries .now in
     let h = s .pre .0 .is in
-    let q = sym (c .before .before .before .before .kind .ensures) ∙ c .before .before .before .match .keys5 in
+    let q = sym (after-kind .kind .ensures) ∙ after-match .match .keys5 in
     acts-taken (statementAt T n) ρ l o τ (numberAt T n) (c .take-address .result) _ _ _
     (λ f. watch-address T n h ρ (memoryOf l) (observationOf o) (temporariesOf τ) f q) (c .take-address .ensures)
 
 returns-6 : tie.Need-returns-6
 returns-6 c =
-    let s = c .before .before .before .before .before .before in
+    let after-match = c .before .before .before in
+    let after-kind = after-match .before in
+    let s = after-kind .before .before in
     let T = s .args .table .now in
     let n = s .args .n in
     let ρ = variablesOf (s .args .variables .now) in
@@ -162,13 +183,15 @@ returns-6 c =
     let o = s .args .obs .now in
     let τ = s .args .temporaries .now in
     let h = s .pre .0 .is in
-    let q = sym (c .before .before .before .before .kind .ensures) ∙ c .before .before .before .match .keys6 in
+    let q = sym (after-kind .kind .ensures) ∙ after-match .match .keys6 in
     acts-taken (statementAt T n) ρ l o τ (numberAt T n) (c .take-value .result) _ _ _
     (λ f. watch-value T n h ρ (memoryOf l) (observationOf o) (temporariesOf τ) f q) (c .take-value .ensures)
 
 returns-7 : tie.Need-returns-7
 returns-7 c =
-    let s = c .before .before .before .before .before in
+    let after-match = c .before .before in
+    let after-kind = after-match .before in
+    let s = after-kind .before .before in
     let T = s .args .table .now in
     let n = s .args .n in
     let ρ = variablesOf (s .args .variables .now) in
@@ -176,13 +199,15 @@ returns-7 c =
     let o = s .args .obs .now in
     let τ = s .args .temporaries .now in
     let h = s .pre .0 .is in
-    let q = sym (c .before .before .before .kind .ensures) ∙ c .before .before .match .keys7 in
+    let q = sym (after-kind .kind .ensures) ∙ after-match .match .keys7 in
     acts-taken (statementAt T n) ρ l o τ (numberAt T n) (c .take-operation .result) _ _ _
     (λ f. watch-operation T n h ρ (memoryOf l) (observationOf o) (temporariesOf τ) f q) (c .take-operation .ensures)
 
 returns-8 : tie.Need-returns-8
 returns-8 c =
-    let s = c .before .before .before .before .before .before in
+    let after-match = c .before .before .before in
+    let after-kind = after-match .before in
+    let s = after-kind .before .before in
     let T = s .args .table .now in
     let n = s .args .n in
     let ρ = variablesOf (s .args .variables .now) in
@@ -190,13 +215,15 @@ returns-8 c =
     let o = s .args .obs .now in
     let τ = s .args .temporaries .now in
     let h = s .pre .0 .is in
-    let q = sym (c .before .before .before .before .kind .ensures) ∙ c .before .before .before .match .keys8 in
+    let q = sym (after-kind .kind .ensures) ∙ after-match .match .keys8 in
     acts-taken (statementAt T n) ρ l o τ (numberAt T n) (c .take-query .result) _ _ _
     (λ f. watch-query T n h ρ (memoryOf l) (observationOf o) (temporariesOf τ) f q) (c .take-query .ensures)
 
 returns-9 : tie.Need-returns-9
 returns-9 c =
-    let s = c .before .before .before .before .before in
+    let after-match = c .before .before in
+    let after-kind = after-match .before in
+    let s = after-kind .before .before in
     let T = s .args .table .now in
     let n = s .args .n in
     let ρ = variablesOf (s .args .variables .now) in
@@ -204,13 +231,15 @@ returns-9 c =
     let o = s .args .obs .now in
     let τ = s .args .temporaries .now in
     let h = s .pre .0 .is in
-    let q = sym (c .before .before .before .kind .ensures) ∙ c .before .before .match .keys9 in
+    let q = sym (after-kind .kind .ensures) ∙ after-match .match .keys9 in
     acts-taken (statementAt T n) ρ l o τ (numberAt T n) (c .take-not .result) _ _ _
     (λ f. watch-not T n h ρ (memoryOf l) (observationOf o) (temporariesOf τ) f q) (c .take-not .ensures)
 
 returns-10 : tie.Need-returns-10
 returns-10 c =
-    let s = c .before .before .before .before .before in
+    let after-match = c .before .before in
+    let after-kind = after-match .before in
+    let s = after-kind .before .before in
     let T = s .args .table .now in
     let n = s .args .n in
     let ρ = variablesOf (s .args .variables .now) in
@@ -218,14 +247,16 @@ returns-10 c =
     let o = s .args .obs .now in
     let τ = s .args .temporaries .now in
     let h = s .pre .0 .is in
-    let q = sym (c .before .before .before .kind .ensures) ∙ c .before .before .match .keys10 in
+    let q = sym (after-kind .kind .ensures) ∙ after-match .match .keys10 in
     acts-asserted (statementAt T n) ρ l o τ (numberAt T n) (c .assert .result)
     (condition (heldIn (temporariesOf τ) (markOf T n)))
     (λ f. watch-assert-on T n h ρ (memoryOf l) (observationOf o) (temporariesOf τ) f q) (c .assert .ensures)
 
 returns-11 : tie.Need-returns-11
 returns-11 c =
-    let s = c .before .before .before .before .before .before in
+    let after-match = c .before .before .before in
+    let after-kind = after-match .before in
+    let s = after-kind .before .before in
     let T = s .args .table .now in
     let n = s .args .n in
     let ρ = variablesOf (s .args .variables .now) in
@@ -233,13 +264,15 @@ returns-11 c =
     let o = s .args .obs .now in
     let τ = s .args .temporaries .now in
     let h = s .pre .0 .is in
-    let q = sym (c .before .before .before .before .kind .ensures) ∙ c .before .before .before .match .keys11 in
+    let q = sym (after-kind .kind .ensures) ∙ after-match .match .keys11 in
     acts-observed (statementAt T n) ρ l o τ (numberAt T n) (c .record-block .result) _ _
     (λ f. watch-store-block T n h ρ (memoryOf l) (observationOf o) (temporariesOf τ) f q) (c .record-block .ensures)
 
 returns-12 : tie.Need-returns-12
 returns-12 c =
-    let s = c .before .before .before .before .before .before in
+    let after-match = c .before .before .before in
+    let after-kind = after-match .before in
+    let s = after-kind .before .before in
     let T = s .args .table .now in
     let n = s .args .n in
     let ρ = variablesOf (s .args .variables .now) in
@@ -247,13 +280,15 @@ returns-12 c =
     let o = s .args .obs .now in
     let τ = s .args .temporaries .now in
     let h = s .pre .0 .is in
-    let q = sym (c .before .before .before .before .kind .ensures) ∙ c .before .before .before .match .keys12 in
+    let q = sym (after-kind .kind .ensures) ∙ after-match .match .keys12 in
     acts-observed (statementAt T n) ρ l o τ (numberAt T n) (c .delete-block .result) _ _
     (λ f. watch-delete-block T n h ρ (memoryOf l) (observationOf o) (temporariesOf τ) f q) (c .delete-block .ensures)
 
 returns-13 : tie.Need-returns-13
 returns-13 c =
-    let s = c .before .before .before .before .before .before in
+    let after-match = c .before .before .before in
+    let after-kind = after-match .before in
+    let s = after-kind .before .before in
     let T = s .args .table .now in
     let n = s .args .n in
     let ρ = variablesOf (s .args .variables .now) in
@@ -261,17 +296,7 @@ returns-13 c =
     let o = s .args .obs .now in
     let τ = s .args .temporaries .now in
     let h = s .pre .0 .is in
-    let k = c .before .before .before .before .kind .ensures in
-    let r = c .before .before .before .match .rest in
-    let a = s .pre .1 in
-    let q = statement-kinds T n h
-    (λ e. r .0 .0 .0 .0 .0 .0 .0 .0 .0 .0 .0 .1 (k ∙ e))
-    (λ e. r .0 .0 .0 .0 .0 .0 .0 .0 .0 .0 .1 (k ∙ e))
-    (λ e. r .0 .0 .0 .0 .0 .0 .0 .0 .0 .1 (k ∙ e)) (λ e. r .0 .0 .0 .0 .0 .0 .0 .0 .1 (k ∙ e))
-    (a .0) (a .1) (a .2) (a .3) (λ e. r .0 .0 .0 .0 .0 .0 .0 .1 (k ∙ e))
-    (λ e. r .0 .0 .0 .0 .0 .0 .1 (k ∙ e)) (λ e. r .0 .0 .0 .0 .0 .1 (k ∙ e))
-    (λ e. r .0 .0 .0 .0 .1 (k ∙ e)) (λ e. r .0 .0 .0 .1 (k ∙ e)) (a .4) (λ e. r .0 .0 .1 (k ∙ e))
-    (λ e. r .0 .1 (k ∙ e)) (λ e. r .1 (k ∙ e)) in
+    let q = last-act T n h (s .pre .1) (after-kind .kind .ensures) (after-match .match .rest) in
     acts-observed (statementAt T n) ρ l o τ (numberAt T n) (c .mark-cell .result) _ _
     (λ f. watch-initialise T n h ρ (memoryOf l) (observationOf o) (temporariesOf τ) f q) (c .mark-cell .ensures)
 

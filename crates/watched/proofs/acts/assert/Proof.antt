@@ -30,9 +30,11 @@ assert-number-requires c κs = search needs
 
 returns : tie.Need-returns
 returns c =
-    let τ = temporariesOf (c .before .before .before .before .args .temporaries .now) in
+    let after-mark = c .before .before in
+    let τ = temporariesOf (after-mark .before .before .args .temporaries .now) in
     c .assert-number .ensures
-    ∙ ap assertNumber (c .before .test-temporary .ensures ∙ ap (λ (k : ℕ). condition (heldIn τ k)) (c .before .before .mark .ensures))
+    ∙ ap assertNumber (c .before .test-temporary .ensures ∙ ap (λ (k : ℕ). condition (heldIn τ k))
+    (after-mark .mark .ensures))
 
 pub assert-spec : {M : Type 1} → statement M
 assert-spec =

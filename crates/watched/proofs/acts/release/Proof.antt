@@ -19,9 +19,10 @@ free-at-requires c κs = tt
 
 returns : tie.Need-returns
 returns c =
-    let l = c .before .before .before .before .args .mem .now in
+    let after-evaluate-a = c .before .before in
+    let l = after-evaluate-a .before .before .args .mem .now in
     does-is {r = c .free-at .result} {a = l} {b = c .free-at .last .0}
-    (sym (ap (freed (memoryOf l)) (c .before .before .evaluate-a .ensures))) (c .free-at .ensures)
+    (sym (ap (freed (memoryOf l)) (after-evaluate-a .evaluate-a .ensures))) (c .free-at .ensures)
 
 pub release-spec : {M : Type 1} → statement M
 release-spec = tie.close (tie.spec evaluate-a-requires free-at-requires returns)

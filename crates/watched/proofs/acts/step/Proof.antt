@@ -13,7 +13,9 @@ conclude-requires c κs = search needs
 
 returns : tie.Need-returns
 returns c =
-    rw (c .conclude .ensures, c .before .statement-of .ensures) (c .before .before .act .ensures (c .before .before .before .before .before .before .args .fuel))
+    let after-act = c .before .before in
+    rw (c .conclude .ensures, c .before .statement-of .ensures) (after-act .act .ensures
+    (after-act .before .before .before .before .args .fuel))
 
 pub step-spec : {M : Type 1} → statement M
 step-spec = tie.close (tie.spec act-requires statement-of-requires conclude-requires returns)

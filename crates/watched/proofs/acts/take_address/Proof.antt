@@ -31,7 +31,13 @@ take-evaluated-requires c κs =
 
 returns : tie.Need-returns
 returns c =
-    rw (c .before .mark .ensures, c .before .before .before .before .address .ensures ∙ ap addressOf (c .before .before .before .before .before .find-a .ensures)) at (c .take-evaluated .ensures)
+    let after-address = c .before .before .before .before in
+    let after-find-a = after-address .before in
+    rw (
+      c .before .mark .ensures,
+      after-address .address .ensures ∙ ap addressOf
+          (after-find-a .find-a .ensures),
+    ) at (c .take-evaluated .ensures)
 
 pub take-address-spec : {M : Type 1} → statement M
 take-address-spec =

@@ -33,7 +33,8 @@ take-operation-requires c κs =
 
 returns : tie.Need-returns
 returns c =
-    rw (c .before .mark .ensures, c .before .before .before .before .child-c .ensures) at (c .take-operation .ensures)
+    let after-child-c = c .before .before .before .before in
+    rw (c .before .mark .ensures, after-child-c .child-c .ensures) at (c .take-operation .ensures)
 
 pub take-operation-spec : {M : Type 1} → statement M
 take-operation-spec =

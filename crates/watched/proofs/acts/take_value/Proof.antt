@@ -26,7 +26,8 @@ take-evaluated-requires c κs =
 
 returns : tie.Need-returns
 returns c =
-    rw (c .before .mark .ensures, c .before .before .before .before .evaluate-a .ensures) at (c .take-evaluated .ensures)
+    let after-evaluate-a = c .before .before .before .before in
+    rw (c .before .mark .ensures, after-evaluate-a .evaluate-a .ensures) at (c .take-evaluated .ensures)
 
 pub take-value-spec : {M : Type 1} → statement M
 take-value-spec =

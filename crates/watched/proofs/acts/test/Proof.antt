@@ -28,16 +28,20 @@ cast-test-temporary c = search needs
 
 test-temporary-requires : tie.Need-test-temporary-requires
 test-temporary-requires c κs =
-    let s = c .before .before .before .before .before in
-    let q = sym (c .before .before .before .kind .ensures) ∙ c .before .before .if1 .taken in
+    let after-if1 = c .before .before in
+    let after-kind = after-if1 .before in
+    let s = after-kind .before .before in
+    let q = sym (after-kind .kind .ensures) ∙ after-if1 .if1 .taken in
     omega (arith, c .mark .ensures, branch-on-fields (s .args .table .now) (s .args .n) (s .pre .0) q .0)
 
 returns : tie.Need-returns
 returns c =
-    let s = c .before .before .before .before .before .before in
+    let after-if1 = c .before .before .before in
+    let after-kind = after-if1 .before in
+    let s = after-kind .before .before in
     let T = s .args .table .now in
     let τ = temporariesOf (s .args .temporaries .now) in
-    let q = sym (c .before .before .before .before .kind .ensures) ∙ c .before .before .before .if1 .taken in
+    let q = sym (after-kind .kind .ensures) ∙ after-if1 .if1 .taken in
     c .test-temporary .ensures
     ∙ ap (λ (k : ℕ). condition (heldIn τ k)) (c .before .mark .ensures)
     ∙ choice-on T (s .args .n) τ (variablesOf (s .args .variables .now)) (memoryOf (s .args .mem .now)) q
@@ -51,11 +55,13 @@ test-a-requires c κs =
 
 returns-2 : tie.Need-returns-2
 returns-2 c =
-    let s = c .before .before .before .before in
+    let after-kind = c .before .before in
+    let s = after-kind .before .before in
     let τ = temporariesOf (s .args .temporaries .now) in
     c .test-a .ensures
-    ∙ choice-of (s .args .table .now) (s .args .n) τ (variablesOf (s .args .variables .now)) (memoryOf (s .args .mem .now))
-    (λ e. c .before .if1 .left (c .before .before .kind .ensures ∙ e))
+    ∙ choice-of (s .args .table .now) (s .args .n) τ (variablesOf (s .args .variables .now)) (memoryOf
+    (s .args .mem .now))
+    (λ e. c .before .if1 .left (after-kind .kind .ensures ∙ e))
 
 pub test-spec : {M : Type 1} → statement M
 test-spec =

@@ -113,22 +113,80 @@ sequence-below t =
     and 5 sequence-kinds.ps (falls 5 sequence-kinds.ps _<_ μ-sequence t) sequence.Pre
 
 abbrev branch-claims : ℕ → branch-lts.Claims
-branch-claims t = (child-b-reads.Asked, child-b-reads.Learnt, child-c-reads.Asked, child-c-reads.Learnt, test-reads.Asked, test-reads.Learnt, run-below t, run.Post, statement-of-reads.Asked, statement-of-reads.Learnt)
+branch-claims t = (
+  child-b-reads.Asked,
+  child-b-reads.Learnt,
+  child-c-reads.Asked,
+  child-c-reads.Learnt,
+  test-reads.Asked,
+  test-reads.Learnt,
+  run-below t,
+  run.Post,
+  statement-of-reads.Asked,
+  statement-of-reads.Learnt,
+)
 
 abbrev enclose-claims : ℕ → enclose-lts.Claims
-enclose-claims t = (make-reads.Asked, make-reads.Learnt, run-inside-below t, run-inside.Post, statement-of-reads.Asked, statement-of-reads.Learnt)
+enclose-claims t = (
+  make-reads.Asked,
+  make-reads.Learnt,
+  run-inside-below t,
+  run-inside.Post,
+  statement-of-reads.Asked,
+  statement-of-reads.Learnt,
+)
 
 abbrev repeat-claims : ℕ → repeat-lts.Claims
-repeat-claims t = (child-b-reads.Asked, child-b-reads.Learnt, test-a-reads.Asked, test-a-reads.Learnt, run-below t, run.Post, statement-of-reads.Asked, statement-of-reads.Learnt)
+repeat-claims t = (
+  child-b-reads.Asked,
+  child-b-reads.Learnt,
+  test-a-reads.Asked,
+  test-a-reads.Learnt,
+  run-below t,
+  run.Post,
+  statement-of-reads.Asked,
+  statement-of-reads.Learnt,
+)
 
 abbrev run-claims : ℕ → run-lts.Claims
-run-claims t = (kind-reads.Asked, kind-reads.Learnt, sequence-below t, sequence.Post, branch-below t, branch.Post, repeat-below t, repeat.Post, enclose-below t, enclose.Post, step-reads.Asked, step-reads.Learnt)
+run-claims t = (
+  kind-reads.Asked,
+  kind-reads.Learnt,
+  sequence-below t,
+  sequence.Post,
+  branch-below t,
+  branch.Post,
+  repeat-below t,
+  repeat.Post,
+  enclose-below t,
+  enclose.Post,
+  step-reads.Asked,
+  step-reads.Learnt,
+)
 
 abbrev run-inside-claims : ℕ → run-inside-lts.Claims
-run-inside-claims t = (mark-reads.Asked, mark-reads.Learnt, name-variable-reads.Asked, name-variable-reads.Learnt, child-a-reads.Asked, child-a-reads.Learnt, run-below t, run.Post, end-reads.Asked, end-reads.Learnt)
+run-inside-claims t = (
+  mark-reads.Asked,
+  mark-reads.Learnt,
+  name-variable-reads.Asked,
+  name-variable-reads.Learnt,
+  child-a-reads.Asked,
+  child-a-reads.Learnt,
+  run-below t,
+  run.Post,
+  end-reads.Asked,
+  end-reads.Learnt,
+)
 
 abbrev sequence-claims : ℕ → sequence-lts.Claims
-sequence-claims t = (child-a-reads.Asked, child-a-reads.Learnt, run-below t, run.Post, child-b-reads.Asked, child-b-reads.Learnt)
+sequence-claims t = (
+  child-a-reads.Asked,
+  child-a-reads.Learnt,
+  run-below t,
+  run.Post,
+  child-b-reads.Asked,
+  child-b-reads.Learnt,
+)
 
 branch-child-b-requires : (t : ℕ) → branch-lts.Need-child-b-requires (branch-claims t) (branch-at t) branch.Post
 branch-child-b-requires t c κs =
@@ -162,14 +220,15 @@ branch-enum-told t c = search needs
 
 branch-run-requires : (t : ℕ) → branch-lts.Need-run-requires (branch-claims t) (branch-at t) branch.Post
 branch-run-requires t c κs =
-    let s = c .before .before .before .before .before .before .before .before .before .before .before .before in
+    let after-child-b = c .before .before .before .before .before .before .before .before .before .before in
+    let s = after-child-b .before .before in
     let T = s .args .table .now in
     let n = s .args .n in
     let ρ = variablesOf (s .args .variables .now) in
     let x = lent (s .args .mem .now) (s .args .obs .now) (s .args .temporaries .now) in
     let h = s .pre .1 .0 in
     let q = s .pre .1 .1 in
-    rw (c .before .before .before .before .before .before .before .before .before .before .child-b .ensures)
+    rw (after-child-b .child-b .ensures)
     (omega (arith, branch-parts T n ρ x h q .0 .1, s .pre .0), ready-then T n ρ x h q)
 
 branch-enum-told-2 : (t : ℕ) → branch-lts.Need-enum-told-2 (branch-claims t) (branch-at t) branch.Post
@@ -177,20 +236,22 @@ branch-enum-told-2 t c = search needs
 
 branch-run-requires-2 : (t : ℕ) → branch-lts.Need-run-requires-2 (branch-claims t) (branch-at t) branch.Post
 branch-run-requires-2 t c κs =
-    let s = c .before .before .before .before .before .before .before .before .before .before .before .before in
+    let after-child-c = c .before .before .before .before .before .before .before .before in
+    let s = after-child-c .before .before .before .before in
     let T = s .args .table .now in
     let n = s .args .n in
     let ρ = variablesOf (s .args .variables .now) in
     let x = lent (s .args .mem .now) (s .args .obs .now) (s .args .temporaries .now) in
     let h = s .pre .1 .0 in
     let q = s .pre .1 .1 in
-    rw (c .before .before .before .before .before .before .before .before .child-c .ensures)
+    rw (after-child-c .child-c .ensures)
     (omega (arith, branch-parts T n ρ x h q .1 .1, s .pre .0), ready-else T n ρ x h q)
 
 branch-enum-known-k : (t : ℕ) → branch-lts.Need-enum-known-k (branch-claims t) (branch-at t) branch.Post
 branch-enum-known-k t c = search needs
 
-branch-statement-of-requires : (t : ℕ) → branch-lts.Need-statement-of-requires (branch-claims t) (branch-at t) branch.Post
+branch-statement-of-requires : (t : ℕ) → branch-lts.Need-statement-of-requires (branch-claims t)
+    (branch-at t) branch.Post
 branch-statement-of-requires t c κs =
     let s = c .before .before .before .before .before .before .before .before .before .before in
     let h = s .pre .1 .0 in
@@ -198,7 +259,10 @@ branch-statement-of-requires t c κs =
 
 branch-returns : (t : ℕ) → branch-lts.Need-returns (branch-claims t) (branch-at t) branch.Post
 branch-returns t c =
-    let s = c .before .before .before .before .before .before .before .before .before .before .before .before .before in
+    let after-enum-told = c .before .before .before .before in
+    let after-test = after-enum-told .before .before in
+    let after-child-b = after-test .before .before .before .before .before in
+    let s = after-child-b .before .before in
     let T = s .args .table .now in
     let n = s .args .n in
     let ρ = variablesOf (s .args .variables .now) in
@@ -206,12 +270,17 @@ branch-returns t c =
     let f = s .args .fuel in
     let h = s .pre .1 .0 in
     let q = s .pre .1 .1 in
-    ran-is (branch-by T n (h .is) ρ x q f test.Yes (sym (c .before .before .before .before .before .before .test .ensures) ∙ c .before .before .before .before .enum-told .given .1))
-    (rw (c .before .before .before .before .before .before .before .before .before .before .before .child-b .ensures) at (c .run .ensures))
+    ran-is
+    (branch-by T n (h .is) ρ x q f test.Yes
+    (sym (after-test .test .ensures) ∙ after-enum-told .enum-told .given .1))
+    (rw (after-child-b .child-b .ensures) at (c .run .ensures))
 
 branch-returns-2 : (t : ℕ) → branch-lts.Need-returns-2 (branch-claims t) (branch-at t) branch.Post
 branch-returns-2 t c =
-    let s = c .before .before .before .before .before .before .before .before .before .before .before .before .before in
+    let after-enum-told2 = c .before .before .before .before in
+    let after-test = after-enum-told2 .before .before in
+    let after-child-c = after-test .before .before .before in
+    let s = after-child-c .before .before .before .before in
     let T = s .args .table .now in
     let n = s .args .n in
     let ρ = variablesOf (s .args .variables .now) in
@@ -219,12 +288,16 @@ branch-returns-2 t c =
     let f = s .args .fuel in
     let h = s .pre .1 .0 in
     let q = s .pre .1 .1 in
-    ran-is (branch-by T n (h .is) ρ x q f test.No (sym (c .before .before .before .before .before .before .test .ensures) ∙ c .before .before .before .before .enum-told2 .given .1))
-    (rw (c .before .before .before .before .before .before .before .before .before .child-c .ensures) at (c .run2 .ensures))
+    ran-is
+    (branch-by T n (h .is) ρ x q f test.No
+    (sym (after-test .test .ensures) ∙ after-enum-told2 .enum-told2 .given .1))
+    (rw (after-child-c .child-c .ensures) at (c .run2 .ensures))
 
 branch-returns-3 : (t : ℕ) → branch-lts.Need-returns-3 (branch-claims t) (branch-at t) branch.Post
 branch-returns-3 t c =
-    let s = c .before .before .before .before .before .before .before .before .before .before .before in
+    let after-k = c .before .before in
+    let after-test = after-k .before .before in
+    let s = after-test .before .before .before .before .before .before .before in
     let T = s .args .table .now in
     let n = s .args .n in
     let ρ = variablesOf (s .args .variables .now) in
@@ -232,9 +305,9 @@ branch-returns-3 t c =
     let f = s .args .fuel in
     let h = s .pre .1 .0 in
     let q = s .pre .1 .1 in
-    let k = c .before .before .k .given .0 .0 in
+    let k = after-k .k .given .0 .0 in
     rw (c .statement-of .ensures)
-    (ran-is (branch-by T n (h .is) ρ x q f (test.Stopped k) (sym (c .before .before .before .before .test .ensures) ∙ c .before .before .k .given .1))
+    (ran-is (branch-by T n (h .is) ρ x q f (test.Stopped k) (sym (after-test .test .ensures) ∙ after-k .k .given .1))
     (ran-ended x k (numberAt T n) f))
 
 enclose-make-requires : (t : ℕ) → enclose-lts.Need-make-requires (enclose-claims t) (enclose-at t) enclose.Post
@@ -244,23 +317,27 @@ enclose-make-requires t c κs =
 enclose-enum-known-k : (t : ℕ) → enclose-lts.Need-enum-known-k (enclose-claims t) (enclose-at t) enclose.Post
 enclose-enum-known-k t c = search needs
 
-enclose-run-inside-requires : (t : ℕ) → enclose-lts.Need-run-inside-requires (enclose-claims t) (enclose-at t) enclose.Post
+enclose-run-inside-requires : (t : ℕ) → enclose-lts.Need-run-inside-requires (enclose-claims t)
+    (enclose-at t) enclose.Post
 enclose-run-inside-requires t c κs =
-    let s = c .before .before .before .before .before .before .before .before in
+    let after-k = c .before .before .before .before in
+    let after-make = after-k .before .before in
+    let s = after-make .before .before in
     let T = s .args .table .now in
     let n = s .args .n in
     let ρ = variablesOf (s .args .variables .now) in
     let x = lent (s .args .mem .now) (s .args .obs .now) (s .args .temporaries .now) in
     let h = s .pre .1 .0 in
     let q = s .pre .1 .1 in
-    let k = c .before .before .before .before .k .given .0 .0 in
-    let e = sym (c .before .before .before .before .k .given .1) ∙ c .before .before .before .before .before .before .make .ensures .0 in
-    (omega (arith, s .pre .0), ready-made T n ρ x h q k (c .before .before .before .before .before .before .make .last .0) (c .before .before .before .before .before .before .make .ensures .1) e)
+    let k = after-k .k .given .0 .0 in
+    let e = sym (after-k .k .given .1) ∙ after-make .make .ensures .0 in
+    (omega (arith, s .pre .0), ready-made T n ρ x h q k (after-make .make .last .0) (after-make .make .ensures .1) e)
 
 enclose-enum-known-c : (t : ℕ) → enclose-lts.Need-enum-known-c (enclose-claims t) (enclose-at t) enclose.Post
 enclose-enum-known-c t c = search needs
 
-enclose-statement-of-requires : (t : ℕ) → enclose-lts.Need-statement-of-requires (enclose-claims t) (enclose-at t) enclose.Post
+enclose-statement-of-requires : (t : ℕ) → enclose-lts.Need-statement-of-requires (enclose-claims t)
+    (enclose-at t) enclose.Post
 enclose-statement-of-requires t c κs =
     let s = c .before .before .before .before .before in
     let h = s .pre .1 .0 in
@@ -268,7 +345,9 @@ enclose-statement-of-requires t c κs =
 
 enclose-returns : (t : ℕ) → enclose-lts.Need-returns (enclose-claims t) (enclose-at t) enclose.Post
 enclose-returns t c =
-    let s = c .before .before .before .before .before .before .before .before .before in
+    let after-k = c .before .before .before .before .before in
+    let after-make = after-k .before .before in
+    let s = after-make .before .before in
     let T = s .args .table .now in
     let n = s .args .n in
     let ρ = variablesOf (s .args .variables .now) in
@@ -276,14 +355,16 @@ enclose-returns t c =
     let f = s .args .fuel in
     let h = s .pre .1 .0 in
     let q = s .pre .1 .1 in
-    let k = c .before .before .before .before .before .k .given .0 .0 in
-    let e = sym (c .before .before .before .before .before .k .given .1) ∙ c .before .before .before .before .before .before .before .make .ensures .0 in
-    ran-is (let-made T n (h .is) ρ x q (c .before .before .before .before .before .before .before .make .last .0) f (c .before .before .before .before .before .before .before .make .ensures .1) k e)
-    (ran-from (kept-memory _ _ (c .before .before .before .before .before .before .before .make .ensures .1)) (c .run-inside .ensures))
+    let k = after-k .k .given .0 .0 in
+    let e = sym (after-k .k .given .1) ∙ after-make .make .ensures .0 in
+    ran-is (let-made T n (h .is) ρ x q (after-make .make .last .0) f (after-make .make .ensures .1) k e)
+    (ran-from (kept-memory _ _ (after-make .make .ensures .1)) (c .run-inside .ensures))
 
 enclose-returns-2 : (t : ℕ) → enclose-lts.Need-returns-2 (enclose-claims t) (enclose-at t) enclose.Post
 enclose-returns-2 t c =
-    let s = c .before .before .before .before .before .before in
+    let after-c = c .before .before in
+    let after-make = after-c .before .before in
+    let s = after-make .before .before in
     let T = s .args .table .now in
     let n = s .args .n in
     let ρ = variablesOf (s .args .variables .now) in
@@ -291,9 +372,10 @@ enclose-returns-2 t c =
     let f = s .args .fuel in
     let h = s .pre .1 .0 in
     let q = s .pre .1 .1 in
-    let e = sym (c .before .before .c .given .1) ∙ c .before .before .before .before .make .ensures .0 in
+    let e = sym (after-c .c .given .1) ∙ after-make .make .ensures .0 in
     rw (c .statement-of .ensures)
-    (let-unmade T n (h .is) ρ x q (c .before .before .before .before .make .last .0) f (c .before .before .before .before .make .ensures .1) (c .before .before .c .given .0 .0) _ e refl)
+    (let-unmade T n (h .is) ρ x q (after-make .make .last .0) f (after-make .make .ensures .1)
+    (after-c .c .given .0 .0) _ e refl)
 
 abbrev repeat-Inv-loop : repeat-lts.InvT-loop
 repeat-Inv-loop table n variables temporaries₀ mem₀ obs₀ fuel b left₀ temporaries mem obs left =
@@ -302,7 +384,8 @@ repeat-Inv-loop table n variables temporaries₀ mem₀ obs₀ fuel b left₀ te
 abbrev repeat-μ-loop : repeat-lts.MeasureT-loop
 repeat-μ-loop table n variables temporaries₀ mem₀ obs₀ fuel b left₀ temporaries mem obs left = left
 
-repeat-child-b-requires : (t : ℕ) → repeat-lts.Need-child-b-requires (repeat-claims t) (repeat-at t) repeat.Post repeat-Inv-loop repeat-μ-loop
+repeat-child-b-requires : (t : ℕ) → repeat-lts.Need-child-b-requires (repeat-claims t)
+    (repeat-at t) repeat.Post repeat-Inv-loop repeat-μ-loop
 repeat-child-b-requires t c κs =
     let s = c .before in
     let T = s .args .table .now in
@@ -312,15 +395,18 @@ repeat-child-b-requires t c κs =
     let h = s .pre .1 .0 in
     ready-within T n ρ x h
 
-repeat-loop-holds : (t : ℕ) → repeat-lts.Need-loop-holds (repeat-claims t) (repeat-at t) repeat.Post repeat-Inv-loop repeat-μ-loop
+repeat-loop-holds : (t : ℕ) → repeat-lts.Need-loop-holds (repeat-claims t)
+    (repeat-at t) repeat.Post repeat-Inv-loop repeat-μ-loop
 repeat-loop-holds t c =
     record { rest = refl; bytes = kept-same _; fits = c .before .before .pre .1 .0 .fits }
 
-repeat-sub-left : (t : ℕ) → repeat-lts.Need-sub-left (repeat-claims t) (repeat-at t) repeat.Post repeat-Inv-loop repeat-μ-loop
+repeat-sub-left : (t : ℕ) → repeat-lts.Need-sub-left (repeat-claims t)
+    (repeat-at t) repeat.Post repeat-Inv-loop repeat-μ-loop
 repeat-sub-left t c =
     omega (arith, c .loop-test .taken)
 
-repeat-test-a-requires : (t : ℕ) → repeat-lts.Need-test-a-requires (repeat-claims t) (repeat-at t) repeat.Post repeat-Inv-loop repeat-μ-loop
+repeat-test-a-requires : (t : ℕ) → repeat-lts.Need-test-a-requires (repeat-claims t)
+    (repeat-at t) repeat.Post repeat-Inv-loop repeat-μ-loop
 repeat-test-a-requires t c κs =
     let s = c .before .before .before .before .before .before in
     let T = s .args .table .now in
@@ -331,27 +417,38 @@ repeat-test-a-requires t c κs =
     let q = s .pre .1 .1 in
     (ready-within T n ρ x h, while-children target T n (h .is) q .0 .2)
 
-repeat-enum-told : (t : ℕ) → repeat-lts.Need-enum-told (repeat-claims t) (repeat-at t) repeat.Post repeat-Inv-loop repeat-μ-loop
+repeat-enum-told : (t : ℕ) → repeat-lts.Need-enum-told (repeat-claims t)
+    (repeat-at t) repeat.Post repeat-Inv-loop repeat-μ-loop
 repeat-enum-told t c = search needs
 
-repeat-run-requires : (t : ℕ) → repeat-lts.Need-run-requires (repeat-claims t) (repeat-at t) repeat.Post repeat-Inv-loop repeat-μ-loop
+repeat-run-requires : (t : ℕ) → repeat-lts.Need-run-requires (repeat-claims t)
+    (repeat-at t) repeat.Post repeat-Inv-loop repeat-μ-loop
 repeat-run-requires t c κs =
-    let s = c .before .before .before .before .before .before .before .before .before .before .before .before in
+    let after-loop = c .before .before .before .before .before .before .before .before .before in
+    let after-child-b = after-loop .before in
+    let s = after-child-b .before .before in
     let T = s .args .table .now in
     let n = s .args .n in
     let ρ = variablesOf (s .args .variables .now) in
     let x = lent (s .args .mem .now) (s .args .obs .now) (s .args .temporaries .now) in
     let h = s .pre .1 .0 in
     let q = s .pre .1 .1 in
-    let y = lent (c .before .before .before .before .before .before .before .before .before .loop .mem) (c .before .before .before .before .before .before .before .before .before .loop .obs) (c .before .before .before .before .before .before .before .before .before .loop .temporaries) in
-    rw (c .before .before .before .before .before .before .before .before .before .before .child-b .ensures) (
+    let y = lent (after-loop .loop .mem) (after-loop .loop .obs) (after-loop .loop .temporaries) in
+    rw (after-child-b .child-b .ensures) (
       omega (arith, while-children target T n (h .is) q .1 .1, s .pre .0),
-      ready-turn T n ρ x h q y (c .before .before .before .before .before .before .before .before .before .loop .inv .fits),
+      ready-turn T n ρ x h q y (after-loop .loop .inv .fits),
     )
 
-repeat-returns : (t : ℕ) → repeat-lts.Need-returns (repeat-claims t) (repeat-at t) repeat.Post repeat-Inv-loop repeat-μ-loop
+repeat-returns : (t : ℕ) → repeat-lts.Need-returns (repeat-claims t)
+    (repeat-at t) repeat.Post repeat-Inv-loop repeat-μ-loop
 repeat-returns t c =
-    let s = c .before .before .before .before .before .before .before .before .before .before .before .before .before .before .before in
+    let after-run = c .before .before in
+    let after-enum-told = after-run .before .before .before .before in
+    let after-test-a = after-enum-told .before .before in
+    let after-loop-test = after-test-a .before .before .before in
+    let after-loop = after-loop-test .before in
+    let after-child-b = after-loop .before in
+    let s = after-child-b .before .before in
     let T = s .args .table .now in
     let n = s .args .n in
     let ρ = variablesOf (s .args .variables .now) in
@@ -359,15 +456,22 @@ repeat-returns t c =
     let f = s .args .fuel in
     let h = s .pre .1 .0 in
     let q = s .pre .1 .1 in
-    let y = lent (c .before .before .before .before .before .before .before .before .before .before .before .before .loop .mem) (c .before .before .before .before .before .before .before .before .before .before .before .before .loop .obs) (c .before .before .before .before .before .before .before .before .before .before .before .before .loop .temporaries) in
-    turn-ends T n ρ x f y (c .before .before .before .before .before .before .before .before .before .before .before .before .loop .left) (c .before .before .before .before .before .before .before .before .before .before .before .before .loop .inv) (childB T n) (c .before .before .run .result) _
-    (rw (c .before .before .before .before .before .before .before .before .before .before .before .before .before .child-b .ensures) at (c .before .before .run .ensures))
-    (turn-by T n (h .is) ρ y q (c .before .before .before .before .before .before .before .before .before .before .before .before .loop .left) (c .before .before .before .before .before .before .before .before .before .before .before .loop-test .taken) test.Yes
-    (sym (c .before .before .before .before .before .before .before .before .test-a .ensures) ∙ c .before .before .before .before .before .before .enum-told .given .1)) (c .if1 .taken)
+    let y = lent (after-loop .loop .mem) (after-loop .loop .obs) (after-loop .loop .temporaries) in
+    turn-ends T n ρ x f y (after-loop .loop .left) (after-loop .loop .inv) (childB T n) (after-run .run .result) _
+    (rw (after-child-b .child-b .ensures) at (after-run .run .ensures))
+    (turn-by T n (h .is) ρ y q (after-loop .loop .left) (after-loop-test .loop-test .taken) test.Yes
+    (sym (after-test-a .test-a .ensures) ∙ after-enum-told .enum-told .given .1)) (c .if1 .taken)
 
-repeat-loop-less : (t : ℕ) → repeat-lts.Need-loop-less (repeat-claims t) (repeat-at t) repeat.Post repeat-Inv-loop repeat-μ-loop
+repeat-loop-less : (t : ℕ) → repeat-lts.Need-loop-less (repeat-claims t)
+    (repeat-at t) repeat.Post repeat-Inv-loop repeat-μ-loop
 repeat-loop-less t c =
-    let s = c .before .before .before .before .before .before .before .before .before .before .before .before .before .before .before in
+    let after-run = c .before .before in
+    let after-enum-told = after-run .before .before .before .before in
+    let after-test-a = after-enum-told .before .before in
+    let after-loop-test = after-test-a .before .before .before in
+    let after-loop = after-loop-test .before in
+    let after-child-b = after-loop .before in
+    let s = after-child-b .before .before in
     let T = s .args .table .now in
     let n = s .args .n in
     let ρ = variablesOf (s .args .variables .now) in
@@ -375,15 +479,23 @@ repeat-loop-less t c =
     let f = s .args .fuel in
     let h = s .pre .1 .0 in
     let q = s .pre .1 .1 in
-    let y = lent (c .before .before .before .before .before .before .before .before .before .before .before .before .loop .mem) (c .before .before .before .before .before .before .before .before .before .before .before .before .loop .obs) (c .before .before .before .before .before .before .before .before .before .before .before .before .loop .temporaries) in
-    turn-spends T n ρ x f y (c .before .before .before .before .before .before .before .before .before .before .before .before .loop .left) (c .before .before .before .before .before .before .before .before .before .before .before .before .loop .inv) (childB T n) (c .before .before .run .result) _
-    (rw (c .before .before .before .before .before .before .before .before .before .before .before .before .before .child-b .ensures) at (c .before .before .run .ensures))
-    (turn-by T n (h .is) ρ y q (c .before .before .before .before .before .before .before .before .before .before .before .before .loop .left) (c .before .before .before .before .before .before .before .before .before .before .before .loop-test .taken) test.Yes
-    (sym (c .before .before .before .before .before .before .before .before .test-a .ensures) ∙ c .before .before .before .before .before .before .enum-told .given .1)) (c .if1 .left) (c .before .before .before .before .before .before .before .before .before .before .before .loop-test .taken)
+    let y = lent (after-loop .loop .mem) (after-loop .loop .obs) (after-loop .loop .temporaries) in
+    turn-spends T n ρ x f y (after-loop .loop .left) (after-loop .loop .inv) (childB T n) (after-run .run .result) _
+    (rw (after-child-b .child-b .ensures) at (after-run .run .ensures))
+    (turn-by T n (h .is) ρ y q (after-loop .loop .left) (after-loop-test .loop-test .taken) test.Yes
+    (sym (after-test-a .test-a .ensures) ∙ after-enum-told .enum-told .given .1)) (c .if1 .left)
+    (after-loop-test .loop-test .taken)
 
-repeat-loop-again : (t : ℕ) → repeat-lts.Need-loop-again (repeat-claims t) (repeat-at t) repeat.Post repeat-Inv-loop repeat-μ-loop
+repeat-loop-again : (t : ℕ) → repeat-lts.Need-loop-again (repeat-claims t)
+    (repeat-at t) repeat.Post repeat-Inv-loop repeat-μ-loop
 repeat-loop-again t c =
-    let s = c .before .before .before .before .before .before .before .before .before .before .before .before .before .before .before in
+    let after-run = c .before .before in
+    let after-enum-told = after-run .before .before .before .before in
+    let after-test-a = after-enum-told .before .before in
+    let after-loop-test = after-test-a .before .before .before in
+    let after-loop = after-loop-test .before in
+    let after-child-b = after-loop .before in
+    let s = after-child-b .before .before in
     let T = s .args .table .now in
     let n = s .args .n in
     let ρ = variablesOf (s .args .variables .now) in
@@ -391,75 +503,91 @@ repeat-loop-again t c =
     let f = s .args .fuel in
     let h = s .pre .1 .0 in
     let q = s .pre .1 .1 in
-    let y = lent (c .before .before .before .before .before .before .before .before .before .before .before .before .loop .mem) (c .before .before .before .before .before .before .before .before .before .before .before .before .loop .obs) (c .before .before .before .before .before .before .before .before .before .before .before .before .loop .temporaries) in
-    turn-again T n ρ x f y (c .before .before .before .before .before .before .before .before .before .before .before .before .loop .left) (c .before .before .before .before .before .before .before .before .before .before .before .before .loop .inv) (childB T n) (c .before .before .run .result) _
-    (rw (c .before .before .before .before .before .before .before .before .before .before .before .before .before .child-b .ensures) at (c .before .before .run .ensures))
-    (turn-by T n (h .is) ρ y q (c .before .before .before .before .before .before .before .before .before .before .before .before .loop .left) (c .before .before .before .before .before .before .before .before .before .before .before .loop-test .taken) test.Yes
-    (sym (c .before .before .before .before .before .before .before .before .test-a .ensures) ∙ c .before .before .before .before .before .before .enum-told .given .1)) (c .if1 .left)
-    (ready-turn T n ρ x h q y (c .before .before .before .before .before .before .before .before .before .before .before .before .loop .inv .fits))
+    let y = lent (after-loop .loop .mem) (after-loop .loop .obs) (after-loop .loop .temporaries) in
+    turn-again T n ρ x f y (after-loop .loop .left) (after-loop .loop .inv) (childB T n) (after-run .run .result) _
+    (rw (after-child-b .child-b .ensures) at (after-run .run .ensures))
+    (turn-by T n (h .is) ρ y q (after-loop .loop .left) (after-loop-test .loop-test .taken) test.Yes
+    (sym (after-test-a .test-a .ensures) ∙ after-enum-told .enum-told .given .1)) (c .if1 .left)
+    (ready-turn T n ρ x h q y (after-loop .loop .inv .fits))
 
-repeat-enum-told-2 : (t : ℕ) → repeat-lts.Need-enum-told-2 (repeat-claims t) (repeat-at t) repeat.Post repeat-Inv-loop repeat-μ-loop
+repeat-enum-told-2 : (t : ℕ) → repeat-lts.Need-enum-told-2 (repeat-claims t)
+    (repeat-at t) repeat.Post repeat-Inv-loop repeat-μ-loop
 repeat-enum-told-2 t c = search needs
 
-repeat-returns-2 : (t : ℕ) → repeat-lts.Need-returns-2 (repeat-claims t) (repeat-at t) repeat.Post repeat-Inv-loop repeat-μ-loop
+repeat-returns-2 : (t : ℕ) → repeat-lts.Need-returns-2 (repeat-claims t)
+    (repeat-at t) repeat.Post repeat-Inv-loop repeat-μ-loop
 repeat-returns-2 t c =
-    let s = c .before .before .before .before .before .before .before .before .before in
+    let after-test-a = c .before .before in
+    let after-loop-test = after-test-a .before .before .before in
+    let after-loop = after-loop-test .before in
+    let s = after-loop .before .before .before in
     let T = s .args .table .now in
     let n = s .args .n in
     let ρ = variablesOf (s .args .variables .now) in
     let h = s .pre .1 .0 in
     let q = s .pre .1 .1 in
-    let y = lent (c .before .before .before .before .before .before .loop .mem) (c .before .before .before .before .before .before .loop .obs) (c .before .before .before .before .before .before .loop .temporaries) in
+    let y = lent (after-loop .loop .mem) (after-loop .loop .obs) (after-loop .loop .temporaries) in
     ran-is
-    (c .before .before .before .before .before .before .loop .inv .rest
-    ∙ turn-by T n (h .is) ρ y q (c .before .before .before .before .before .before .loop .left) (c .before .before .before .before .before .loop-test .taken) test.No
-    (sym (c .before .before .test-a .ensures) ∙ c .enum-told2 .given .1))
-    (ran-from (c .before .before .before .before .before .before .loop .inv .bytes) (ran-finished y (c .before .before .before .before .before .before .loop .left - 1)))
+    (after-loop .loop .inv .rest
+    ∙ turn-by T n (h .is) ρ y q (after-loop .loop .left) (after-loop-test .loop-test .taken) test.No
+    (sym (after-test-a .test-a .ensures) ∙ c .enum-told2 .given .1))
+    (ran-from (after-loop .loop .inv .bytes) (ran-finished y (after-loop .loop .left - 1)))
 
-repeat-enum-known-k : (t : ℕ) → repeat-lts.Need-enum-known-k (repeat-claims t) (repeat-at t) repeat.Post repeat-Inv-loop repeat-μ-loop
+repeat-enum-known-k : (t : ℕ) → repeat-lts.Need-enum-known-k (repeat-claims t)
+    (repeat-at t) repeat.Post repeat-Inv-loop repeat-μ-loop
 repeat-enum-known-k t c = search needs
 
-repeat-statement-of-requires : (t : ℕ) → repeat-lts.Need-statement-of-requires (repeat-claims t) (repeat-at t) repeat.Post repeat-Inv-loop repeat-μ-loop
+repeat-statement-of-requires : (t : ℕ) → repeat-lts.Need-statement-of-requires (repeat-claims t)
+    (repeat-at t) repeat.Post repeat-Inv-loop repeat-μ-loop
 repeat-statement-of-requires t c κs =
     let s = c .before .before .before .before .before .before .before .before .before .before in
     let h = s .pre .1 .0 in
     h .is
 
-repeat-returns-3 : (t : ℕ) → repeat-lts.Need-returns-3 (repeat-claims t) (repeat-at t) repeat.Post repeat-Inv-loop repeat-μ-loop
+repeat-returns-3 : (t : ℕ) → repeat-lts.Need-returns-3 (repeat-claims t)
+    (repeat-at t) repeat.Post repeat-Inv-loop repeat-μ-loop
 repeat-returns-3 t c =
-    let s = c .before .before .before .before .before .before .before .before .before .before .before in
+    let after-k = c .before .before in
+    let after-test-a = after-k .before .before in
+    let after-loop-test = after-test-a .before .before .before in
+    let after-loop = after-loop-test .before in
+    let s = after-loop .before .before .before in
     let T = s .args .table .now in
     let n = s .args .n in
     let ρ = variablesOf (s .args .variables .now) in
     let h = s .pre .1 .0 in
     let q = s .pre .1 .1 in
-    let y = lent (c .before .before .before .before .before .before .before .before .loop .mem) (c .before .before .before .before .before .before .before .before .loop .obs) (c .before .before .before .before .before .before .before .before .loop .temporaries) in
-    let k = c .before .before .k .given .0 .0 in
+    let y = lent (after-loop .loop .mem) (after-loop .loop .obs) (after-loop .loop .temporaries) in
+    let k = after-k .k .given .0 .0 in
     rw (c .statement-of .ensures)
     (ran-is
-    (c .before .before .before .before .before .before .before .before .loop .inv .rest
-    ∙ turn-by T n (h .is) ρ y q (c .before .before .before .before .before .before .before .before .loop .left) (c .before .before .before .before .before .before .before .loop-test .taken) (test.Stopped k)
-    (sym (c .before .before .before .before .test-a .ensures) ∙ c .before .before .k .given .1))
-    (ran-from (c .before .before .before .before .before .before .before .before .loop .inv .bytes) (ran-ended y k (numberAt T n) (c .before .before .before .before .before .before .before .before .loop .left - 1))))
+    (after-loop .loop .inv .rest
+    ∙ turn-by T n (h .is) ρ y q (after-loop .loop .left) (after-loop-test .loop-test .taken) (test.Stopped k)
+    (sym (after-test-a .test-a .ensures) ∙ after-k .k .given .1))
+    (ran-from (after-loop .loop .inv .bytes) (ran-ended y k (numberAt T n) (after-loop .loop .left - 1))))
 
-repeat-statement-of-requires-2 : (t : ℕ) → repeat-lts.Need-statement-of-requires-2 (repeat-claims t) (repeat-at t) repeat.Post repeat-Inv-loop repeat-μ-loop
+repeat-statement-of-requires-2 : (t : ℕ) → repeat-lts.Need-statement-of-requires-2 (repeat-claims t)
+    (repeat-at t) repeat.Post repeat-Inv-loop repeat-μ-loop
 repeat-statement-of-requires-2 t c κs =
     let s = c .before .before .before .before in
     let h = s .pre .1 .0 in
     h .is
 
-repeat-returns-4 : (t : ℕ) → repeat-lts.Need-returns-4 (repeat-claims t) (repeat-at t) repeat.Post repeat-Inv-loop repeat-μ-loop
+repeat-returns-4 : (t : ℕ) → repeat-lts.Need-returns-4 (repeat-claims t)
+    (repeat-at t) repeat.Post repeat-Inv-loop repeat-μ-loop
 repeat-returns-4 t c =
-    let s = c .before .before .before .before .before in
+    let after-loop = c .before .before in
+    let s = after-loop .before .before .before in
     let T = s .args .table .now in
     let n = s .args .n in
     let ρ = variablesOf (s .args .variables .now) in
     let h = s .pre .1 .0 in
     let q = s .pre .1 .1 in
-    let y = lent (c .before .before .loop .mem) (c .before .before .loop .obs) (c .before .before .loop .temporaries) in
+    let y = lent (after-loop .loop .mem) (after-loop .loop .obs) (after-loop .loop .temporaries) in
     rw (c .statement-of2 .ensures)
-    (ran-is (c .before .before .loop .inv .rest ∙ turn-out T n (h .is) ρ y q (c .before .before .loop .left) (c .before .loop-test .left))
-    (ran-from (c .before .before .loop .inv .bytes) (ran-ended y 32 (numberAt T n) 0)))
+    (ran-is (after-loop .loop .inv .rest ∙ turn-out T n (h .is) ρ y q (after-loop .loop .left)
+    (c .before .loop-test .left))
+    (ran-from (after-loop .loop .inv .bytes) (ran-ended y 32 (numberAt T n) 0)))
 
 run-kind-requires : (t : ℕ) → run-lts.Need-kind-requires (run-claims t) (run-at t) run.Post
 run-kind-requires t c κs =
@@ -472,34 +600,46 @@ run-kind-requires t c κs =
 
 run-sequence-requires : (t : ℕ) → run-lts.Need-sequence-requires (run-claims t) (run-at t) run.Post
 run-sequence-requires t c κs =
-    let s = c .before .before .before .before .before .before in
-    (omega (arith, s .pre .0), (s .pre .1, sym (c .before .before .before .before .kind .ensures) ∙ c .before .before .before .match .keys1))
+    let after-match = c .before .before .before in
+    let after-kind = after-match .before in
+    let s = after-kind .before .before in
+    (omega (arith, s .pre .0), (s .pre .1, sym (after-kind .kind .ensures) ∙ after-match .match .keys1))
 
 run-branch-requires : (t : ℕ) → run-lts.Need-branch-requires (run-claims t) (run-at t) run.Post
 run-branch-requires t c κs =
-    let s = c .before .before .before .before .before .before in
-    (omega (arith, s .pre .0), (s .pre .1, inl (sym (c .before .before .before .before .kind .ensures) ∙ c .before .before .before .match .keys2)))
+    let after-match = c .before .before .before in
+    let after-kind = after-match .before in
+    let s = after-kind .before .before in
+    (omega (arith, s .pre .0), (s .pre .1, inl (sym (after-kind .kind .ensures) ∙ after-match .match .keys2)))
 
 run-repeat-requires : (t : ℕ) → run-lts.Need-repeat-requires (run-claims t) (run-at t) run.Post
 run-repeat-requires t c κs =
-    let s = c .before .before .before .before .before .before in
-    (omega (arith, s .pre .0), (s .pre .1, sym (c .before .before .before .before .kind .ensures) ∙ c .before .before .before .match .keys3))
+    let after-match = c .before .before .before in
+    let after-kind = after-match .before in
+    let s = after-kind .before .before in
+    (omega (arith, s .pre .0), (s .pre .1, sym (after-kind .kind .ensures) ∙ after-match .match .keys3))
 
 run-enclose-requires : (t : ℕ) → run-lts.Need-enclose-requires (run-claims t) (run-at t) run.Post
 run-enclose-requires t c κs =
-    let s = c .before .before .before .before .before .before in
-    (omega (arith, s .pre .0), (s .pre .1, sym (c .before .before .before .before .kind .ensures) ∙ c .before .before .before .match .keys4))
+    let after-match = c .before .before .before in
+    let after-kind = after-match .before in
+    let s = after-kind .before .before in
+    (omega (arith, s .pre .0), (s .pre .1, sym (after-kind .kind .ensures) ∙ after-match .match .keys4))
 
 run-branch-requires-2 : (t : ℕ) → run-lts.Need-branch-requires-2 (run-claims t) (run-at t) run.Post
 run-branch-requires-2 t c κs =
-    let s = c .before .before .before .before .before .before in
-    (omega (arith, s .pre .0), (s .pre .1, inr (sym (c .before .before .before .before .kind .ensures) ∙ c .before .before .before .match .keys5)))
+    let after-match = c .before .before .before in
+    let after-kind = after-match .before in
+    let s = after-kind .before .before in
+    (omega (arith, s .pre .0), (s .pre .1, inr (sym (after-kind .kind .ensures) ∙ after-match .match .keys5)))
 
 run-step-requires : (t : ℕ) → run-lts.Need-step-requires (run-claims t) (run-at t) run.Post
 run-step-requires t c κs =
-    let s = c .before .before .before .before .before .before in
-    let k = c .before .before .before .before .kind .ensures in
-    let r = c .before .before .before .match .rest in (
+    let after-match = c .before .before .before in
+    let after-kind = after-match .before in
+    let s = after-kind .before .before in
+    let k = after-kind .kind .ensures in
+    let r = after-match .match .rest in (
       s .pre .1,
       (
         λ e. r .0 .0 .0 .0 .1 (k ∙ e),
@@ -534,47 +674,71 @@ run-returns-6 : (t : ℕ) → run-lts.Need-returns-6 (run-claims t) (run-at t) r
 run-returns-6 t c =
     c .step .ensures
 
-run-inside-mark-requires : (t : ℕ) → run-inside-lts.Need-mark-requires (run-inside-claims t) (run-inside-at t) run-inside.Post
+run-inside-mark-requires : (t : ℕ) → run-inside-lts.Need-mark-requires (run-inside-claims t)
+    (run-inside-at t) run-inside.Post
 run-inside-mark-requires t c κs =
     c .before .before .pre .1 .within
 
-run-inside-cast-name-variable : (t : ℕ) → run-inside-lts.Need-cast-name-variable (run-inside-claims t) (run-inside-at t) run-inside.Post
+run-inside-cast-name-variable : (t : ℕ) → run-inside-lts.Need-cast-name-variable (run-inside-claims t)
+    (run-inside-at t) run-inside.Post
 run-inside-cast-name-variable t c =
     record { fits = omega (arith, c .mark .ensures, c .before .before .before .pre .1 .mark) }
 
-run-inside-name-variable-requires : (t : ℕ) → run-inside-lts.Need-name-variable-requires (run-inside-claims t) (run-inside-at t) run-inside.Post
+run-inside-name-variable-requires : (t : ℕ) → run-inside-lts.Need-name-variable-requires (run-inside-claims t)
+    (run-inside-at t) run-inside.Post
 run-inside-name-variable-requires t c κs =
     omega (arith, c .mark .ensures, c .before .before .before .pre .1 .mark)
 
-run-inside-child-a-requires : (t : ℕ) → run-inside-lts.Need-child-a-requires (run-inside-claims t) (run-inside-at t) run-inside.Post
+run-inside-child-a-requires : (t : ℕ) → run-inside-lts.Need-child-a-requires (run-inside-claims t)
+    (run-inside-at t) run-inside.Post
 run-inside-child-a-requires t c κs =
     c .before .before .before .before .before .pre .1 .within
 
-run-inside-run-requires : (t : ℕ) → run-inside-lts.Need-run-requires (run-inside-claims t) (run-inside-at t) run-inside.Post
+run-inside-run-requires : (t : ℕ) → run-inside-lts.Need-run-requires (run-inside-claims t)
+    (run-inside-at t) run-inside.Post
 run-inside-run-requires t c κs =
-    let s = c .before .before .before .before .before .before .before .before .before .before in
+    let after-child-a = c .before .before .before .before in
+    let after-name-variable = after-child-a .before .before in
+    let after-mark = after-name-variable .before in
+    let s = after-mark .before .before .before in
     let i = s .pre .1 in
-    rw (c .before .before .before .before .child-a .ensures, c .before .before .before .before .before .before .name-variable .ensures, c .before .before .before .before .before .before .before .mark .ensures) (omega (arith, i .smaller, s .pre .0), i .body)
+    rw (after-child-a .child-a .ensures, after-name-variable .name-variable .ensures, after-mark .mark .ensures)
+    (omega (arith, i .smaller, s .pre .0), i .body)
 
-run-inside-end-requires : (t : ℕ) → run-inside-lts.Need-end-requires (run-inside-claims t) (run-inside-at t) run-inside.Post
+run-inside-end-requires : (t : ℕ) → run-inside-lts.Need-end-requires (run-inside-claims t)
+    (run-inside-at t) run-inside.Post
 run-inside-end-requires t c κs =
     tt
 
 run-inside-returns : (t : ℕ) → run-inside-lts.Need-returns (run-inside-claims t) (run-inside-at t) run-inside.Post
 run-inside-returns t c =
-    let s = c .before .before .before .before .before .before .before .before .before .before .before .before .before .before .before in
+    let after-if1 = c .before .before in
+    let after-run = after-if1 .before .before in
+    let after-child-a = after-run .before .before .before .before .before in
+    let after-name-variable = after-child-a .before .before in
+    let after-mark = after-name-variable .before in
+    let s = after-mark .before .before .before in
     let T = s .args .table .now in
     let n = s .args .n in
     let ρ = variablesOf (s .args .variables .now) in
     let x = lent (s .args .mem .now) (s .args .obs .now) (s .args .temporaries .now) in
     let f = s .args .fuel in
     let k = s .args .k in
-    inside-ends (statementAt T (childA T n)) (extend ρ (markOf T n) k) f k (c .before .before .before .before .run .result) x _ (c .end .last .0)
-    (rw (c .before .before .before .before .before .before .before .before .before .child-a .ensures, c .before .before .before .before .before .before .before .before .before .before .before .name-variable .ensures, c .before .before .before .before .before .before .before .before .before .before .before .before .mark .ensures) at (c .before .before .before .before .run .ensures)) (c .before .before .if1 .taken) (c .end .ensures)
+    inside-ends (statementAt T (childA T n)) (extend ρ (markOf T n) k) f k (after-run .run .result) x _
+    (c .end .last .0)
+    (rw (
+      after-child-a .child-a .ensures,
+      after-name-variable .name-variable .ensures,
+      after-mark .mark .ensures,
+    ) at (after-run .run .ensures)) (after-if1 .if1 .taken) (c .end .ensures)
 
 run-inside-returns-2 : (t : ℕ) → run-inside-lts.Need-returns-2 (run-inside-claims t) (run-inside-at t) run-inside.Post
 run-inside-returns-2 t c =
-    let s = c .before .before .before .before .before .before .before .before .before .before .before .before .before in
+    let after-run = c .before .before in
+    let after-child-a = after-run .before .before .before .before .before in
+    let after-name-variable = after-child-a .before .before in
+    let after-mark = after-name-variable .before in
+    let s = after-mark .before .before .before in
     let T = s .args .table .now in
     let n = s .args .n in
     let ρ = variablesOf (s .args .variables .now) in
@@ -582,10 +746,15 @@ run-inside-returns-2 t c =
     let f = s .args .fuel in
     let k = s .args .k in
     next-stays (statementAt T (childA T n)) (extend ρ (markOf T n) k) f
-    (λ m₁ o₁ τ₁ f₁. finished (endBlock m₁ k) o₁ τ₁ f₁) (c .before .before .run .result) x _
-    (rw (c .before .before .before .before .before .before .before .child-a .ensures, c .before .before .before .before .before .before .before .before .before .name-variable .ensures, c .before .before .before .before .before .before .before .before .before .before .mark .ensures) at (c .before .before .run .ensures)) (c .if1 .left)
+    (λ m₁ o₁ τ₁ f₁. finished (endBlock m₁ k) o₁ τ₁ f₁) (after-run .run .result) x _
+    (rw (
+      after-child-a .child-a .ensures,
+      after-name-variable .name-variable .ensures,
+      after-mark .mark .ensures,
+    ) at (after-run .run .ensures)) (c .if1 .left)
 
-sequence-child-a-requires : (t : ℕ) → sequence-lts.Need-child-a-requires (sequence-claims t) (sequence-at t) sequence.Post
+sequence-child-a-requires : (t : ℕ) → sequence-lts.Need-child-a-requires (sequence-claims t)
+    (sequence-at t) sequence.Post
 sequence-child-a-requires t c κs =
     let s = c .before in
     let T = s .args .table .now in
@@ -597,17 +766,19 @@ sequence-child-a-requires t c κs =
 
 sequence-run-requires : (t : ℕ) → sequence-lts.Need-run-requires (sequence-claims t) (sequence-at t) sequence.Post
 sequence-run-requires t c κs =
-    let s = c .before .before .before .before .before in
+    let after-child-a = c .before .before .before in
+    let s = after-child-a .before .before in
     let T = s .args .table .now in
     let n = s .args .n in
     let ρ = variablesOf (s .args .variables .now) in
     let x = lent (s .args .mem .now) (s .args .obs .now) (s .args .temporaries .now) in
     let h = s .pre .1 .0 in
     let q = s .pre .1 .1 in
-    rw (c .before .before .before .child-a .ensures)
+    rw (after-child-a .child-a .ensures)
     (omega (arith, sequence-children target T n (h .is) q .0 .1, s .pre .0), ready-first T n ρ x h q)
 
-sequence-child-b-requires : (t : ℕ) → sequence-lts.Need-child-b-requires (sequence-claims t) (sequence-at t) sequence.Post
+sequence-child-b-requires : (t : ℕ) → sequence-lts.Need-child-b-requires (sequence-claims t)
+    (sequence-at t) sequence.Post
 sequence-child-b-requires t c κs =
     let s = c .before .before .before .before .before .before .before .before .before in
     let T = s .args .table .now in
@@ -619,7 +790,10 @@ sequence-child-b-requires t c κs =
 
 sequence-run-requires-2 : (t : ℕ) → sequence-lts.Need-run-requires-2 (sequence-claims t) (sequence-at t) sequence.Post
 sequence-run-requires-2 t c κs =
-    let s = c .before .before .before .before .before .before .before .before .before .before .before .before .before in
+    let after-child-b = c .before .before .before in
+    let after-run = after-child-b .before .before .before .before in
+    let after-child-a = after-run .before .before .before .before in
+    let s = after-child-a .before .before in
     let T = s .args .table .now in
     let n = s .args .n in
     let ρ = variablesOf (s .args .variables .now) in
@@ -627,14 +801,19 @@ sequence-run-requires-2 t c κs =
     let f = s .args .fuel in
     let h = s .pre .1 .0 in
     let q = s .pre .1 .1 in
-    rw (c .before .before .before .child-b .ensures) (
+    rw (after-child-b .child-b .ensures) (
       omega (arith, sequence-children target T n (h .is) q .1 .1, s .pre .0),
-      ready-later T n ρ f (c .before .before .before .before .before .before .before .run .result) x _ h q (rw (c .before .before .before .before .before .before .before .before .before .before .before .child-a .ensures) at (c .before .before .before .before .before .before .before .run .ensures)),
+      ready-later T n ρ f (after-run .run .result) x _ h q (rw (after-child-a .child-a .ensures) at
+          (after-run .run .ensures)),
     )
 
 sequence-returns : (t : ℕ) → sequence-lts.Need-returns (sequence-claims t) (sequence-at t) sequence.Post
 sequence-returns t c =
-    let s = c .before .before .before .before .before .before .before .before .before .before .before .before .before .before in
+    let after-child-b = c .before .before .before .before in
+    let after-if1 = after-child-b .before .before in
+    let after-run = after-if1 .before .before in
+    let after-child-a = after-run .before .before .before .before in
+    let s = after-child-a .before .before in
     let T = s .args .table .now in
     let n = s .args .n in
     let ρ = variablesOf (s .args .variables .now) in
@@ -646,12 +825,15 @@ sequence-returns t c =
     (watch-sequence T n (h .is) ρ (memoryOf (x .memory)) (observationOf (x .observation))
     (temporariesOf (x .temporaries)) f q)
     (next-goes (statementAt T (childA T n)) ρ f (λ m₁ o₁ τ₁ f₁. watch (statementAt T (childB T n)) ρ m₁ o₁ τ₁ f₁)
-    (c .before .before .before .before .before .before .before .before .run .result) x _ (rw (c .before .before .before .before .before .before .before .before .before .before .before .before .child-a .ensures) at (c .before .before .before .before .before .before .before .before .run .ensures)) (c .run2 .result) _ (c .before .before .before .before .before .before .if1 .taken)
-    (rw (c .before .before .before .before .child-b .ensures) at (c .run2 .ensures)))
+    (after-run .run .result) x _ (rw (after-child-a .child-a .ensures) at (after-run .run .ensures))
+    (c .run2 .result) _ (after-if1 .if1 .taken)
+    (rw (after-child-b .child-b .ensures) at (c .run2 .ensures)))
 
 sequence-returns-2 : (t : ℕ) → sequence-lts.Need-returns-2 (sequence-claims t) (sequence-at t) sequence.Post
 sequence-returns-2 t c =
-    let s = c .before .before .before .before .before .before .before .before in
+    let after-run = c .before .before in
+    let after-child-a = after-run .before .before .before .before in
+    let s = after-child-a .before .before in
     let T = s .args .table .now in
     let n = s .args .n in
     let ρ = variablesOf (s .args .variables .now) in
@@ -663,7 +845,7 @@ sequence-returns-2 t c =
     (watch-sequence T n (h .is) ρ (memoryOf (x .memory)) (observationOf (x .observation))
     (temporariesOf (x .temporaries)) f q)
     (next-stays (statementAt T (childA T n)) ρ f (λ m₁ o₁ τ₁ f₁. watch (statementAt T (childB T n)) ρ m₁ o₁ τ₁ f₁)
-    (c .before .before .run .result) x _ (rw (c .before .before .before .before .before .before .child-a .ensures) at (c .before .before .run .ensures)) (c .if1 .left))
+    (after-run .run .result) x _ (rw (after-child-a .child-a .ensures) at (after-run .run .ensures)) (c .if1 .left))
 
 pub +branch+enclose+repeat+run+run-inside+sequence-spec : {M : Type 1} → statement M
 +branch+enclose+repeat+run+run-inside+sequence-spec =
