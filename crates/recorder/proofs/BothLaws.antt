@@ -22,7 +22,7 @@ use Rattle.rules.specs.declared.Checked.the-variants as checked
 use Rattle.rules.proofs.AcceptedPrograms.{accepted-program}
 use Rattle.rules.proofs.Claim.{demand-3}
 use Rattle.recorder.specs.declared.Both.{Both}
-use Rattle.recorder.specs.BothRuns.{Lent, lent, both, BothRuns, bothRefused, bothRan, bothTested, bothBy, runBoth, Ready, Unrefused, plainShown, watchedShown, AnsweredBoth}
+use Rattle.recorder.specs.BothRuns.{Lent, lent, both, BothRuns, bothRefused, bothRan, bothTested, bothBy, runBoth, Ready, plainShown, watchedShown, AnsweredBoth}
 
 -- a buffer of the right length is not refused, and one of another is
 pub right-length : (l : List ℕ) (n : ℕ) → length l ≡ n → not (eqb (length l) n) ≡ false
