@@ -23,7 +23,7 @@ use Rattle.rules.proofs.TargetFields.{HasSort, expressionAt, statementAt, numbe
 use Rattle.tables.specs.Within.{Within}
 use Rattle.memory.specs.Changes.{Becomes}
 use Rattle.observation.specs.Calls.{ObservationBecomes}
-use Rattle.evaluation.specs.State.{variablesOf, temporariesOf}
+use Rattle.evaluation.specs.State.{temporariesOf}
 use Rattle.statements.specs.declared.Ended.{Ended}
 use Rattle.statements.specs.Ending.{result, concluded}
 

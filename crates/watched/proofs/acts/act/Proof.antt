@@ -1,5 +1,4 @@
 use mathlib.Core.Path.{sym, _∙_}
-use Rattle.rules.specs.Kinds.{target}
 use Rattle.rules.specs.Records.{markOf}
 use Rattle.rules.specs.Evaluation.{condition}
 use Rattle.rules.specs.Watched.{heldIn}
@@ -11,7 +10,6 @@ use Rattle.watched.specs.Watching.{lent}
 use Rattle.watched.proofs.Laws.{ran-is, ran-finished}
 use Rattle.watched.proofs.ActLaws.{last-act, acts-change, acts-taken, acts-observed, acts-asserted}
 use Rattle.watched.proofs.ReadyLaws.{ready-within, assign-fits}
-use borrow.Author.Needs.{needs}
 use Rattle.watched.proofs.acts.act.Statement.{statement}
 use Rattle.watched.proofs.acts.act.Tie as tie
 

@@ -4,7 +4,6 @@ use Rattle.rules.specs.Memory.{allocated}
 use Rattle.rules.specs.Layout.{memoryOf}
 use Rattle.rules.proofs.StatementArms.{statement-within, new-children}
 use Rattle.statements.proofs.ChangeLaws.{does-is}
-use borrow.Author.Needs.{needs}
 use Rattle.watched.proofs.acts.allocate.Statement.{statement}
 use Rattle.watched.proofs.acts.allocate.Tie as tie
 
