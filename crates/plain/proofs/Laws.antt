@@ -1,26 +1,24 @@
 -- From what the parts answer to what the whole does.
-use Prim.Native.Nat.{ℕ, zero, suc, _<_, _≤_}
+use Prim.Native.Nat.{ℕ}
 use native.Mathlib.Omega.{arith}
-use mathlib.Core.Bool.{Bool, true, false, cond}
+use mathlib.Core.Bool.{Bool, cond}
 use mathlib.Core.List.{List}
-use mathlib.Core.Logic.{_≢_, _⊎_, inl, inr}
+use mathlib.Core.Logic.{_≢_, inl, inr}
 use mathlib.Core.Path.{_≡_, refl, sym, ap, ap₂, _∙_, subst}
 use borrow.Author.Tests.{ne-eqb}
 use Rattle.rules.specs.Memory.{Memory, Change, changed, stopped}
 use Rattle.rules.specs.Evaluation.{Variables}
 use Rattle.rules.specs.Trees.{Statement}
 use Rattle.rules.specs.Plain.{Outcome, finished, ended, next, after, asserted, run}
-use Rattle.rules.specs.Answers.{memoryAfter}
 use Rattle.rules.specs.Layout.{memoryOf}
 use Rattle.rules.specs.declared.Test.{Test}
 use Rattle.rules.specs.declared.Test.the-variants as test
 use Rattle.rules.proofs.Keeping.{Ending}
 use Rattle.rules.proofs.Endings.{PlainEnds, run-endings}
-use Rattle.cells.specs.Changes.{Becomes}
 use Rattle.statements.specs.declared.Ended.{Ended}
 use Rattle.statements.proofs.ChangeLaws.{becomes-same, becomes-then}
 use Rattle.statements.specs.Ending.{result, concluded, assertNumber, Does}
-use Rattle.plain.specs.Running.{resultOf, Ran}
+use Rattle.plain.specs.Running.{Ran}
 
 -- ---- outcomes
 pub ran-is : {o p : Outcome} {r : Ended} {a b : List ℕ} → o ≡ p → Ran p r a b → Ran o r a b

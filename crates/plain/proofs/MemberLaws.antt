@@ -1,9 +1,9 @@
 -- From what the parts of a statement with parts do to what it does.
-use Prim.Native.Nat.{ℕ, zero, suc, _-_, _<_, _≤_}
+use Prim.Native.Nat.{ℕ, suc, _-_, _<_, _≤_}
 use native.Mathlib.Omega.{arith}
 use mathlib.Core.List.{List}
 use mathlib.Core.Logic.{_≢_}
-use mathlib.Core.Path.{_≡_, refl, sym, ap, _∙_, subst}
+use mathlib.Core.Path.{_≡_, sym, ap, _∙_, subst}
 use Rattle.rules.specs.Kinds.{source, statement}
 use Rattle.rules.specs.Records.{kindOf, markOf, childA, childB, childC}
 use Rattle.rules.specs.Memory.{Memory, fixed, Made, made, makeBlock, endBlock}

@@ -1,22 +1,21 @@
 -- A statement that may run: so may its parts, and what it finds fits.
-use Prim.Native.Nat.{ℕ, zero, suc, _<_, _≤_}
+use Prim.Native.Nat.{ℕ, _<_}
 use native.Mathlib.Omega.{arith}
-use mathlib.Core.Bool.{Bool, true, false, cond}
 use mathlib.Core.List.{List}
-use mathlib.Core.Path.{_≡_, refl, sym, ap, _∙_, subst}
+use mathlib.Core.Path.{_≡_, refl, subst}
 use mir.Syntax.{w32}
 use mir.Val.{Fits}
 use Rattle.rules.specs.Kinds.{source, statement}
 use Rattle.rules.specs.Nodes.{SourceNode, sourceStatement}
-use Rattle.rules.specs.Records.{recordCount, kindOf, markOf, childA, childB, childC}
-use Rattle.rules.specs.Memory.{Memory, Use, Made, made, makeBlock}
+use Rattle.rules.specs.Records.{kindOf, markOf, childA, childB, childC}
+use Rattle.rules.specs.Memory.{Memory, Use, made, makeBlock}
 use Rattle.rules.specs.Evaluation.{Variables, noTemporaries, evaluateSource, extend}
 use Rattle.rules.specs.Plain.{run}
 use Rattle.rules.specs.Answers.{memoryAfter}
 use Rattle.rules.proofs.KindViews.{formAt, SourceKind, skip, assign, new, free, sequence, branch, while, letIn, assert}
 use Rattle.rules.proofs.FormLaws.{nodeAs}
 use Rattle.rules.proofs.Standing.{stands, stands-at}
-use Rattle.rules.proofs.Sound.{Scope, adding, NoName, Numbered, SoundExpression, SoundStatement}
+use Rattle.rules.proofs.Sound.{adding, NoName, Numbered, SoundStatement}
 use Rattle.rules.proofs.Keeping.{AnyNumber, MadeKeeps}
 use Rattle.rules.proofs.Fits.{FitsMemory}
 use Rattle.rules.proofs.KeptPredicates.{MadeWith, fits-invariant, makeBlock-keeps}
@@ -24,7 +23,7 @@ use Rattle.rules.proofs.FittingValues.{evaluate-fits}
 use Rattle.rules.proofs.Reachable.{extend-fits}
 use Rattle.rules.proofs.ReachableRoundTrip.{run-fits}
 use Rattle.rules.proofs.StatementArms.{statement-within, sequence-children, branch-children, while-children, let-child, sound-assign, sound-sequence, sound-branch, sound-while, sound-let}
-use Rattle.rules.proofs.PlainArms.{HasSort, Under, expressionAt, statementAt}
+use Rattle.rules.proofs.PlainArms.{Under, expressionAt, statementAt}
 use Rattle.tables.specs.Within.{Within}
 use Rattle.cells.specs.Changes.{EvaluatedFits}
 use Rattle.plain.specs.Running.{Ready}

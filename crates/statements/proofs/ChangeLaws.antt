@@ -3,12 +3,12 @@ use Prim.Native.Nat.{ℕ, zero, suc, _<_}
 use native.Mathlib.Omega.{arith}
 use mathlib.Core.Bool.{Bool, true, false, false≢true}
 use mathlib.Core.List.{List}
-use mathlib.Core.Path.{_≡_, refl, sym, ap, ap₂, _∙_, subst}
+use mathlib.Core.Path.{_≡_, refl, sym, ap, _∙_, subst}
 use borrow.Author.Tests.{leb-true}
 use lib.Dec.{T}
 use lib.IntN.{ℤ, pos, negsuc, natAbs}
 use lib.Signed.{ltZ, nonNeg}
-use Rattle.rules.specs.Memory.{Memory, Change, changed, stopped, Made, made, unmade, Use, freeable, makeBlock, nextName, freeRun, storeCell, storeNew, newOfSize}
+use Rattle.rules.specs.Memory.{Memory, Change, stopped, Made, made, unmade, Use, freeable, makeBlock, nextName, freeRun, storeCell, storeNew, newOfSize}
 use Rattle.rules.specs.Layout.{memoryOf}
 use Rattle.rules.specs.declared.Pointer.{Pointer}
 use Rattle.rules.specs.declared.Value.{Value}
@@ -16,10 +16,10 @@ use Rattle.rules.specs.declared.Value.the-variants as value
 use Rattle.rules.specs.declared.Evaluated.{Evaluated}
 use Rattle.rules.specs.declared.Evaluated.the-variants as evaluated
 use Rattle.rules.proofs.Keeping.{AnyNumber, AnyValue, AnyPlace, AnyMemory, MadeKeeps, makeAt-keeps}
-use Rattle.rules.proofs.Fits.{FitsName, FitsValue}
+use Rattle.rules.proofs.Fits.{FitsName}
 use Rattle.rules.proofs.FitsLaws.{nextName-fits}
 use Rattle.rules.proofs.FittingValues as ranged
-use Rattle.cells.specs.Changes.{Becomes, NamesFit, EvaluatedFits}
+use Rattle.cells.specs.Changes.{Becomes, EvaluatedFits}
 use Rattle.blocks.specs.Blocks.{makingOf, madeMemory}
 use Rattle.blocks.specs.declared.Making.{Making}
 use Rattle.blocks.specs.declared.Making.the-variants as making

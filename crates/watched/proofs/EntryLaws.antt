@@ -1,5 +1,5 @@
 -- The entry: the table with bytes behind it, the start, and what is copied out.
-use Prim.Native.Nat.{ℕ, _+_, _*_, _/_, _≤_}
+use Prim.Native.Nat.{ℕ, _+_, _/_, _≤_}
 use native.Mathlib.Nat.{le-refl}
 use native.Mathlib.Omega.{arith}
 use mathlib.Core.Bool.{Bool, true, false, not, false≢true}
@@ -20,7 +20,7 @@ use Rattle.rules.specs.Observation.{Observation, startObservation}
 use Rattle.rules.specs.Plain.{startVariables}
 use Rattle.rules.specs.Watched.{Temporaries, startTemporaries, WatchedOutcome, finished, ended, watch}
 use Rattle.rules.specs.Layout.{cellFrom, memoryOf, memoryImage, observationOf, observationImage}
-use Rattle.rules.specs.Answers.{answer, inputsOf, watchedEndingOf, watchedMemoryAfter, observationAfter, watchedOutcome, watchedEnded, watchedRefused, watchedBy, WatchedRun}
+use Rattle.rules.specs.Answers.{answer, inputsOf, watchedEndingOf, watchedMemoryAfter, watchedOutcome, watchedEnded, watchedRefused, watchedBy, WatchedRun}
 use Rattle.rules.specs.declared.Answer.{Answer}
 use Rattle.rules.specs.declared.Checked.{Checked}
 use Rattle.rules.specs.declared.Checked.the-variants as checked

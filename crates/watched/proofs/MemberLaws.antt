@@ -1,10 +1,10 @@
 -- From what the parts of a statement with parts do to what it does.
-use Prim.Native.Nat.{ℕ, zero, suc, _-_, _<_, _≤_}
+use Prim.Native.Nat.{ℕ, suc, _-_, _<_, _≤_}
 use native.Mathlib.Omega.{arith}
 use mathlib.Core.Bool.{Bool, cond}
 use mathlib.Core.List.{List}
-use mathlib.Core.Logic.{_≢_, _⊎_, inl, inr}
-use mathlib.Core.Path.{_≡_, refl, sym, ap, _∙_, subst}
+use mathlib.Core.Logic.{_≢_, inl, inr}
+use mathlib.Core.Path.{_≡_, refl, sym, ap, _∙_}
 use borrow.Author.Tests.{eq-eqb, ne-eqb}
 use Rattle.rules.specs.Kinds.{statement}
 use Rattle.rules.specs.Records.{kindOf, markOf, childA, childB, childC}
@@ -14,7 +14,6 @@ use Rattle.rules.specs.Evaluation.{Variables, evaluate, condition, extend}
 use Rattle.rules.specs.Watched.{Temporaries, temporaryOf, heldIn, WatchedOutcome, finished, ended, Watching, next, decide, inLet, watch}
 use Rattle.rules.specs.Layout.{memoryOf, observationOf}
 use Rattle.rules.specs.declared.Test.{Test}
-use Rattle.rules.specs.declared.Test.the-variants as test
 use Rattle.rules.proofs.Fuel.{watchedFuelOf, watch-fuel}
 use Rattle.rules.proofs.TargetFields.{HasSort, expressionAt, statementAt, numberAt}
 use Rattle.rules.proofs.TargetArms.{watch-branch, watch-branch-on, watch-while-zero, watch-while-suc, watch-let}
@@ -27,7 +26,7 @@ use Rattle.statements.specs.Ending.{result}
 use Rattle.statements.proofs.ChangeLaws.{becomes-is, made-by, unmade-by}
 use Rattle.watched_statements.specs.Watching.{Lent, lent, goFrom, watchFrom, LentFits, Ready, enclosed, IsBranch, choice, resultOf, Ran}
 use Rattle.watched_statements.proofs.Laws.{observation-same, Kept, kept-then, ran-kept, ran-is, ran-from, watch-finished, next-goes, next-stays}
-use Rattle.watched.proofs.ReadyLaws.{run-kept}
+use Rattle.watched_statements.proofs.ReadyLaws.{run-kept}
 
 -- what a branch tests, by its kind
 pub not-on : {k : ℕ} → IsBranch k → k ≢ 66 → k ≡ 45

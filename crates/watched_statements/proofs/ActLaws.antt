@@ -3,7 +3,7 @@ use Prim.Native.Nat.{ℕ}
 use mathlib.Core.Bool.{Bool, cond}
 use mathlib.Core.List.{List}
 use mathlib.Core.Logic.{_≢_}
-use mathlib.Core.Path.{_≡_, refl, sym, ap, _∙_, subst}
+use mathlib.Core.Path.{_≡_, refl, ap, _∙_, subst}
 use borrow.Author.Tests.{ne-eqb}
 use Rattle.rules.specs.Kinds.{statement}
 use Rattle.rules.specs.Records.{kindOf}
@@ -21,7 +21,6 @@ use Rattle.rules.proofs.Keeping.{Ending}
 use Rattle.rules.proofs.Endings.{WatchedEnds, watch-endings}
 use Rattle.rules.proofs.TargetFields.{HasSort, statement-kinds}
 use Rattle.temporaries.specs.Bytes.{temporariesOf}
-use Rattle.statements.specs.declared.Ended.{Ended}
 use Rattle.statements.specs.Ending.{result, concluded, assertNumber, Does}
 use Rattle.statements.proofs.ChangeLaws.{becomes-same}
 use Rattle.steps.specs.Steps.{Takes, Observes}

@@ -1,30 +1,24 @@
 -- From what the parts answer to what the whole does.
-use Prim.Native.Nat.{ℕ, suc, _<_}
+use Prim.Native.Nat.{ℕ}
 use native.Mathlib.Omega.{arith}
-use mathlib.Core.Bool.{Bool, cond}
 use mathlib.Core.List.{List}
-use mathlib.Core.Logic.{_≢_, _⊎_, inl, inr}
+use mathlib.Core.Logic.{_≢_, inl, inr}
 use mathlib.Core.Path.{_≡_, refl, sym, ap, _∙_, subst}
-use borrow.Author.Tests.{ne-eqb}
-use Rattle.rules.specs.Memory.{Memory, Change, changed, stopped}
+use Rattle.rules.specs.Memory.{Memory, changed}
 use Rattle.rules.specs.Evaluation.{Variables}
-use Rattle.rules.specs.Observation.{Observation, Noted, noted, refused}
+use Rattle.rules.specs.Observation.{Observation}
 use Rattle.rules.specs.TargetTrees.{TargetStatement}
-use Rattle.rules.specs.Watched.{Temporaries, WatchedOutcome, finished, ended, Watching, next, after, decide, taken, observed, watch}
+use Rattle.rules.specs.Watched.{WatchedOutcome, finished, ended, Watching, next}
 use Rattle.rules.specs.Layout.{memoryOf, observationOf, observationImage}
-use Rattle.rules.specs.declared.Evaluated.{Evaluated}
-use Rattle.rules.specs.declared.Evaluated.the-variants as evaluated
-use Rattle.rules.specs.declared.Test.{Test}
-use Rattle.rules.specs.declared.Test.the-variants as test
 use Rattle.rules.proofs.Keeping.{Ending}
 use Rattle.rules.proofs.Endings.{WatchedEnds, watch-endings}
 use Rattle.cells.specs.Changes.{Becomes, Exact}
 use Rattle.observation.specs.Calls.{ObservationBecomes}
 use Rattle.temporaries.specs.Bytes.{temporariesOf}
 use Rattle.statements.specs.declared.Ended.{Ended}
-use Rattle.statements.specs.Ending.{result, concluded, assertNumber, Does}
-use Rattle.statements.proofs.ChangeLaws.{becomes-same, becomes-then}
-use Rattle.watched_statements.specs.Watching.{Lent, lent, goFrom, watchFrom, resultOf, Ran}
+use Rattle.statements.specs.Ending.{result}
+use Rattle.statements.proofs.ChangeLaws.{becomes-same}
+use Rattle.watched_statements.specs.Watching.{Lent, lent, goFrom, watchFrom, Ran}
 
 -- ---- the bytes
 pub observation-same : {l : List ℕ} {o : Observation} → observationOf l ≡ o → ObservationBecomes l l o

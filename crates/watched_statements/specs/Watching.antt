@@ -23,7 +23,6 @@ use Rattle.rules.proofs.TargetFields.{HasSort, expressionAt, statementAt, numbe
 use Rattle.tables.specs.Within.{Within}
 use Rattle.cells.specs.Changes.{Becomes}
 use Rattle.observation.specs.Calls.{ObservationBecomes}
-use Rattle.evaluation.specs.State.{variablesOf}
 use Rattle.temporaries.specs.Bytes.{temporariesOf}
 use Rattle.statements.specs.declared.Ended.{Ended}
 use Rattle.statements.specs.Ending.{result, concluded}

@@ -1,12 +1,11 @@
 -- The statements with parts, and the dispatcher. The measure is the record number.
 use Prim.Native.Nat.{ℕ, _+_, _-_, _*_, _<_}
 use native.Mathlib.Omega.{arith}
-use mathlib.Core.Path.{_≡_, refl, sym, ap, _∙_, subst}
+use mathlib.Core.Path.{refl, sym, _∙_}
 use borrow.Author.Needs.{needs}
-use lib.ListN.{length, set}
-use Rattle.rules.specs.Records.{kindOf, markOf, childA, childB, childC}
+use Rattle.rules.specs.Records.{markOf, childA, childB}
 use Rattle.rules.specs.Memory.{endBlock}
-use Rattle.rules.specs.Evaluation.{Variables, extend}
+use Rattle.rules.specs.Evaluation.{extend}
 use Rattle.rules.specs.Plain.{finished, ended}
 use Rattle.rules.specs.Plain as plain
 use Rattle.rules.specs.Layout.{memoryOf}
@@ -15,11 +14,9 @@ use Rattle.rules.proofs.StatementArms.{sequence-children, branch-children, whil
 use Rattle.rules.proofs.PlainArms.{statementAt, statement-kinds, run-skip, run-sequence}
 use Rattle.evaluation.specs.State.{variablesOf}
 use Rattle.statements.specs.Ending.{result}
-use Rattle.plain.specs.Running.{Ready, Ran}
 use Rattle.statements.proofs.ChangeLaws.{becomes-same}
 use Rattle.plain.proofs.Laws.{ran-is, next-goes, next-stays}
 use Rattle.plain.proofs.ReadyLaws.{ready-within, ready-number, ready-first, ready-then, ready-else, ready-turn}
-use Rattle.statements.proofs.EntryLaws.{variables-set}
 use Rattle.plain.proofs.MemberLaws.{ran-from, ran-same, branch-yes, branch-no, branch-stop, turn-yes, turn-no, turn-stop, turn-out, let-made, let-unmade, Turning, turn-ends, turn-again, turn-spends, inside-ends, ready-later, ready-made}
 use borrow.Fn.Kinds.{In}
 use borrow.Fn.PlainCycle.{Measures, is, falls, and}

@@ -1,8 +1,6 @@
 use borrow.Author.Needs.{needs}
-use Prim.Native.Nat.{ℕ, _≤_}
 use native.Mathlib.Omega.{arith}
-use mathlib.Core.Path.{sym, ap, _∙_}
-use lib.ListN.{length}
+use mathlib.Core.Path.{sym, _∙_}
 use Rattle.statements.proofs.EntryLaws.{put-all, memory-whole, inputs-short}
 use Rattle.plain.proofs.EntryLaws.{start-ready, exit-length, entry-ends}
 use Rattle.plain.proofs.run_inputs.Statement.{statement}

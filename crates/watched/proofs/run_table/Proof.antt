@@ -6,7 +6,6 @@ use Rattle.rules.specs.Plain.{startVariables}
 use Rattle.rules.specs.Watched.{startTemporaries, watch}
 use Rattle.rules.specs.Layout.{memoryOf, observationOf}
 use Rattle.watched.proofs.EntryLaws.{leaves-is, table-length, ready-start, same-program}
-use borrow.Author.Needs.{needs}
 use Rattle.watched.proofs.run_table.Statement.{statement}
 use Rattle.watched.proofs.run_table.Tie as tie
 

@@ -1,5 +1,4 @@
 use mathlib.Core.Path.{sym, _∙_}
-use Rattle.rules.specs.Kinds.{target}
 use Rattle.rules.specs.Records.{markOf}
 use Rattle.rules.specs.Evaluation.{condition}
 use Rattle.rules.specs.Watched.{heldIn}
@@ -12,7 +11,6 @@ use Rattle.watched_statements.specs.Watching.{lent}
 use Rattle.watched_statements.proofs.Laws.{ran-is, ran-finished}
 use Rattle.watched_statements.proofs.ActLaws.{last-act, acts-change, acts-taken, acts-observed, acts-asserted}
 use Rattle.watched_statements.proofs.ReadyLaws.{ready-within, assign-fits}
-use borrow.Author.Needs.{needs}
 use Rattle.watched_statements.proofs.act.Statement.{statement}
 use Rattle.watched_statements.proofs.act.Tie as tie
 

@@ -4,7 +4,6 @@ use Rattle.rules.specs.Memory.{allocated}
 use Rattle.rules.specs.Layout.{memoryOf}
 use Rattle.rules.proofs.StatementArms.{statement-within, new-children}
 use Rattle.statements.proofs.ChangeLaws.{does-is}
-use borrow.Author.Needs.{needs}
 use Rattle.watched_statements.proofs.allocate.Statement.{statement}
 use Rattle.watched_statements.proofs.allocate.Tie as tie
 

@@ -1,9 +1,9 @@
 -- The statements with parts, and the dispatcher. The measure is the record number.
-use Prim.Native.Nat.{_+_, _-_, _*_}
+use Prim.Native.Nat.{ℕ, _+_, _-_, _*_, _<_}
 use native.Mathlib.Omega.{arith}
 use borrow.Author.Needs.{needs}
-use mathlib.Core.Logic.{_⊎_, inl, inr}
-use mathlib.Core.Path.{_≡_, refl, sym, _∙_}
+use mathlib.Core.Logic.{inl, inr}
+use mathlib.Core.Path.{refl, sym, _∙_}
 use Rattle.rules.specs.Kinds.{target}
 use Rattle.rules.specs.Records.{markOf, childA, childB}
 use Rattle.rules.specs.Memory.{endBlock}
@@ -18,9 +18,8 @@ use Rattle.evaluation.specs.State.{variablesOf}
 use Rattle.temporaries.specs.Bytes.{temporariesOf}
 use Rattle.watched_statements.specs.Watching.{lent}
 use Rattle.watched_statements.proofs.Laws.{kept-same, kept-memory, ran-is, ran-from, ran-finished, ran-ended, next-goes, next-stays}
-use Rattle.watched.proofs.ReadyLaws.{ready-within, ready-first, ready-later, branch-parts, ready-then, ready-else, ready-turn, ready-made}
+use Rattle.watched_statements.proofs.ReadyLaws.{ready-within, ready-first, ready-later, branch-parts, ready-then, ready-else, ready-turn, ready-made}
 use Rattle.watched.proofs.MemberLaws.{branch-by, turn-by, turn-out, let-made, let-unmade, Turning, turn-ends, turn-again, turn-spends, inside-ends}
-use Prim.Native.Nat.{ℕ, _<_}
 use borrow.Fn.Kinds.{In}
 use borrow.Fn.PlainCycle.{Measures, is, falls, and}
 use Rattle.watched.proofs.runs.branch.Reads as branch

@@ -1,19 +1,17 @@
 -- A statement that may run: so may its parts, and what it finds fits.
-use Prim.Native.Nat.{ℕ, _<_}
-use native.Mathlib.Omega.{arith}
+use Prim.Native.Nat.{ℕ}
 use mathlib.Core.List.{List}
-use mathlib.Core.Logic.{_⊎_, inl, inr}
+use mathlib.Core.Logic.{inl, inr}
 use mathlib.Core.Path.{_≡_, sym, subst}
 use Rattle.rules.specs.Kinds.{target, statement}
 use Rattle.rules.specs.Records.{kindOf, markOf, childA, childB, childC}
-use Rattle.rules.specs.Memory.{Memory, Use, fixed, Made, made, makeBlock}
-use Rattle.rules.specs.Observation.{Observation}
-use Rattle.rules.specs.Evaluation.{Variables, held, evaluate, extend}
+use Rattle.rules.specs.Memory.{Memory, Use, fixed, made, makeBlock}
+use Rattle.rules.specs.Evaluation.{Variables, held, evaluate}
 use Rattle.rules.specs.Watched.{Temporaries, temporaryOf, WatchedOutcome, finished, ended}
 use Rattle.rules.specs.Layout.{memoryOf, observationOf}
 use Rattle.rules.specs.declared.Temporary.the-variants as temporary
 use Rattle.rules.proofs.Lists.{All, all-getD}
-use Rattle.rules.proofs.Sound.{Scope, adding, Named, SoundTarget}
+use Rattle.rules.proofs.Sound.{adding, Named, SoundTarget}
 use Rattle.rules.proofs.Keeping.{AnyNumber, MadeKeeps}
 use Rattle.rules.proofs.Outcomes.{WatchedOutcomes}
 use Rattle.rules.proofs.Fits.{FitsTemporary, FitsMemory, FitsObservation}
