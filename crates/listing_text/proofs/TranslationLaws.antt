@@ -20,7 +20,7 @@ use Rattle.rules.specs.Answers.{translatedInto}
 use Rattle.rules.specs.declared.Answer.{Answer}
 use Rattle.rules.proofs.WordLaws.{length-put}
 use Rattle.rules.proofs.Sound.{startScope}
-use Rattle.rules.proofs.SoundSource.{sound-source}
+use Rattle.rules.proofs.AcceptedPrograms.{accepted-program}
 use Rattle.rules.proofs.SoundTranslation.{sound-translation}
 use Rattle.rules.proofs.Acceptance.{accepted-says}
 use Rattle.rules.proofs.SizeBound.{size-bound}
@@ -46,7 +46,7 @@ module _ (t : List ℕ) (a : check source t ≡ checked.Accepted) where
   records-fit =
       emit-fits target (statementTree (translate (sourceProgram t))) 0 startScope
       (statement-fits (translate (sourceProgram t)) startScope
-      (sound-translation (sourceProgram t) startScope (sound-source t a)))
+      (sound-translation (sourceProgram t) startScope (accepted-program source t a .last .sound)))
       (omega (arith, tree-small))
 
   pub lines-fit : length (translatedLines t) ≤ longestText

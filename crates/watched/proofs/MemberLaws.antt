@@ -1,11 +1,9 @@
 -- From what the parts of a statement with parts do to what it does.
 use Prim.Native.Nat.{ℕ, suc, _-_, _<_, _≤_}
 use native.Mathlib.Omega.{arith}
-use mathlib.Core.Bool.{Bool, cond}
 use mathlib.Core.List.{List}
 use mathlib.Core.Logic.{_≢_, inl, inr}
 use mathlib.Core.Path.{_≡_, refl, sym, ap, _∙_}
-use borrow.Author.Tests.{eq-eqb, ne-eqb}
 use Rattle.rules.specs.Kinds.{statement}
 use Rattle.rules.specs.Records.{kindOf, markOf, childA, childB, childC}
 use Rattle.rules.specs.Memory.{Memory, fixed, Made, made, makeBlock, endBlock}
@@ -25,27 +23,9 @@ use Rattle.statements.specs.declared.Ended.{Ended}
 use Rattle.statements.specs.Ending.{result}
 use Rattle.statements.proofs.ChangeLaws.{becomes-is, made-by, unmade-by}
 use Rattle.watched_statements.specs.Watching.{Lent, lent, goFrom, watchFrom, LentFits, Ready, enclosed, IsBranch, choice, resultOf, Ran}
+use Rattle.watched_statements.proofs.Choices.{choice-on, choice-of}
 use Rattle.watched_statements.proofs.Laws.{observation-same, Kept, kept-then, ran-kept, ran-is, ran-from, watch-finished, next-goes, next-stays}
 use Rattle.watched_statements.proofs.ReadyLaws.{run-kept}
-
--- what a branch tests, by its kind
-pub not-on : {k : ℕ} → IsBranch k → k ≢ 66 → k ≡ 45
-not-on (inl e) d = e
-not-on (inr e) d = absurd (d e)
-
-module _ (t : List ℕ) (n : ℕ) (τ : Temporaries) (ρ : Variables) (m : Memory) where
-  chosen-by : Bool → Test
-  chosen-by b =
-      condition (cond b (heldIn τ (markOf t n)) (evaluate (expressionAt t (childA t n)) (temporaryOf τ) ρ m))
-
-  pub choice-on : kindOf t n ≡ 66 → condition (heldIn τ (markOf t n)) ≡ choice t n τ ρ m
-  unfolding chosen-by
-  choice-on e = ap chosen-by (sym (eq-eqb (kindOf t n) 66 e))
-
-  pub choice-of : kindOf t n ≢ 66
-      → condition (evaluate (expressionAt t (childA t n)) (temporaryOf τ) ρ m) ≡ choice t n τ ρ m
-  unfolding chosen-by
-  choice-of d = ap chosen-by (sym (ne-eqb (kindOf t n) 66 d))
 
 module _ (t : List ℕ) (n : ℕ) (h : HasSort statement t n) (ρ : Variables) (x : Lent) where
   abbrev memory : Memory

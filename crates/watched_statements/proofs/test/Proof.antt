@@ -9,7 +9,7 @@ use Rattle.rules.proofs.StatementArms.{statement-within, branch-children}
 use Rattle.rules.proofs.TargetFields.{branch-on-fields}
 use Rattle.evaluation.specs.State.{variablesOf}
 use Rattle.temporaries.specs.Bytes.{temporariesOf}
-use Rattle.watched_statements.proofs.MemberLaws.{not-on, choice-on, choice-of}
+use Rattle.watched_statements.proofs.Choices.{not-on, choice-on, choice-of}
 use borrow.Author.Needs.{needs}
 use Rattle.watched_statements.proofs.test.Statement.{statement}
 use Rattle.watched_statements.proofs.test.Tie as tie
