@@ -1,6 +1,2 @@
-pub mod ObservationLaws
-pub mod BecomesLaws
-pub mod PlaceLaws
 pub mod ArmLaws
-pub mod FillLoop
 pub mod StoreLaws

@@ -9,7 +9,7 @@ ghost use Rattle.rules.specs.Watched.{heldIn, calledOn, calledOnTwo};
 ghost use Rattle.rules.specs.Layout.{observationOf, observationImage};
 ghost use Rattle.rules.specs.declared.Evaluated.the-variants as evaluated;
 ghost use Rattle.temporaries.specs.Bytes.{temporariesOf};
-ghost use Rattle.observation.specs.Calls.{ObservationBecomes};
+ghost use Rattle.marks.specs.Changes.{ObservationBecomes};
 ghost use Rattle.steps.specs.Steps.{Takes, Observes, notingNumber};
 use observation::Noting;
 use rules::Evaluated;

@@ -19,7 +19,7 @@ use Rattle.rules.specs.declared.Test.the-variants as test
 use Rattle.rules.proofs.Keeping.{Ending}
 use Rattle.rules.proofs.Endings.{WatchedEnds, watch-endings}
 use Rattle.cells.specs.Changes.{Becomes, Exact}
-use Rattle.observation.specs.Calls.{ObservationBecomes}
+use Rattle.marks.specs.Changes.{ObservationBecomes}
 use Rattle.temporaries.specs.Bytes.{temporariesOf}
 use Rattle.statements.specs.declared.Ended.{Ended}
 use Rattle.statements.specs.Ending.{result, concluded, assertNumber, Does}

@@ -22,7 +22,7 @@ use Rattle.rules.proofs.Reachable.{NamesFit}
 use Rattle.rules.proofs.TargetFields.{HasSort, expressionAt, statementAt, numberAt}
 use Rattle.tables.specs.Within.{Within}
 use Rattle.cells.specs.Changes.{Becomes}
-use Rattle.observation.specs.Calls.{ObservationBecomes}
+use Rattle.marks.specs.Changes.{ObservationBecomes}
 use Rattle.evaluation.specs.State.{variablesOf}
 use Rattle.temporaries.specs.Bytes.{temporariesOf}
 use Rattle.statements.specs.declared.Ended.{Ended}

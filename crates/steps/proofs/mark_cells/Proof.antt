@@ -9,7 +9,7 @@ use denote.Ref.{now}
 use lib.IntN.{pos}
 use Rattle.rules.specs.Observation.{markAll}
 use Rattle.rules.specs.Layout.{observationOf}
-use Rattle.observation.specs.Calls.{ObservationBecomes}
+use Rattle.marks.specs.Changes.{ObservationBecomes}
 use Rattle.steps.proofs.StartLaws.{becomes-is, mark-none, mark-more}
 use Rattle.steps.proofs.mark_cells.Statement.{statement}
 use Rattle.steps.proofs.mark_cells.Tie as tie
