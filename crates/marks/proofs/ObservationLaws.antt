@@ -59,7 +59,7 @@ alive-named l (suc k) b e d = (omega arith, below (decLe (suc k) nameCount))
         let z : _≡_ {A = ℕ} 1 0 = ap isDead (record-past l (suc k) (omega arith) ∙ e) ∙ d in
         absurd (omega arith)
 
--- by its state
+-- a record by its state
 module _ (l : List ℕ) (k : ℕ) where
   pub recorded-unused : getD l (blockPlace k) 0 ≡ 0 → recorded.Unused ≡ recordedAt l k
   unfolding recordedAt
