@@ -1,24 +1,19 @@
 -- One law for each arm of a call: what it answers, from what its parts answered.
-use Prim.Native.Nat.{ℕ, zero, suc, _+_, _-_, _<_, _≤_}
+use Prim.Native.Nat.{ℕ, _+_, _<_, _≤_}
 use native.Mathlib.Omega.{arith}
-use mathlib.Core.Path.{_≡_, refl, sym, ap, ap₂, _∙_, subst}
+use mathlib.Core.Path.{_≡_, refl, sym, ap, _∙_, subst}
 use mathlib.Core.Bool.{Bool, true, false}
 use mathlib.Core.List.{List}
 use lib.Dec.{T}
-use lib.ListN.{length, getD}
-use lib.Seq.{set-out}
 use lib.IntN.{ℤ, pos, negsuc, natAbs}
 use lib.Signed.{ltZ}
 use borrow.Author.Tests.{lt-ltb, le-ltb}
 use Rattle.numbers.proofs.Integers.{ltZ-true}
-use Rattle.rules.specs.Sizes.{cellCount}
-use Rattle.rules.specs.Words.{wordAt}
 use Rattle.rules.specs.Trees.{valid, initialised, base, offset, blockLength}
 use Rattle.rules.specs.Numbers.{truthValue}
 use Rattle.rules.specs.Memory.{locatedIn}
 use Rattle.rules.specs.Evaluation.{isValid, initialisedAt, ofLive, queried}
-use Rattle.rules.specs.Observation.{Observation, Noted, noted, refused, recordOf, markOf, withMarks, locateMark, queryObservation}
-use Rattle.rules.specs.Layout.{blockPlace, recordedFrom, recordedAt, observationOf}
+use Rattle.rules.specs.Observation.{Observation, Noted, noted, refused, recordOf, markOf, locateMark, queryObservation}
 use Rattle.rules.specs.declared.Pointer.{Pointer}
 use Rattle.rules.specs.declared.Value.{Value}
 use Rattle.rules.specs.declared.Value.the-variants as value
@@ -27,36 +22,11 @@ use Rattle.rules.specs.declared.Located.{Located}
 use Rattle.rules.specs.declared.Located.the-variants as located
 use Rattle.rules.specs.declared.Recorded.{Recorded}
 use Rattle.rules.specs.declared.Recorded.the-variants as recorded
+use Rattle.marks.specs.Changes.{ObservationBecomes}
+use Rattle.marks.proofs.BecomesLaws.{becomes-same}
 use Rattle.observation.specs.declared.Noting.{Noting}
 use Rattle.observation.specs.declared.Noting.the-variants as noting
-use Rattle.observation.specs.Calls.{ObservationBecomes, Answers, withRecord, withMark, markRange, spanOf}
-use Rattle.observation.proofs.ObservationLaws.{mark-count}
-use Rattle.observation.proofs.BecomesLaws.{becomes-same, becomes-then}
-
--- ---- a record by its state
-module _ (l : List ℕ) (k : ℕ) where
-  pub recorded-unused : getD l (blockPlace k) 0 ≡ 0 → recorded.Unused ≡ recordedAt l k
-  unfolding recordedAt
-  recorded-unused e =
-      sym (ap (λ (s : ℕ). recordedFrom s (wordAt 2 l (blockPlace k + 2)) (wordAt 2 l (blockPlace k + 4))) e)
-
-  pub recorded-live : (first n : ℕ) → getD l (blockPlace k) 0 ≡ 1 → first ≡ wordAt 2 l (blockPlace k + 2)
-      → n ≡ wordAt 2 l (blockPlace k + 4) → recorded.Live first n ≡ recordedAt l k
-  unfolding recordedAt
-  recorded-live first n e f g =
-      ap₂ recorded.Live f g
-      ∙ sym (ap (λ (s : ℕ). recordedFrom s (wordAt 2 l (blockPlace k + 2)) (wordAt 2 l (blockPlace k + 4))) e)
-
-  pub recorded-dead : (getD l (blockPlace k) 0 ≡ 0 → ⊥) → (getD l (blockPlace k) 0 ≡ 1 → ⊥)
-      → recorded.Dead ≡ recordedAt l k
-  unfolding recordedAt
-  recorded-dead a b = go (getD l (blockPlace k) 0) a b
-    where
-      go : (s : ℕ) → (s ≡ 0 → ⊥) → (s ≡ 1 → ⊥)
-          → recorded.Dead ≡ recordedFrom s (wordAt 2 l (blockPlace k + 2)) (wordAt 2 l (blockPlace k + 4))
-      go zero a b = absurd (a refl)
-      go (suc zero) a b = absurd (b refl)
-      go (suc (suc s)) a b = refl
+use Rattle.observation.specs.Calls.{Answers, spanOf}
 
 -- ---- where an offset leads in a live block
 module _ (first n : ℕ) where
@@ -125,36 +95,3 @@ answers-noted l l′ e b = subst (Answers l l′ noting.Noted) (sym e) (record {
 
 pub answers-same : (l l′ : List ℕ) (r : Noting) {m n : Noted} → m ≡ n → Answers l l′ r n → Answers l l′ r m
 answers-same l l′ r e a = subst (Answers l l′ r) (sym e) a
-
-pub becomes-as : {l l′ l″ : List ℕ} {o : Observation} → l′ ≡ l″ → ObservationBecomes l l″ o → ObservationBecomes l l′
-    o
-becomes-as {l} {l′} {l″} {o} e b = subst (λ (t : List ℕ). ObservationBecomes l t o) (sym e) b
-
--- a mark past the end is none
-pub becomes-out : (l : List ℕ) (i : ℕ) → cellCount ≤ i → ObservationBecomes l l (withMark (observationOf l) i)
-becomes-out l i h =
-    let past : length (observationOf l .marks) ≤ i = omega (arith, mark-count l) in
-    record {
-      view = λ t. record {
-        blocks = observationOf l .blocks;
-        marks = sym
-            (set-out (observationOf l .marks) i true past) t;
-      };
-      exact = λ x. x;
-    }
-
--- marks cleared, then the record of a name
-pub becomes-replaced : (l : List ℕ) {l′ l″ : List ℕ} (k : ℕ) (b : Recorded) (first n : ℕ) → 0 < k
-    → ObservationBecomes l l′ (markRange (observationOf l) first n false)
-    → ObservationBecomes l′ l″ (withRecord (observationOf l′) (k - 1) b)
-    → ObservationBecomes l l″ (withMarks (observationOf l) k b first n)
-becomes-replaced l zero b first n h x y = absurd (omega arith)
-becomes-replaced l (suc k) b first n h x y =
-    becomes-then (λ (o : Observation). withRecord o k b) x (place y)
-  where
-    before : (k : ℕ) → suc k - 1 ≡ k
-    before k = omega arith
-
-    place : {l′ l″ : List ℕ} → ObservationBecomes l′ l″ (withRecord (observationOf l′) (suc k - 1) b)
-        → ObservationBecomes l′ l″ (withRecord (observationOf l′) k b)
-    place {l′} {l″} y = subst (λ (j : ℕ). ObservationBecomes l′ l″ (withRecord (observationOf l′) j b)) (before k) y

@@ -8,7 +8,7 @@ use Rattle.rules.specs.Layout.{observationOf, observationImage}
 use Rattle.rules.proofs.LayoutLaws.{observation-back}
 use Rattle.rules.proofs.KeptPredicates.{empty-inside}
 use Rattle.observation.specs.Calls.{ObservationBecomes}
-use Rattle.observation.proofs.BecomesLaws.{becomes-same, becomes-then}
+use Rattle.observation.proofs.Becoming.{becomes-same, becomes-then}
 
 pub becomes-is : {l l′ : List ℕ} {o o′ : Observation} → o ≡ o′ → ObservationBecomes l l′ o → ObservationBecomes l l′ o′
 becomes-is {l} {l′} e h = subst (ObservationBecomes l l′) e h

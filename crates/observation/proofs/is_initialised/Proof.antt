@@ -15,8 +15,8 @@ locate-mark-requires c κs = search needs
 is-marked-place-requires : tie.Need-is-marked-place-requires
 is-marked-place-requires c κs = search needs
 
-truth-of-requires : tie.Need-truth-of-requires
-truth-of-requires c κs = search needs
+truth-requires : tie.Need-truth-requires
+truth-requires c κs = search needs
 
 enum-told : tie.Need-enum-told
 enum-told c = search needs
@@ -29,7 +29,7 @@ returns c =
     let s = c .before .before .before .before .before .before in
     let v = c .before .before .before .before .v .given in
     query-initialised (observationOf (now (s .args .obs))) (s .args .v) (v .0 .0) (v .1)
-    (c .before .before .locate-mark .ensures) (c .before .is-marked-place .ensures) (c .truth-of .ensures)
+    (c .before .before .locate-mark .ensures) (c .before .is-marked-place .ensures) (c .truth .ensures)
 
 returns-2 : tie.Need-returns-2
 returns-2 c = search needs
@@ -44,7 +44,7 @@ is-initialised-spec =
     enum-known-v
     locate-mark-requires
     is-marked-place-requires
-    truth-of-requires
+    truth-requires
     enum-told
     enum-told-2
     returns

@@ -7,7 +7,7 @@ use denote.Ref.{now}
 use Rattle.rules.specs.Layout.{observationOf}
 use Rattle.rules.specs.Observation.{markRun, storeAt}
 use Rattle.rules.specs.declared.Recorded.{Recorded}
-use Rattle.observation.proofs.ObservationLaws.{alive-named}
+use Rattle.marks.proofs.ObservationLaws.{alive-named}
 use Rattle.observation.proofs.ArmLaws.{answers-refused, answers-same}
 
 record-of-requires : tie.Need-record-of-requires

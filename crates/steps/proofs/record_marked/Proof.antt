@@ -5,7 +5,7 @@ use mir.Val.{SFits}
 use mir.Facts.{toZ-ofZ}
 use lib.IntN.{pos}
 use Rattle.rules.specs.Observation.{Observation, markAll}
-use Rattle.observation.proofs.BecomesLaws.{becomes-then}
+use Rattle.observation.proofs.Becoming.{becomes-then}
 use borrow.Author.Needs.{needs}
 use Rattle.steps.proofs.record_marked.Statement.{statement}
 use Rattle.steps.proofs.record_marked.Tie as tie

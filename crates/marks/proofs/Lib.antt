@@ -1,0 +1,4 @@
+pub mod ObservationLaws
+pub mod BecomesLaws
+pub mod PlaceLaws
+pub mod FillLoop
