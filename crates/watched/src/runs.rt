@@ -24,10 +24,9 @@ pub fn run(
 {
     match tables::kind(&table[..], n) {
         44 => sequence(table, n, variables, temporaries, mem, obs, fuel),
-        45 => branch(table, n, variables, temporaries, mem, obs, fuel),
+        45 | 66 => branch(table, n, variables, temporaries, mem, obs, fuel),
         46 => repeat(table, n, variables, temporaries, mem, obs, fuel),
         47 => enclose(table, n, variables, temporaries, mem, obs, fuel),
-        66 => branch(table, n, variables, temporaries, mem, obs, fuel),
         _ => watched_statements::step(table, n, variables, temporaries, mem, obs, fuel),
     }
 }

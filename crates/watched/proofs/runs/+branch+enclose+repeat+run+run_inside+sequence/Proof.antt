@@ -610,7 +610,7 @@ run-branch-requires t c κs =
     let after-match = c .before .before .before in
     let after-kind = after-match .before in
     let s = after-kind .before .before in
-    (omega (arith, s .pre .0), (s .pre .1, inl (sym (after-kind .kind .ensures) ∙ after-match .match .keys2)))
+    (omega (arith, s .pre .0), (s .pre .1, rw (after-kind .kind .ensures) at (after-match .match .keys2)))
 
 run-repeat-requires : (t : ℕ) → run-lts.Need-repeat-requires (run-claims t) (run-at t) run.Post
 run-repeat-requires t c κs =
@@ -626,13 +626,6 @@ run-enclose-requires t c κs =
     let s = after-kind .before .before in
     (omega (arith, s .pre .0), (s .pre .1, sym (after-kind .kind .ensures) ∙ after-match .match .keys4))
 
-run-branch-requires-2 : (t : ℕ) → run-lts.Need-branch-requires-2 (run-claims t) (run-at t) run.Post
-run-branch-requires-2 t c κs =
-    let after-match = c .before .before .before in
-    let after-kind = after-match .before in
-    let s = after-kind .before .before in
-    (omega (arith, s .pre .0), (s .pre .1, inr (sym (after-kind .kind .ensures) ∙ after-match .match .keys5)))
-
 run-step-requires : (t : ℕ) → run-lts.Need-step-requires (run-claims t) (run-at t) run.Post
 run-step-requires t c κs =
     let after-match = c .before .before .before in
@@ -642,11 +635,11 @@ run-step-requires t c κs =
     let r = after-match .match .rest in (
       s .pre .1,
       (
-        λ e. r .0 .0 .0 .0 .1 (k ∙ e),
         λ e. r .0 .0 .0 .1 (k ∙ e),
-        λ e. r .0 .0 .1 (k ∙ e),
+        λ e. r .0 .0 .1 (inl (k ∙ e)),
         λ e. r .0 .1 (k ∙ e),
         λ e. r .1 (k ∙ e),
+        λ e. r .0 .0 .1 (inr (k ∙ e)),
       ),
     )
 
@@ -668,10 +661,6 @@ run-returns-4 t c =
 
 run-returns-5 : (t : ℕ) → run-lts.Need-returns-5 (run-claims t) (run-at t) run.Post
 run-returns-5 t c =
-    c .branch2 .ensures
-
-run-returns-6 : (t : ℕ) → run-lts.Need-returns-6 (run-claims t) (run-at t) run.Post
-run-returns-6 t c =
     c .step .ensures
 
 run-inside-mark-requires : (t : ℕ) → run-inside-lts.Need-mark-requires (run-inside-claims t)
@@ -903,14 +892,12 @@ pub +branch+enclose+repeat+run+run-inside+sequence-spec : {M : Type 1} → state
     (run-branch-requires t)
     (run-repeat-requires t)
     (run-enclose-requires t)
-    (run-branch-requires-2 t)
     (run-step-requires t)
     (run-returns t)
     (run-returns-2 t)
     (run-returns-3 t)
     (run-returns-4 t)
-    (run-returns-5 t)
-    (run-returns-6 t))
+    (run-returns-5 t))
     (λ t. run-inside-lts.spec (run-inside-claims t)
     (run-inside-at t)
     run-inside.Post
