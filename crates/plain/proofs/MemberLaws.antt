@@ -114,40 +114,39 @@ module _ (t : List ℕ) (n : ℕ) (h : HasSort statement t n) (ρ : Variables) w
         (λ k m₁ f₁. run (statementAt t (childA t n)) (extend ρ (markOf t n) k) m₁ f₁)) u)
         (record { answer = a; memory = becomes-is (ap (madeMemory (memoryOf l)) u) w })
 
--- the turns so far of a while: what is left to run is the same statement
-pub record Turning (t : List ℕ) (n : ℕ) (ρ : Variables) (entry : List ℕ) (fuel : ℕ) (l : List ℕ) (left : ℕ)
+-- what ran so far of statement n: statement m is left to run
+pub record Remaining (t : List ℕ) (n : ℕ) (ρ : Variables) (entry : List ℕ) (fuel m : ℕ) (l : List ℕ) (left : ℕ)
     : Type 0 where
-  pub rest : run (statementAt t n) ρ (memoryOf entry) fuel ≡ run (statementAt t n) ρ (memoryOf l) left
+  pub rest : run (statementAt t n) ρ (memoryOf entry) fuel ≡ run (statementAt t m) ρ (memoryOf l) left
   pub bytes : Becomes entry l (memoryOf l)
   pub fits : FitsMemory (memoryOf l)
 
--- after a turn that finished
-module _ (t : List ℕ) (n : ℕ) (ρ : Variables) (entry : List ℕ) (fuel : ℕ) (l : List ℕ) (left : ℕ)
-    (v : Turning t n ρ entry fuel l left) (x : ℕ) (r : Ended) (l₁ : List ℕ)
-    (w : Ran (run (statementAt t x) ρ (memoryOf l) (left - 1)) r l l₁)
-    (e : run (statementAt t n) ρ (memoryOf l) left
-    ≡ next (run (statementAt t x) ρ (memoryOf l) (left - 1)) (λ m₂ f₂. run (statementAt t n) ρ m₂ f₂)) where
-  again : Memory → ℕ → Outcome
-  again m₂ f₂ = run (statementAt t n) ρ m₂ f₂
+-- after statement x, which runs first in m, with statement k to follow
+module _ (t : List ℕ) (n : ℕ) (ρ : Variables) (entry : List ℕ) (fuel m : ℕ) (l : List ℕ) (left : ℕ)
+    (v : Remaining t n ρ entry fuel m l left) (x k f : ℕ) (r : Ended) (l₁ : List ℕ)
+    (w : Ran (run (statementAt t x) ρ (memoryOf l) f) r l l₁)
+    (e : run (statementAt t m) ρ (memoryOf l) left
+    ≡ next (run (statementAt t x) ρ (memoryOf l) f) (λ m₂ f₂. run (statementAt t k) ρ m₂ f₂)) where
+  abbrev following : Memory → ℕ → Outcome
+  following m₂ f₂ = run (statementAt t k) ρ m₂ f₂
 
-  pub turn-ends : r .number ≢ 0 → Ran (run (statementAt t n) ρ (memoryOf entry) fuel) r entry l₁
-  turn-ends d =
-      ran-is (v .rest ∙ e)
-      (ran-from (v .bytes) (next-stays (statementAt t x) ρ (left - 1) _ r l l₁ w d))
+  pub part-ends : r .number ≢ 0 → Ran (run (statementAt t n) ρ (memoryOf entry) fuel) r entry l₁
+  part-ends d =
+      ran-is (v .rest ∙ e) (ran-from (v .bytes) (next-stays (statementAt t x) ρ f following r l l₁ w d))
 
-  pub turn-again : r .number ≡ 0 → Ready t x ρ (memoryOf l) → Turning t n ρ entry fuel l₁ (r .fuel)
-  turn-again d k =
-      let g = run-finished (statementAt t x) ρ (left - 1) (λ m₂ f₂. run (statementAt t n) ρ m₂ f₂) r l l₁ w d in
+  pub part-finishes : r .number ≡ 0 → Ready t x ρ (memoryOf l) → Remaining t n ρ entry fuel k l₁ (r .fuel)
+  part-finishes d h =
+      let g = run-finished (statementAt t x) ρ f following r l l₁ w d in
       record {
-        rest = v .rest ∙ e ∙ ap (λ (o : Outcome). next o (λ m₂ f₂. run (statementAt t n) ρ m₂ f₂)) g;
+        rest = v .rest ∙ e ∙ ap (λ (o : Outcome). next o following) g;
         bytes = becomes-is (sym (w .memory .view)) (becomes-then (v .bytes) (w .memory));
-        fits = subst FitsMemory (sym (w .memory .view)) (run-kept t x ρ (memoryOf l) k (left - 1));
+        fits = subst FitsMemory (sym (w .memory .view)) (run-kept t x ρ (memoryOf l) h f);
       }
 
-  pub turn-spends : r .number ≡ 0 → 0 < left → r .fuel < left
-  turn-spends d z =
-      let g = run-finished (statementAt t x) ρ (left - 1) (λ m₂ f₂. run (statementAt t n) ρ m₂ f₂) r l l₁ w d in
-      omega (arith, ap fuelOf g, run-fuel (statementAt t x) ρ (memoryOf l) (left - 1))
+  pub part-spends : r .number ≡ 0 → f < left → r .fuel < left
+  part-spends d z =
+      let g = run-finished (statementAt t x) ρ f following r l l₁ w d in
+      omega (arith, ap fuelOf g, run-fuel (statementAt t x) ρ (memoryOf l) f)
 
 -- a let's block ends where its statement finished
 pub inside-ends : (s : Statement) (ρ : Variables) (f k : ℕ) (r : Ended) (a b c : List ℕ)

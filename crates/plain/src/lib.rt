@@ -1,6 +1,7 @@
 // The plain run of an accepted source table.
 ghost use mathlib.Core.Path.{_≡_};
 ghost use mathlib.Core.Bool.{false};
+ghost use mathlib.Core.Logic.{_≢_};
 ghost use Rattle.rules.specs.Checker.{check, inputsFault, memoryFault};
 ghost use Rattle.rules.specs.Nodes.{sourceProgram};
 ghost use Rattle.rules.specs.Answers.{plainEnded, plainOutcome, plainBy, runPlain};
@@ -126,7 +127,7 @@ fn assert(
     statements::conclude(statements::assert_number(t), n as u32, fuel)
 }
 
-// Runs statement n.
+// Runs statement n. Of a sequence A runs, and B where A finished; as B may be one again, they are a loop.
 pub fn run(
     table: &[u8; 65536],
     n: usize,
@@ -139,6 +140,34 @@ pub fn run(
     ensures { λ r. ⌜ Ran (run (statementAt (now (table .entry)) n) (variablesOf (now (variables .entry)))
         (memoryOf (now (mem .entry))) fuel) r (now (mem .entry)) (now (mem .exit)) ⌝ }
 {
+    let mut at = n;
+    let mut left = fuel;
+    while tables::kind(&table[..], at) == 44 {
+        let first = tables::child_a(&table[..], at);
+        let r = run(table, first, variables, temporaries, mem, left);
+        if r.number != 0 {
+            return r;
+        }
+        left = r.fuel;
+        at = tables::child_b(&table[..], at);
+    }
+    run_single(table, at, variables, temporaries, mem, left)
+}
+
+// Runs statement n, which is no sequence.
+fn run_single(
+    table: &[u8; 65536],
+    n: usize,
+    variables: &[u16; 64],
+    temporaries: &[u8; 1024],
+    mem: &mut [u8; 18424],
+    fuel: u32,
+) -> Ended
+    requires { ⌜ Ready (now table) n (variablesOf (now variables)) (memoryOf (now mem))
+        × (kindOf (now table) n ≢ 44) ⌝ }
+    ensures { λ r. ⌜ Ran (run (statementAt (now (table .entry)) n) (variablesOf (now (variables .entry)))
+        (memoryOf (now (mem .entry))) fuel) r (now (mem .entry)) (now (mem .exit)) ⌝ }
+{
     match tables::kind(&table[..], n) {
         40 => Ended {
             number: 0,
@@ -148,47 +177,10 @@ pub fn run(
         41 => assign(table, n, variables, temporaries, mem, fuel),
         42 => allocate(table, n, variables, temporaries, mem, fuel),
         43 => release(table, n, variables, temporaries, mem, fuel),
-        44 => sequence(table, n, variables, temporaries, mem, fuel),
         45 => branch(table, n, variables, temporaries, mem, fuel),
         46 => repeat(table, n, variables, temporaries, mem, fuel),
         47 => enclose(table, n, variables, temporaries, mem, fuel),
         _ => assert(table, n, variables, temporaries, mem, fuel),
-    }
-}
-
-// A, and then B where A finished.
-fn sequence(
-    table: &[u8; 65536],
-    n: usize,
-    variables: &[u16; 64],
-    temporaries: &[u8; 1024],
-    mem: &mut [u8; 18424],
-    fuel: u32,
-) -> Ended
-    requires { ⌜ Ready (now table) n (variablesOf (now variables)) (memoryOf (now mem))
-        × (kindOf (now table) n ≡ 44) ⌝ }
-    ensures { λ r. ⌜ Ran (run (statementAt (now (table .entry)) n) (variablesOf (now (variables .entry)))
-        (memoryOf (now (mem .entry))) fuel) r (now (mem .entry)) (now (mem .exit)) ⌝ }
-{
-    let r = run(
-        table,
-        tables::child_a(&table[..], n),
-        variables,
-        temporaries,
-        mem,
-        fuel,
-    );
-    if r.number == 0 {
-        run(
-            table,
-            tables::child_b(&table[..], n),
-            variables,
-            temporaries,
-            mem,
-            r.fuel,
-        )
-    } else {
-        r
     }
 }
 

@@ -112,42 +112,43 @@ module _ (t : List ℕ) (n : ℕ) (h : HasSort statement t n) (ρ : Variables) (
           temporaries = refl;
         })
 
--- the turns so far of a while: what is left to run is the same statement
-pub record Turning (t : List ℕ) (n : ℕ) (ρ : Variables) (entry : Lent) (fuel : ℕ) (x : Lent) (left : ℕ) : Type 0 where
-  pub rest : watchFrom (statementAt t n) ρ entry fuel ≡ watchFrom (statementAt t n) ρ x left
+-- what ran so far of statement n: statement m is left to run
+pub record Remaining (t : List ℕ) (n : ℕ) (ρ : Variables) (entry : Lent) (fuel m : ℕ) (x : Lent) (left : ℕ)
+    : Type 0 where
+  pub rest : watchFrom (statementAt t n) ρ entry fuel ≡ watchFrom (statementAt t m) ρ x left
   pub bytes : Kept entry x
   pub fits : LentFits x
 
--- after a turn that finished
-module _ (t : List ℕ) (n : ℕ) (ρ : Variables) (entry : Lent) (fuel : ℕ) (x : Lent) (left : ℕ)
-    (v : Turning t n ρ entry fuel x left) (b : ℕ) (r : Ended) (y : Lent)
-    (w : Ran (watchFrom (statementAt t b) ρ x (left - 1)) r x y)
-    (e : watchFrom (statementAt t n) ρ x left
-    ≡ next (watchFrom (statementAt t b) ρ x (left - 1)) (λ m₂ o₂ τ₂ f₂. watch (statementAt t n) ρ m₂ o₂ τ₂ f₂)) where
-  abbrev again : Watching
-  again m₂ o₂ τ₂ f₂ = watch (statementAt t n) ρ m₂ o₂ τ₂ f₂
+-- after statement b, which runs first in m, with statement k to follow
+module _ (t : List ℕ) (n : ℕ) (ρ : Variables) (entry : Lent) (fuel m : ℕ) (x : Lent) (left : ℕ)
+    (v : Remaining t n ρ entry fuel m x left) (b k f : ℕ) (r : Ended) (y : Lent)
+    (w : Ran (watchFrom (statementAt t b) ρ x f) r x y)
+    (e : watchFrom (statementAt t m) ρ x left
+    ≡ next (watchFrom (statementAt t b) ρ x f) (λ m₂ o₂ τ₂ f₂. watch (statementAt t k) ρ m₂ o₂ τ₂ f₂)) where
+  abbrev following : Watching
+  following m₂ o₂ τ₂ f₂ = watch (statementAt t k) ρ m₂ o₂ τ₂ f₂
 
-  pub turn-ends : r .number ≢ 0 → Ran (watchFrom (statementAt t n) ρ entry fuel) r entry y
-  turn-ends d =
-      ran-is (v .rest ∙ e) (ran-from (v .bytes) (next-stays (statementAt t b) ρ (left - 1) again r x y w d))
+  pub part-ends : r .number ≢ 0 → Ran (watchFrom (statementAt t n) ρ entry fuel) r entry y
+  part-ends d =
+      ran-is (v .rest ∙ e) (ran-from (v .bytes) (next-stays (statementAt t b) ρ f following r x y w d))
 
-  pub turn-again : r .number ≡ 0 → Ready t b ρ x → Turning t n ρ entry fuel y (r .fuel)
-  turn-again d k = record {
+  pub part-finishes : r .number ≡ 0 → Ready t b ρ x → Remaining t n ρ entry fuel k y (r .fuel)
+  part-finishes d h = record {
     rest =
         v .rest ∙ e
-        ∙ ap (λ (u : WatchedOutcome). next u again) (watch-finished (statementAt t b) ρ (left - 1) again r x y w d);
+        ∙ ap (λ (u : WatchedOutcome). next u following) (watch-finished (statementAt t b) ρ f following r x y w d);
     bytes = kept-then (v .bytes) (ran-kept w);
-    fits = run-kept t b ρ x k (left - 1) r y w;
+    fits = run-kept t b ρ x h f r y w;
   }
 
-  pub turn-spends : r .number ≡ 0 → 0 < left → r .fuel < left
-  turn-spends d z =
-      let g = watch-finished (statementAt t b) ρ (left - 1) again r x y w d in
+  pub part-spends : r .number ≡ 0 → f < left → r .fuel < left
+  part-spends d z =
+      let g = watch-finished (statementAt t b) ρ f following r x y w d in
       omega (
         arith,
         ap watchedFuelOf g,
         watch-fuel (statementAt t b) ρ (memoryOf (x .memory)) (observationOf (x .observation))
-            (temporariesOf (x .temporaries)) (left - 1),
+            (temporariesOf (x .temporaries)) f,
       )
 
 -- a let's block ends where its statement finished

@@ -1,4 +1,5 @@
-// The statements that run others, by recursion on the record number; the turns of a while are a loop.
+// The statements that run others, by recursion on the record number; sequences and the turns of a while are loops.
+ghost use mathlib.Core.Logic.{_≢_};
 ghost use mathlib.Core.Path.{_≡_};
 ghost use Rattle.rules.specs.Records.{kindOf};
 ghost use Rattle.evaluation.specs.State.{variablesOf};
@@ -7,7 +8,7 @@ use blocks::Making;
 use rules::Test;
 use statements::Ended;
 
-// Runs statement n.
+// Runs statement n. Of a sequence A runs, and B where A finished; as B may be one again, they are a loop.
 pub fn run(
     table: &[u8; 65536],
     n: usize,
@@ -22,18 +23,22 @@ pub fn run(
         (lent (now (mem .entry)) (now (obs .entry)) (now (temporaries .entry)))
         (lent (now (mem .exit)) (now (obs .exit)) (now (temporaries .exit))) ⌝ }
 {
-    match tables::kind(&table[..], n) {
-        44 => sequence(table, n, variables, temporaries, mem, obs, fuel),
-        45 => branch(table, n, variables, temporaries, mem, obs, fuel),
-        46 => repeat(table, n, variables, temporaries, mem, obs, fuel),
-        47 => enclose(table, n, variables, temporaries, mem, obs, fuel),
-        66 => branch(table, n, variables, temporaries, mem, obs, fuel),
-        _ => watched_statements::step(table, n, variables, temporaries, mem, obs, fuel),
+    let mut at = n;
+    let mut left = fuel;
+    while tables::kind(&table[..], at) == 44 {
+        let first = tables::child_a(&table[..], at);
+        let r = run(table, first, variables, temporaries, mem, obs, left);
+        if r.number != 0 {
+            return r;
+        }
+        left = r.fuel;
+        at = tables::child_b(&table[..], at);
     }
+    run_single(table, at, variables, temporaries, mem, obs, left)
 }
 
-// A, and then B where A finished.
-fn sequence(
+// Runs statement n, which is no sequence.
+fn run_single(
     table: &[u8; 65536],
     n: usize,
     variables: &[u16; 64],
@@ -43,18 +48,16 @@ fn sequence(
     fuel: u32,
 ) -> Ended
     requires { ⌜ Ready (now table) n (variablesOf (now variables)) (lent (now mem) (now obs) (now temporaries))
-        × (kindOf (now table) n ≡ 44) ⌝ }
+        × (kindOf (now table) n ≢ 44) ⌝ }
     ensures { λ r. ⌜ Runs (now (table .entry)) n (variablesOf (now (variables .entry))) fuel r
         (lent (now (mem .entry)) (now (obs .entry)) (now (temporaries .entry)))
         (lent (now (mem .exit)) (now (obs .exit)) (now (temporaries .exit))) ⌝ }
 {
-    let first = tables::child_a(&table[..], n);
-    let r = run(table, first, variables, temporaries, mem, obs, fuel);
-    if r.number == 0 {
-        let second = tables::child_b(&table[..], n);
-        run(table, second, variables, temporaries, mem, obs, r.fuel)
-    } else {
-        r
+    match tables::kind(&table[..], n) {
+        45 | 66 => branch(table, n, variables, temporaries, mem, obs, fuel),
+        46 => repeat(table, n, variables, temporaries, mem, obs, fuel),
+        47 => enclose(table, n, variables, temporaries, mem, obs, fuel),
+        _ => watched_statements::step(table, n, variables, temporaries, mem, obs, fuel),
     }
 }
 

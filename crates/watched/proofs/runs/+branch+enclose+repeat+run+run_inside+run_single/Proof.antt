@@ -1,5 +1,5 @@
 -- The statements with parts, and the dispatcher. The measure is the record number.
-use Prim.Native.Nat.{ℕ, _+_, _-_, _*_, _<_}
+use Prim.Native.Nat.{ℕ, _+_, _-_, _*_, _<_, _≤_}
 use native.Mathlib.Omega.{arith}
 use borrow.Author.Needs.{needs}
 use mathlib.Core.Logic.{inl, inr}
@@ -16,30 +16,30 @@ use Rattle.rules.proofs.TargetFields.{statementAt, numberAt}
 use Rattle.rules.proofs.TargetArms.{watch-sequence}
 use Rattle.evaluation.specs.State.{variablesOf}
 use Rattle.temporaries.specs.Bytes.{temporariesOf}
-use Rattle.watched_statements.specs.Watching.{lent}
-use Rattle.watched_statements.proofs.Laws.{kept-same, kept-memory, ran-is, ran-from, ran-finished, ran-ended, next-goes, next-stays}
+use Rattle.watched_statements.specs.Watching.{lent, Ready}
+use Rattle.watched_statements.proofs.Laws.{kept-same, kept-memory, ran-is, ran-from, ran-finished, ran-ended, next-stays}
 use Rattle.watched_statements.proofs.ReadyLaws.{ready-within, ready-first, ready-later, branch-parts, ready-then, ready-else, ready-turn, ready-made}
-use Rattle.watched.proofs.MemberLaws.{branch-by, turn-by, turn-out, let-made, let-unmade, Turning, turn-ends, turn-again, turn-spends, inside-ends}
+use Rattle.watched.proofs.MemberLaws.{branch-by, turn-by, turn-out, let-made, let-unmade, Remaining, part-ends, part-finishes, part-spends, inside-ends}
 use borrow.Fn.Kinds.{In}
 use borrow.Fn.PlainCycle.{Measures, is, falls, and}
 use Rattle.watched.proofs.runs.branch.Reads as branch
 use Rattle.watched.proofs.runs.branch.Kinds as branch-kinds
-use Rattle.watched.proofs.runs.+branch+enclose+repeat+run+run_inside+sequence.Lts-branch as branch-lts
+use Rattle.watched.proofs.runs.+branch+enclose+repeat+run+run_inside+run_single.Lts-branch as branch-lts
 use Rattle.watched.proofs.runs.enclose.Reads as enclose
 use Rattle.watched.proofs.runs.enclose.Kinds as enclose-kinds
-use Rattle.watched.proofs.runs.+branch+enclose+repeat+run+run_inside+sequence.Lts-enclose as enclose-lts
+use Rattle.watched.proofs.runs.+branch+enclose+repeat+run+run_inside+run_single.Lts-enclose as enclose-lts
 use Rattle.watched.proofs.runs.repeat.Reads as repeat
 use Rattle.watched.proofs.runs.repeat.Kinds as repeat-kinds
-use Rattle.watched.proofs.runs.+branch+enclose+repeat+run+run_inside+sequence.Lts-repeat as repeat-lts
+use Rattle.watched.proofs.runs.+branch+enclose+repeat+run+run_inside+run_single.Lts-repeat as repeat-lts
 use Rattle.watched.proofs.runs.run.Reads as run
 use Rattle.watched.proofs.runs.run.Kinds as run-kinds
-use Rattle.watched.proofs.runs.+branch+enclose+repeat+run+run_inside+sequence.Lts-run as run-lts
+use Rattle.watched.proofs.runs.+branch+enclose+repeat+run+run_inside+run_single.Lts-run as run-lts
 use Rattle.watched.proofs.runs.run_inside.Reads as run-inside
 use Rattle.watched.proofs.runs.run_inside.Kinds as run-inside-kinds
-use Rattle.watched.proofs.runs.+branch+enclose+repeat+run+run_inside+sequence.Lts-run_inside as run-inside-lts
-use Rattle.watched.proofs.runs.sequence.Reads as sequence
-use Rattle.watched.proofs.runs.sequence.Kinds as sequence-kinds
-use Rattle.watched.proofs.runs.+branch+enclose+repeat+run+run_inside+sequence.Lts-sequence as sequence-lts
+use Rattle.watched.proofs.runs.+branch+enclose+repeat+run+run_inside+run_single.Lts-run_inside as run-inside-lts
+use Rattle.watched.proofs.runs.run_single.Reads as run-single
+use Rattle.watched.proofs.runs.run_single.Kinds as run-single-kinds
+use Rattle.watched.proofs.runs.+branch+enclose+repeat+run+run_inside+run_single.Lts-run_single as run-single-lts
 use Rattle.blocks.proofs.end.Reads as end-reads
 use Rattle.blocks.proofs.make.Reads as make-reads
 use Rattle.statements.proofs.name_variable.Reads as name-variable-reads
@@ -52,26 +52,26 @@ use Rattle.tables.proofs.mark.Reads as mark-reads
 use Rattle.watched_statements.proofs.statement_of.Reads as statement-of-reads
 use Rattle.watched_statements.proofs.step.Reads as step-reads
 use Rattle.watched_statements.proofs.test.Reads as test-reads
-use Rattle.watched.proofs.runs.+branch+enclose+repeat+run+run_inside+sequence.{statement}
-use Rattle.watched.proofs.runs.+branch+enclose+repeat+run+run_inside+sequence.Tie.{close}
+use Rattle.watched.proofs.runs.+branch+enclose+repeat+run+run_inside+run_single.{statement}
+use Rattle.watched.proofs.runs.+branch+enclose+repeat+run+run_inside+run_single.Tie.{close}
 
 abbrev μ-branch : Measures 5 branch-kinds.ps ℕ
-μ-branch κs a = a .1 .0 * 3 + 1
+μ-branch κs a = a .1 .0 * 4 + 1
 
 abbrev μ-enclose : Measures 5 enclose-kinds.ps ℕ
-μ-enclose κs a = a .1 .0 * 3 + 1
+μ-enclose κs a = a .1 .0 * 4 + 1
 
 abbrev μ-repeat : Measures 5 repeat-kinds.ps ℕ
-μ-repeat κs a = a .1 .0 * 3 + 1
+μ-repeat κs a = a .1 .0 * 4 + 1
 
 abbrev μ-run : Measures 5 run-kinds.ps ℕ
-μ-run κs a = a .1 .0 * 3 + 2
+μ-run κs a = a .1 .0 * 4 + 3
 
 abbrev μ-run-inside : Measures 5 run-inside-kinds.ps ℕ
-μ-run-inside κs a = a .1 .0 * 3
+μ-run-inside κs a = a .1 .0 * 4
 
-abbrev μ-sequence : Measures 5 sequence-kinds.ps ℕ
-μ-sequence κs a = a .1 .0 * 3 + 1
+abbrev μ-run-single : Measures 5 run-single-kinds.ps ℕ
+μ-run-single κs a = a .1 .0 * 4 + 2
 
 abbrev branch-at : ℕ → In 5 branch-kinds.ps
 branch-at t = and 5 branch-kinds.ps (is 5 branch-kinds.ps μ-branch t) branch.Pre
@@ -105,12 +105,13 @@ abbrev run-inside-below : ℕ → In 5 run-inside-kinds.ps
 run-inside-below t =
     and 5 run-inside-kinds.ps (falls 5 run-inside-kinds.ps _<_ μ-run-inside t) run-inside.Pre
 
-abbrev sequence-at : ℕ → In 5 sequence-kinds.ps
-sequence-at t = and 5 sequence-kinds.ps (is 5 sequence-kinds.ps μ-sequence t) sequence.Pre
+abbrev run-single-at : ℕ → In 5 run-single-kinds.ps
+run-single-at t =
+    and 5 run-single-kinds.ps (is 5 run-single-kinds.ps μ-run-single t) run-single.Pre
 
-abbrev sequence-below : ℕ → In 5 sequence-kinds.ps
-sequence-below t =
-    and 5 sequence-kinds.ps (falls 5 sequence-kinds.ps _<_ μ-sequence t) sequence.Pre
+abbrev run-single-below : ℕ → In 5 run-single-kinds.ps
+run-single-below t =
+    and 5 run-single-kinds.ps (falls 5 run-single-kinds.ps _<_ μ-run-single t) run-single.Pre
 
 abbrev branch-claims : ℕ → branch-lts.Claims
 branch-claims t = (
@@ -152,16 +153,14 @@ abbrev run-claims : ℕ → run-lts.Claims
 run-claims t = (
   kind-reads.Asked,
   kind-reads.Learnt,
-  sequence-below t,
-  sequence.Post,
-  branch-below t,
-  branch.Post,
-  repeat-below t,
-  repeat.Post,
-  enclose-below t,
-  enclose.Post,
-  step-reads.Asked,
-  step-reads.Learnt,
+  child-a-reads.Asked,
+  child-a-reads.Learnt,
+  run-below t,
+  run.Post,
+  child-b-reads.Asked,
+  child-b-reads.Learnt,
+  run-single-below t,
+  run-single.Post,
 )
 
 abbrev run-inside-claims : ℕ → run-inside-lts.Claims
@@ -178,14 +177,18 @@ run-inside-claims t = (
   end-reads.Learnt,
 )
 
-abbrev sequence-claims : ℕ → sequence-lts.Claims
-sequence-claims t = (
-  child-a-reads.Asked,
-  child-a-reads.Learnt,
-  run-below t,
-  run.Post,
-  child-b-reads.Asked,
-  child-b-reads.Learnt,
+abbrev run-single-claims : ℕ → run-single-lts.Claims
+run-single-claims t = (
+  kind-reads.Asked,
+  kind-reads.Learnt,
+  branch-below t,
+  branch.Post,
+  repeat-below t,
+  repeat.Post,
+  enclose-below t,
+  enclose.Post,
+  step-reads.Asked,
+  step-reads.Learnt,
 )
 
 branch-child-b-requires : (t : ℕ) → branch-lts.Need-child-b-requires (branch-claims t) (branch-at t) branch.Post
@@ -379,7 +382,7 @@ enclose-returns-2 t c =
 
 abbrev repeat-Inv-loop : repeat-lts.InvT-loop
 repeat-Inv-loop table n variables temporaries₀ mem₀ obs₀ fuel b left₀ temporaries mem obs left =
-    Turning table n (variablesOf variables) (lent mem₀ obs₀ temporaries₀) fuel (lent mem obs temporaries) left
+    Remaining table n (variablesOf variables) (lent mem₀ obs₀ temporaries₀) fuel n (lent mem obs temporaries) left
 
 abbrev repeat-μ-loop : repeat-lts.MeasureT-loop
 repeat-μ-loop table n variables temporaries₀ mem₀ obs₀ fuel b left₀ temporaries mem obs left = left
@@ -457,7 +460,8 @@ repeat-returns t c =
     let h = s .pre .1 .0 in
     let q = s .pre .1 .1 in
     let y = lent (after-loop .loop .mem) (after-loop .loop .obs) (after-loop .loop .temporaries) in
-    turn-ends T n ρ x f y (after-loop .loop .left) (after-loop .loop .inv) (childB T n) (after-run .run .result) _
+    part-ends T n ρ x f n y (after-loop .loop .left) (after-loop .loop .inv) (childB T n) n (after-loop .loop .left - 1)
+    (after-run .run .result) _
     (rw (after-child-b .child-b .ensures) at (after-run .run .ensures))
     (turn-by T n (h .is) ρ y q (after-loop .loop .left) (after-loop-test .loop-test .taken) test.Yes
     (sym (after-test-a .test-a .ensures) ∙ after-enum-told .enum-told .given .1)) (c .if1 .taken)
@@ -480,11 +484,12 @@ repeat-loop-less t c =
     let h = s .pre .1 .0 in
     let q = s .pre .1 .1 in
     let y = lent (after-loop .loop .mem) (after-loop .loop .obs) (after-loop .loop .temporaries) in
-    turn-spends T n ρ x f y (after-loop .loop .left) (after-loop .loop .inv) (childB T n) (after-run .run .result) _
+    part-spends T n ρ x f n y (after-loop .loop .left) (after-loop .loop .inv) (childB T n) n (after-loop .loop .left - 1)
+    (after-run .run .result) _
     (rw (after-child-b .child-b .ensures) at (after-run .run .ensures))
     (turn-by T n (h .is) ρ y q (after-loop .loop .left) (after-loop-test .loop-test .taken) test.Yes
     (sym (after-test-a .test-a .ensures) ∙ after-enum-told .enum-told .given .1)) (c .if1 .left)
-    (after-loop-test .loop-test .taken)
+    (omega (arith, after-loop-test .loop-test .taken))
 
 repeat-loop-again : (t : ℕ) → repeat-lts.Need-loop-again (repeat-claims t)
     (repeat-at t) repeat.Post repeat-Inv-loop repeat-μ-loop
@@ -504,7 +509,8 @@ repeat-loop-again t c =
     let h = s .pre .1 .0 in
     let q = s .pre .1 .1 in
     let y = lent (after-loop .loop .mem) (after-loop .loop .obs) (after-loop .loop .temporaries) in
-    turn-again T n ρ x f y (after-loop .loop .left) (after-loop .loop .inv) (childB T n) (after-run .run .result) _
+    part-finishes T n ρ x f n y (after-loop .loop .left) (after-loop .loop .inv) (childB T n) n (after-loop .loop .left - 1)
+    (after-run .run .result) _
     (rw (after-child-b .child-b .ensures) at (after-run .run .ensures))
     (turn-by T n (h .is) ρ y q (after-loop .loop .left) (after-loop-test .loop-test .taken) test.Yes
     (sym (after-test-a .test-a .ensures) ∙ after-enum-told .enum-told .given .1)) (c .if1 .left)
@@ -589,90 +595,178 @@ repeat-returns-4 t c =
     (c .before .loop-test .left))
     (ran-from (after-loop .loop .inv .bytes) (ran-ended y 32 (numberAt T n) 0)))
 
-run-kind-requires : (t : ℕ) → run-lts.Need-kind-requires (run-claims t) (run-at t) run.Post
+abbrev run-Inv-loop : run-lts.InvT-loop
+run-Inv-loop table n variables temporaries₀ mem₀ obs₀ fuel at₀ left₀ temporaries mem obs at left =
+    let y = lent mem obs temporaries in
+    Remaining table n (variablesOf variables) (lent mem₀ obs₀ temporaries₀) fuel at y left
+    × Ready table at (variablesOf variables) y × (at ≤ n)
+
+abbrev run-μ-loop : run-lts.MeasureT-loop
+run-μ-loop table n variables temporaries₀ mem₀ obs₀ fuel at₀ left₀ temporaries mem obs at left = at
+
+run-loop-holds : (t : ℕ) → run-lts.Need-loop-holds (run-claims t)
+    (run-at t) run.Post run-Inv-loop run-μ-loop
+run-loop-holds t c =
+    let h = c .pre .1 in
+    (record { rest = refl; bytes = kept-same _; fits = h .fits }, h, omega arith)
+
+run-kind-requires : (t : ℕ) → run-lts.Need-kind-requires (run-claims t)
+    (run-at t) run.Post run-Inv-loop run-μ-loop
 run-kind-requires t c κs =
-    let s = c .before in
+    let after-loop = c .before in
+    let s = after-loop .before in
     let T = s .args .table .now in
     let n = s .args .n in
     let ρ = variablesOf (s .args .variables .now) in
     let x = lent (s .args .mem .now) (s .args .obs .now) (s .args .temporaries .now) in
-    ready-within T n ρ x (s .pre .1)
+    let y = lent (after-loop .loop .mem) (after-loop .loop .obs) (after-loop .loop .temporaries) in
+    let m = after-loop .loop .at in
+    let h = after-loop .loop .inv .1 in
+    ready-within T m ρ y h
 
-run-sequence-requires : (t : ℕ) → run-lts.Need-sequence-requires (run-claims t) (run-at t) run.Post
-run-sequence-requires t c κs =
-    let after-match = c .before .before .before in
-    let after-kind = after-match .before in
-    let s = after-kind .before .before in
-    (omega (arith, s .pre .0), (s .pre .1, sym (after-kind .kind .ensures) ∙ after-match .match .keys1))
+run-child-a-requires : (t : ℕ) → run-lts.Need-child-a-requires (run-claims t)
+    (run-at t) run.Post run-Inv-loop run-μ-loop
+run-child-a-requires t c κs =
+    let after-loop = c .before .before .before .before in
+    let s = after-loop .before in
+    let T = s .args .table .now in
+    let n = s .args .n in
+    let ρ = variablesOf (s .args .variables .now) in
+    let x = lent (s .args .mem .now) (s .args .obs .now) (s .args .temporaries .now) in
+    let y = lent (after-loop .loop .mem) (after-loop .loop .obs) (after-loop .loop .temporaries) in
+    let m = after-loop .loop .at in
+    let h = after-loop .loop .inv .1 in
+    ready-within T m ρ y h
 
-run-branch-requires : (t : ℕ) → run-lts.Need-branch-requires (run-claims t) (run-at t) run.Post
-run-branch-requires t c κs =
-    let after-match = c .before .before .before in
-    let after-kind = after-match .before in
-    let s = after-kind .before .before in
-    (omega (arith, s .pre .0), (s .pre .1, inl (sym (after-kind .kind .ensures) ∙ after-match .match .keys2)))
-
-run-repeat-requires : (t : ℕ) → run-lts.Need-repeat-requires (run-claims t) (run-at t) run.Post
-run-repeat-requires t c κs =
-    let after-match = c .before .before .before in
-    let after-kind = after-match .before in
-    let s = after-kind .before .before in
-    (omega (arith, s .pre .0), (s .pre .1, sym (after-kind .kind .ensures) ∙ after-match .match .keys3))
-
-run-enclose-requires : (t : ℕ) → run-lts.Need-enclose-requires (run-claims t) (run-at t) run.Post
-run-enclose-requires t c κs =
-    let after-match = c .before .before .before in
-    let after-kind = after-match .before in
-    let s = after-kind .before .before in
-    (omega (arith, s .pre .0), (s .pre .1, sym (after-kind .kind .ensures) ∙ after-match .match .keys4))
-
-run-branch-requires-2 : (t : ℕ) → run-lts.Need-branch-requires-2 (run-claims t) (run-at t) run.Post
-run-branch-requires-2 t c κs =
-    let after-match = c .before .before .before in
-    let after-kind = after-match .before in
-    let s = after-kind .before .before in
-    (omega (arith, s .pre .0), (s .pre .1, inr (sym (after-kind .kind .ensures) ∙ after-match .match .keys5)))
-
-run-step-requires : (t : ℕ) → run-lts.Need-step-requires (run-claims t) (run-at t) run.Post
-run-step-requires t c κs =
-    let after-match = c .before .before .before in
-    let after-kind = after-match .before in
-    let s = after-kind .before .before in
-    let k = after-kind .kind .ensures in
-    let r = after-match .match .rest in (
-      s .pre .1,
-      (
-        λ e. r .0 .0 .0 .0 .1 (k ∙ e),
-        λ e. r .0 .0 .0 .1 (k ∙ e),
-        λ e. r .0 .0 .1 (k ∙ e),
-        λ e. r .0 .1 (k ∙ e),
-        λ e. r .1 (k ∙ e),
+run-run-requires : (t : ℕ) → run-lts.Need-run-requires (run-claims t)
+    (run-at t) run.Post run-Inv-loop run-μ-loop
+run-run-requires t c κs =
+    let after-child-a = c .before .before .before in
+    let after-if1 = after-child-a .before .before in
+    let after-kind = after-if1 .before in
+    let after-loop = after-kind .before .before in
+    let s = after-loop .before in
+    let T = s .args .table .now in
+    let n = s .args .n in
+    let ρ = variablesOf (s .args .variables .now) in
+    let x = lent (s .args .mem .now) (s .args .obs .now) (s .args .temporaries .now) in
+    let y = lent (after-loop .loop .mem) (after-loop .loop .obs) (after-loop .loop .temporaries) in
+    let m = after-loop .loop .at in
+    let h = after-loop .loop .inv .1 in
+    let q = sym (after-kind .kind .ensures) ∙ after-if1 .if1 .taken in
+    rw (after-child-a .child-a .ensures) (
+      omega (
+        arith,
+        sequence-children target T m (h .is) q .0 .1,
+        after-loop .loop .inv .2,
+        s .pre .0,
       ),
+      ready-first T m ρ y h q,
     )
 
-run-returns : (t : ℕ) → run-lts.Need-returns (run-claims t) (run-at t) run.Post
+run-returns : (t : ℕ) → run-lts.Need-returns (run-claims t)
+    (run-at t) run.Post run-Inv-loop run-μ-loop
 run-returns t c =
-    c .sequence .ensures
+    let after-run = c .before .before in
+    let after-child-a = after-run .before .before .before .before in
+    let after-if1 = after-child-a .before .before in
+    let after-kind = after-if1 .before in
+    let after-loop = after-kind .before .before in
+    let s = after-loop .before in
+    let T = s .args .table .now in
+    let n = s .args .n in
+    let ρ = variablesOf (s .args .variables .now) in
+    let x = lent (s .args .mem .now) (s .args .obs .now) (s .args .temporaries .now) in
+    let f = s .args .fuel in
+    let y = lent (after-loop .loop .mem) (after-loop .loop .obs) (after-loop .loop .temporaries) in
+    let m = after-loop .loop .at in
+    let h = after-loop .loop .inv .1 in
+    let q = sym (after-kind .kind .ensures) ∙ after-if1 .if1 .taken in
+    let w = rw (after-child-a .child-a .ensures) at (after-run .run .ensures) in
+    part-ends T n ρ x f m y (after-loop .loop .left) (after-loop .loop .inv .0) (childA T m) (childB T m)
+    (after-loop .loop .left) (after-run .run .result) _ w
+    (watch-sequence T m (h .is) ρ (memoryOf (y .memory)) (observationOf (y .observation))
+    (temporariesOf (y .temporaries)) (after-loop .loop .left) q) (c .if2 .taken)
 
-run-returns-2 : (t : ℕ) → run-lts.Need-returns-2 (run-claims t) (run-at t) run.Post
+run-child-b-requires : (t : ℕ) → run-lts.Need-child-b-requires (run-claims t)
+    (run-at t) run.Post run-Inv-loop run-μ-loop
+run-child-b-requires t c κs =
+    let after-loop = c .before .before .before .before .before .before .before .before .before .before .before .before in
+    let s = after-loop .before in
+    let T = s .args .table .now in
+    let n = s .args .n in
+    let ρ = variablesOf (s .args .variables .now) in
+    let x = lent (s .args .mem .now) (s .args .obs .now) (s .args .temporaries .now) in
+    let y = lent (after-loop .loop .mem) (after-loop .loop .obs) (after-loop .loop .temporaries) in
+    let m = after-loop .loop .at in
+    let h = after-loop .loop .inv .1 in
+    ready-within T m ρ y h
+
+run-loop-less : (t : ℕ) → run-lts.Need-loop-less (run-claims t)
+    (run-at t) run.Post run-Inv-loop run-μ-loop
+run-loop-less t c =
+    let after-run = c .before .before .before .before in
+    let after-child-a = after-run .before .before .before .before in
+    let after-if1 = after-child-a .before .before in
+    let after-kind = after-if1 .before in
+    let after-loop = after-kind .before .before in
+    let s = after-loop .before in
+    let T = s .args .table .now in
+    let n = s .args .n in
+    let ρ = variablesOf (s .args .variables .now) in
+    let x = lent (s .args .mem .now) (s .args .obs .now) (s .args .temporaries .now) in
+    let y = lent (after-loop .loop .mem) (after-loop .loop .obs) (after-loop .loop .temporaries) in
+    let m = after-loop .loop .at in
+    let h = after-loop .loop .inv .1 in
+    let q = sym (after-kind .kind .ensures) ∙ after-if1 .if1 .taken in
+    omega (arith, c .child-b .ensures, sequence-children target T m (h .is) q .1 .1)
+
+run-loop-again : (t : ℕ) → run-lts.Need-loop-again (run-claims t)
+    (run-at t) run.Post run-Inv-loop run-μ-loop
+run-loop-again t c =
+    let after-run = c .before .before .before .before in
+    let after-child-a = after-run .before .before .before .before in
+    let after-if1 = after-child-a .before .before in
+    let after-kind = after-if1 .before in
+    let after-loop = after-kind .before .before in
+    let s = after-loop .before in
+    let T = s .args .table .now in
+    let n = s .args .n in
+    let ρ = variablesOf (s .args .variables .now) in
+    let x = lent (s .args .mem .now) (s .args .obs .now) (s .args .temporaries .now) in
+    let f = s .args .fuel in
+    let y = lent (after-loop .loop .mem) (after-loop .loop .obs) (after-loop .loop .temporaries) in
+    let m = after-loop .loop .at in
+    let h = after-loop .loop .inv .1 in
+    let q = sym (after-kind .kind .ensures) ∙ after-if1 .if1 .taken in
+    let w = rw (after-child-a .child-a .ensures) at (after-run .run .ensures) in
+    rw (c .child-b .ensures) (
+      part-finishes T n ρ x f m y (after-loop .loop .left) (after-loop .loop .inv .0) (childA T m) (childB T m)
+          (after-loop .loop .left) (after-run .run .result) _ w
+          (watch-sequence T m (h .is) ρ (memoryOf (y .memory)) (observationOf (y .observation))
+          (temporariesOf (y .temporaries)) (after-loop .loop .left) q) (c .before .before .if2 .left)
+          (ready-first T m ρ y h q),
+      ready-later T m ρ (after-loop .loop .left) (after-run .run .result) y _ h q w,
+      omega (arith, sequence-children target T m (h .is) q .1 .1, after-loop .loop .inv .2),
+    )
+
+run-run-single-requires : (t : ℕ) → run-lts.Need-run-single-requires (run-claims t)
+    (run-at t) run.Post run-Inv-loop run-μ-loop
+run-run-single-requires t c κs =
+    let after-if1 = c .before .before .before in
+    let after-kind = after-if1 .before in
+    let after-loop = after-kind .before .before in
+    let s = after-loop .before in (
+      omega (arith, after-loop .loop .inv .2, s .pre .0),
+      (after-loop .loop .inv .1, λ e. after-if1 .if1 .left (after-kind .kind .ensures ∙ e)),
+    )
+
+run-returns-2 : (t : ℕ) → run-lts.Need-returns-2 (run-claims t)
+    (run-at t) run.Post run-Inv-loop run-μ-loop
 run-returns-2 t c =
-    c .branch .ensures
-
-run-returns-3 : (t : ℕ) → run-lts.Need-returns-3 (run-claims t) (run-at t) run.Post
-run-returns-3 t c =
-    c .repeat .ensures
-
-run-returns-4 : (t : ℕ) → run-lts.Need-returns-4 (run-claims t) (run-at t) run.Post
-run-returns-4 t c =
-    c .enclose .ensures
-
-run-returns-5 : (t : ℕ) → run-lts.Need-returns-5 (run-claims t) (run-at t) run.Post
-run-returns-5 t c =
-    c .branch2 .ensures
-
-run-returns-6 : (t : ℕ) → run-lts.Need-returns-6 (run-claims t) (run-at t) run.Post
-run-returns-6 t c =
-    c .step .ensures
+    let after-loop = c .before .before .before .before .before .before .before in
+    ran-is (after-loop .loop .inv .0 .rest)
+    (ran-from (after-loop .loop .inv .0 .bytes) (c .run-single .ensures))
 
 run-inside-mark-requires : (t : ℕ) → run-inside-lts.Need-mark-requires (run-inside-claims t)
     (run-inside-at t) run-inside.Post
@@ -753,103 +847,76 @@ run-inside-returns-2 t c =
       after-mark .mark .ensures,
     ) at (after-run .run .ensures)) (c .if1 .left)
 
-sequence-child-a-requires : (t : ℕ) → sequence-lts.Need-child-a-requires (sequence-claims t)
-    (sequence-at t) sequence.Post
-sequence-child-a-requires t c κs =
+run-single-kind-requires : (t : ℕ) → run-single-lts.Need-kind-requires (run-single-claims t) (run-single-at t) run-single.Post
+run-single-kind-requires t c κs =
     let s = c .before in
     let T = s .args .table .now in
     let n = s .args .n in
     let ρ = variablesOf (s .args .variables .now) in
     let x = lent (s .args .mem .now) (s .args .obs .now) (s .args .temporaries .now) in
-    let h = s .pre .1 .0 in
-    ready-within T n ρ x h
+    ready-within T n ρ x (s .pre .1 .0)
 
-sequence-run-requires : (t : ℕ) → sequence-lts.Need-run-requires (sequence-claims t) (sequence-at t) sequence.Post
-sequence-run-requires t c κs =
-    let after-child-a = c .before .before .before in
-    let s = after-child-a .before .before in
-    let T = s .args .table .now in
-    let n = s .args .n in
-    let ρ = variablesOf (s .args .variables .now) in
-    let x = lent (s .args .mem .now) (s .args .obs .now) (s .args .temporaries .now) in
-    let h = s .pre .1 .0 in
-    let q = s .pre .1 .1 in
-    rw (after-child-a .child-a .ensures)
-    (omega (arith, sequence-children target T n (h .is) q .0 .1, s .pre .0), ready-first T n ρ x h q)
+run-single-branch-requires : (t : ℕ) → run-single-lts.Need-branch-requires (run-single-claims t) (run-single-at t) run-single.Post
+run-single-branch-requires t c κs =
+    let after-match = c .before .before .before in
+    let after-kind = after-match .before in
+    let s = after-kind .before .before in
+    (omega (arith, s .pre .0), (s .pre .1 .0, rw (after-kind .kind .ensures) at (after-match .match .keys1)))
 
-sequence-child-b-requires : (t : ℕ) → sequence-lts.Need-child-b-requires (sequence-claims t)
-    (sequence-at t) sequence.Post
-sequence-child-b-requires t c κs =
-    let s = c .before .before .before .before .before .before .before .before .before in
-    let T = s .args .table .now in
-    let n = s .args .n in
-    let ρ = variablesOf (s .args .variables .now) in
-    let x = lent (s .args .mem .now) (s .args .obs .now) (s .args .temporaries .now) in
-    let h = s .pre .1 .0 in
-    ready-within T n ρ x h
+run-single-repeat-requires : (t : ℕ) → run-single-lts.Need-repeat-requires (run-single-claims t) (run-single-at t) run-single.Post
+run-single-repeat-requires t c κs =
+    let after-match = c .before .before .before in
+    let after-kind = after-match .before in
+    let s = after-kind .before .before in
+    (omega (arith, s .pre .0), (s .pre .1 .0, sym (after-kind .kind .ensures) ∙ after-match .match .keys2))
 
-sequence-run-requires-2 : (t : ℕ) → sequence-lts.Need-run-requires-2 (sequence-claims t) (sequence-at t) sequence.Post
-sequence-run-requires-2 t c κs =
-    let after-child-b = c .before .before .before in
-    let after-run = after-child-b .before .before .before .before in
-    let after-child-a = after-run .before .before .before .before in
-    let s = after-child-a .before .before in
-    let T = s .args .table .now in
-    let n = s .args .n in
-    let ρ = variablesOf (s .args .variables .now) in
-    let x = lent (s .args .mem .now) (s .args .obs .now) (s .args .temporaries .now) in
-    let f = s .args .fuel in
-    let h = s .pre .1 .0 in
-    let q = s .pre .1 .1 in
-    rw (after-child-b .child-b .ensures) (
-      omega (arith, sequence-children target T n (h .is) q .1 .1, s .pre .0),
-      ready-later T n ρ f (after-run .run .result) x _ h q (rw (after-child-a .child-a .ensures) at
-          (after-run .run .ensures)),
+run-single-enclose-requires : (t : ℕ) → run-single-lts.Need-enclose-requires (run-single-claims t) (run-single-at t) run-single.Post
+run-single-enclose-requires t c κs =
+    let after-match = c .before .before .before in
+    let after-kind = after-match .before in
+    let s = after-kind .before .before in
+    (omega (arith, s .pre .0), (s .pre .1 .0, sym (after-kind .kind .ensures) ∙ after-match .match .keys3))
+
+run-single-step-requires : (t : ℕ) → run-single-lts.Need-step-requires (run-single-claims t) (run-single-at t) run-single.Post
+run-single-step-requires t c κs =
+    let after-match = c .before .before .before in
+    let after-kind = after-match .before in
+    let s = after-kind .before .before in
+    let k = after-kind .kind .ensures in
+    let r = after-match .match .rest in (
+      s .pre .1 .0,
+      (
+        s .pre .1 .1,
+        λ e. r .0 .0 .1 (inl (k ∙ e)),
+        λ e. r .0 .1 (k ∙ e),
+        λ e. r .1 (k ∙ e),
+        λ e. r .0 .0 .1 (inr (k ∙ e)),
+      ),
     )
 
-sequence-returns : (t : ℕ) → sequence-lts.Need-returns (sequence-claims t) (sequence-at t) sequence.Post
-sequence-returns t c =
-    let after-child-b = c .before .before .before .before in
-    let after-if1 = after-child-b .before .before in
-    let after-run = after-if1 .before .before in
-    let after-child-a = after-run .before .before .before .before in
-    let s = after-child-a .before .before in
-    let T = s .args .table .now in
-    let n = s .args .n in
-    let ρ = variablesOf (s .args .variables .now) in
-    let x = lent (s .args .mem .now) (s .args .obs .now) (s .args .temporaries .now) in
-    let f = s .args .fuel in
-    let h = s .pre .1 .0 in
-    let q = s .pre .1 .1 in
-    ran-is
-    (watch-sequence T n (h .is) ρ (memoryOf (x .memory)) (observationOf (x .observation))
-    (temporariesOf (x .temporaries)) f q)
-    (next-goes (statementAt T (childA T n)) ρ f (λ m₁ o₁ τ₁ f₁. watch (statementAt T (childB T n)) ρ m₁ o₁ τ₁ f₁)
-    (after-run .run .result) x _ (rw (after-child-a .child-a .ensures) at (after-run .run .ensures))
-    (c .run2 .result) _ (after-if1 .if1 .taken)
-    (rw (after-child-b .child-b .ensures) at (c .run2 .ensures)))
+run-single-returns : (t : ℕ) → run-single-lts.Need-returns (run-single-claims t)
+    (run-single-at t) run-single.Post
+run-single-returns t c =
+    c .branch .ensures
 
-sequence-returns-2 : (t : ℕ) → sequence-lts.Need-returns-2 (sequence-claims t) (sequence-at t) sequence.Post
-sequence-returns-2 t c =
-    let after-run = c .before .before in
-    let after-child-a = after-run .before .before .before .before in
-    let s = after-child-a .before .before in
-    let T = s .args .table .now in
-    let n = s .args .n in
-    let ρ = variablesOf (s .args .variables .now) in
-    let x = lent (s .args .mem .now) (s .args .obs .now) (s .args .temporaries .now) in
-    let f = s .args .fuel in
-    let h = s .pre .1 .0 in
-    let q = s .pre .1 .1 in
-    ran-is
-    (watch-sequence T n (h .is) ρ (memoryOf (x .memory)) (observationOf (x .observation))
-    (temporariesOf (x .temporaries)) f q)
-    (next-stays (statementAt T (childA T n)) ρ f (λ m₁ o₁ τ₁ f₁. watch (statementAt T (childB T n)) ρ m₁ o₁ τ₁ f₁)
-    (after-run .run .result) x _ (rw (after-child-a .child-a .ensures) at (after-run .run .ensures)) (c .if1 .left))
+run-single-returns-2 : (t : ℕ) → run-single-lts.Need-returns-2 (run-single-claims t)
+    (run-single-at t) run-single.Post
+run-single-returns-2 t c =
+    c .repeat .ensures
 
-pub +branch+enclose+repeat+run+run-inside+sequence-spec : {M : Type 1} → statement M
-+branch+enclose+repeat+run+run-inside+sequence-spec =
-    close μ-branch μ-enclose μ-repeat μ-run μ-run-inside μ-sequence (λ t. branch-lts.spec (branch-claims t)
+run-single-returns-3 : (t : ℕ) → run-single-lts.Need-returns-3 (run-single-claims t)
+    (run-single-at t) run-single.Post
+run-single-returns-3 t c =
+    c .enclose .ensures
+
+run-single-returns-4 : (t : ℕ) → run-single-lts.Need-returns-4 (run-single-claims t)
+    (run-single-at t) run-single.Post
+run-single-returns-4 t c =
+    c .step .ensures
+
+pub +branch+enclose+repeat+run+run-inside+run-single-spec : {M : Type 1} → statement M
++branch+enclose+repeat+run+run-inside+run-single-spec =
+    close μ-branch μ-enclose μ-repeat μ-run μ-run-inside μ-run-single (λ t. branch-lts.spec (branch-claims t)
     (branch-at t)
     branch.Post
     (branch-child-b-requires t)
@@ -898,19 +965,18 @@ pub +branch+enclose+repeat+run+run-inside+sequence-spec : {M : Type 1} → state
     (λ t. run-lts.spec (run-claims t)
     (run-at t)
     run.Post
+    run-Inv-loop
+    run-μ-loop
+    (run-loop-holds t)
     (run-kind-requires t)
-    (run-sequence-requires t)
-    (run-branch-requires t)
-    (run-repeat-requires t)
-    (run-enclose-requires t)
-    (run-branch-requires-2 t)
-    (run-step-requires t)
+    (run-child-a-requires t)
+    (run-run-requires t)
     (run-returns t)
-    (run-returns-2 t)
-    (run-returns-3 t)
-    (run-returns-4 t)
-    (run-returns-5 t)
-    (run-returns-6 t))
+    (run-child-b-requires t)
+    (run-loop-less t)
+    (run-loop-again t)
+    (run-run-single-requires t)
+    (run-returns-2 t))
     (λ t. run-inside-lts.spec (run-inside-claims t)
     (run-inside-at t)
     run-inside.Post
@@ -922,12 +988,15 @@ pub +branch+enclose+repeat+run+run-inside+sequence-spec : {M : Type 1} → state
     (run-inside-end-requires t)
     (run-inside-returns t)
     (run-inside-returns-2 t))
-    λ t. sequence-lts.spec (sequence-claims t)
-    (sequence-at t)
-    sequence.Post
-    (sequence-child-a-requires t)
-    (sequence-run-requires t)
-    (sequence-child-b-requires t)
-    (sequence-run-requires-2 t)
-    (sequence-returns t)
-    (sequence-returns-2 t)
+    λ t. run-single-lts.spec (run-single-claims t)
+    (run-single-at t)
+    run-single.Post
+    (run-single-kind-requires t)
+    (run-single-branch-requires t)
+    (run-single-repeat-requires t)
+    (run-single-enclose-requires t)
+    (run-single-step-requires t)
+    (run-single-returns t)
+    (run-single-returns-2 t)
+    (run-single-returns-3 t)
+    (run-single-returns-4 t)

@@ -1,5 +1,5 @@
 -- The statements with parts, and the dispatcher. The measure is the record number.
-use Prim.Native.Nat.{ℕ, _+_, _-_, _*_, _<_}
+use Prim.Native.Nat.{ℕ, _+_, _-_, _*_, _<_, _≤_}
 use native.Mathlib.Omega.{arith}
 use mathlib.Core.Path.{refl, sym, _∙_}
 use borrow.Author.Needs.{needs}
@@ -7,7 +7,6 @@ use Rattle.rules.specs.Records.{markOf, childA, childB}
 use Rattle.rules.specs.Memory.{endBlock}
 use Rattle.rules.specs.Evaluation.{extend}
 use Rattle.rules.specs.Plain.{finished, ended}
-use Rattle.rules.specs.Plain as plain
 use Rattle.rules.specs.Layout.{memoryOf}
 use Rattle.rules.specs.Kinds.{source}
 use Rattle.rules.proofs.StatementArms.{sequence-children, branch-children, while-children}
@@ -15,29 +14,30 @@ use Rattle.rules.proofs.PlainArms.{statementAt, statement-kinds, run-skip, run-
 use Rattle.evaluation.specs.State.{variablesOf}
 use Rattle.statements.specs.Ending.{result}
 use Rattle.statements.proofs.ChangeLaws.{becomes-same}
-use Rattle.plain.proofs.Laws.{ran-is, next-goes, next-stays}
+use Rattle.plain.specs.Running.{Ready}
+use Rattle.plain.proofs.Laws.{ran-is, next-stays}
 use Rattle.plain.proofs.ReadyLaws.{ready-within, ready-number, ready-first, ready-then, ready-else, ready-turn}
-use Rattle.plain.proofs.MemberLaws.{ran-from, ran-same, branch-yes, branch-no, branch-stop, turn-yes, turn-no, turn-stop, turn-out, let-made, let-unmade, Turning, turn-ends, turn-again, turn-spends, inside-ends, ready-later, ready-made}
+use Rattle.plain.proofs.MemberLaws.{ran-from, ran-same, branch-yes, branch-no, branch-stop, turn-yes, turn-no, turn-stop, turn-out, let-made, let-unmade, Remaining, part-ends, part-finishes, part-spends, inside-ends, ready-later, ready-made}
 use borrow.Fn.Kinds.{In}
 use borrow.Fn.PlainCycle.{Measures, is, falls, and}
 use Rattle.plain.proofs.branch.Reads as branch
 use Rattle.plain.proofs.branch.Kinds as branch-kinds
-use Rattle.plain.proofs.+branch+enclose+repeat+run+run_inside+sequence.Lts-branch as branch-lts
+use Rattle.plain.proofs.+branch+enclose+repeat+run+run_inside+run_single.Lts-branch as branch-lts
 use Rattle.plain.proofs.enclose.Reads as enclose
 use Rattle.plain.proofs.enclose.Kinds as enclose-kinds
-use Rattle.plain.proofs.+branch+enclose+repeat+run+run_inside+sequence.Lts-enclose as enclose-lts
+use Rattle.plain.proofs.+branch+enclose+repeat+run+run_inside+run_single.Lts-enclose as enclose-lts
 use Rattle.plain.proofs.repeat.Reads as repeat
 use Rattle.plain.proofs.repeat.Kinds as repeat-kinds
-use Rattle.plain.proofs.+branch+enclose+repeat+run+run_inside+sequence.Lts-repeat as repeat-lts
+use Rattle.plain.proofs.+branch+enclose+repeat+run+run_inside+run_single.Lts-repeat as repeat-lts
 use Rattle.plain.proofs.run.Reads as run
 use Rattle.plain.proofs.run.Kinds as run-kinds
-use Rattle.plain.proofs.+branch+enclose+repeat+run+run_inside+sequence.Lts-run as run-lts
+use Rattle.plain.proofs.+branch+enclose+repeat+run+run_inside+run_single.Lts-run as run-lts
 use Rattle.plain.proofs.run_inside.Reads as run-inside
 use Rattle.plain.proofs.run_inside.Kinds as run-inside-kinds
-use Rattle.plain.proofs.+branch+enclose+repeat+run+run_inside+sequence.Lts-run_inside as run-inside-lts
-use Rattle.plain.proofs.sequence.Reads as sequence
-use Rattle.plain.proofs.sequence.Kinds as sequence-kinds
-use Rattle.plain.proofs.+branch+enclose+repeat+run+run_inside+sequence.Lts-sequence as sequence-lts
+use Rattle.plain.proofs.+branch+enclose+repeat+run+run_inside+run_single.Lts-run_inside as run-inside-lts
+use Rattle.plain.proofs.run_single.Reads as run-single
+use Rattle.plain.proofs.run_single.Kinds as run-single-kinds
+use Rattle.plain.proofs.+branch+enclose+repeat+run+run_inside+run_single.Lts-run_single as run-single-lts
 use Rattle.blocks.proofs.end.Reads as end-reads
 use Rattle.blocks.proofs.make.Reads as make-reads
 use Rattle.plain.proofs.allocate.Reads as allocate-reads
@@ -51,26 +51,26 @@ use Rattle.tables.proofs.child_b.Reads as child-b-reads
 use Rattle.tables.proofs.child_c.Reads as child-c-reads
 use Rattle.tables.proofs.kind.Reads as kind-reads
 use Rattle.tables.proofs.mark.Reads as mark-reads
-use Rattle.plain.proofs.+branch+enclose+repeat+run+run_inside+sequence.{statement}
-use Rattle.plain.proofs.+branch+enclose+repeat+run+run_inside+sequence.Tie.{close}
+use Rattle.plain.proofs.+branch+enclose+repeat+run+run_inside+run_single.{statement}
+use Rattle.plain.proofs.+branch+enclose+repeat+run+run_inside+run_single.Tie.{close}
 
 abbrev μ-branch : Measures 4 branch-kinds.ps ℕ
-μ-branch κs a = a .1 .0 * 3 + 1
+μ-branch κs a = a .1 .0 * 4 + 1
 
 abbrev μ-enclose : Measures 4 enclose-kinds.ps ℕ
-μ-enclose κs a = a .1 .0 * 3 + 1
+μ-enclose κs a = a .1 .0 * 4 + 1
 
 abbrev μ-repeat : Measures 4 repeat-kinds.ps ℕ
-μ-repeat κs a = a .1 .0 * 3 + 1
+μ-repeat κs a = a .1 .0 * 4 + 1
 
 abbrev μ-run : Measures 4 run-kinds.ps ℕ
-μ-run κs a = a .1 .0 * 3 + 2
+μ-run κs a = a .1 .0 * 4 + 3
 
 abbrev μ-run-inside : Measures 4 run-inside-kinds.ps ℕ
-μ-run-inside κs a = a .1 .0 * 3
+μ-run-inside κs a = a .1 .0 * 4
 
-abbrev μ-sequence : Measures 4 sequence-kinds.ps ℕ
-μ-sequence κs a = a .1 .0 * 3 + 1
+abbrev μ-run-single : Measures 4 run-single-kinds.ps ℕ
+μ-run-single κs a = a .1 .0 * 4 + 2
 
 abbrev branch-at : ℕ → In 4 branch-kinds.ps
 branch-at t = and 4 branch-kinds.ps (is 4 branch-kinds.ps μ-branch t) branch.Pre
@@ -104,12 +104,13 @@ abbrev run-inside-below : ℕ → In 4 run-inside-kinds.ps
 run-inside-below t =
     and 4 run-inside-kinds.ps (falls 4 run-inside-kinds.ps _<_ μ-run-inside t) run-inside.Pre
 
-abbrev sequence-at : ℕ → In 4 sequence-kinds.ps
-sequence-at t = and 4 sequence-kinds.ps (is 4 sequence-kinds.ps μ-sequence t) sequence.Pre
+abbrev run-single-at : ℕ → In 4 run-single-kinds.ps
+run-single-at t =
+    and 4 run-single-kinds.ps (is 4 run-single-kinds.ps μ-run-single t) run-single.Pre
 
-abbrev sequence-below : ℕ → In 4 sequence-kinds.ps
-sequence-below t =
-    and 4 sequence-kinds.ps (falls 4 sequence-kinds.ps _<_ μ-sequence t) sequence.Pre
+abbrev run-single-below : ℕ → In 4 run-single-kinds.ps
+run-single-below t =
+    and 4 run-single-kinds.ps (falls 4 run-single-kinds.ps _<_ μ-run-single t) run-single.Pre
 
 abbrev branch-claims : ℕ → branch-lts.Claims
 branch-claims t = (test-a-reads.Asked, test-a-reads.Learnt, child-b-reads.Asked, child-b-reads.Learnt, run-below t, run.Post, child-c-reads.Asked, child-c-reads.Learnt)
@@ -121,13 +122,24 @@ abbrev repeat-claims : ℕ → repeat-lts.Claims
 repeat-claims t = (child-b-reads.Asked, child-b-reads.Learnt, test-a-reads.Asked, test-a-reads.Learnt, run-below t, run.Post)
 
 abbrev run-claims : ℕ → run-lts.Claims
-run-claims t = (kind-reads.Asked, kind-reads.Learnt, assign-reads.Asked, assign-reads.Learnt, allocate-reads.Asked, allocate-reads.Learnt, release-reads.Asked, release-reads.Learnt, sequence-below t, sequence.Post, branch-below t, branch.Post, repeat-below t, repeat.Post, enclose-below t, enclose.Post, assert-reads.Asked, assert-reads.Learnt)
+run-claims t = (
+  kind-reads.Asked,
+  kind-reads.Learnt,
+  child-a-reads.Asked,
+  child-a-reads.Learnt,
+  run-below t,
+  run.Post,
+  child-b-reads.Asked,
+  child-b-reads.Learnt,
+  run-single-below t,
+  run-single.Post,
+)
 
 abbrev run-inside-claims : ℕ → run-inside-lts.Claims
 run-inside-claims t = (mark-reads.Asked, mark-reads.Learnt, name-variable-reads.Asked, name-variable-reads.Learnt, child-a-reads.Asked, child-a-reads.Learnt, run-below t, run.Post, end-reads.Asked, end-reads.Learnt)
 
-abbrev sequence-claims : ℕ → sequence-lts.Claims
-sequence-claims t = (child-a-reads.Asked, child-a-reads.Learnt, run-below t, run.Post, child-b-reads.Asked, child-b-reads.Learnt)
+abbrev run-single-claims : ℕ → run-single-lts.Claims
+run-single-claims t = (kind-reads.Asked, kind-reads.Learnt, assign-reads.Asked, assign-reads.Learnt, allocate-reads.Asked, allocate-reads.Learnt, release-reads.Asked, release-reads.Learnt, branch-below t, branch.Post, repeat-below t, repeat.Post, enclose-below t, enclose.Post, assert-reads.Asked, assert-reads.Learnt)
 
 branch-test-a-requires : (t : ℕ) → branch-lts.Need-test-a-requires (branch-claims t) (branch-at t) branch.Post
 branch-test-a-requires t c κs =
@@ -316,7 +328,8 @@ enclose-returns-2 t c =
     (sym (c .before .c .given .1) ∙ c .before .before .before .make .ensures .0) refl
 
 abbrev repeat-Inv-loop : repeat-lts.InvT-loop
-repeat-Inv-loop table n variables temporaries mem₀ fuel b left₀ mem left = Turning table n (variablesOf variables) mem₀ fuel mem left
+repeat-Inv-loop table n variables temporaries mem₀ fuel b left₀ mem left =
+    Remaining table n (variablesOf variables) mem₀ fuel n mem left
 
 abbrev repeat-μ-loop : repeat-lts.MeasureT-loop
 repeat-μ-loop table n variables temporaries mem₀ fuel b left₀ mem left = left
@@ -379,7 +392,7 @@ repeat-returns t c =
     let f = s .args .fuel in
     let h = s .pre .1 .0 in
     let q = s .pre .1 .1 in
-    turn-ends T n ρ l f (c .before .before .before .before .before .before .before .before .before .loop .mem) (c .before .before .before .before .before .before .before .before .before .loop .left) (c .before .before .before .before .before .before .before .before .before .loop .inv) (childB T n) (c .before .before .run .result) (c .before .before .run .last .1 .1 .1 .1 .0)
+    part-ends T n ρ l f n (c .before .before .before .before .before .before .before .before .before .loop .mem) (c .before .before .before .before .before .before .before .before .before .loop .left) (c .before .before .before .before .before .before .before .before .before .loop .inv) (childB T n) n (c .before .before .before .before .before .before .before .before .before .loop .left - 1) (c .before .before .run .result) (c .before .before .run .last .1 .1 .1 .1 .0)
     (rw (c .before .before .before .before .before .before .before .before .before .before .child-b .ensures) at (c .before .before .run .ensures))
     (turn-yes T n (h .is) ρ q (memoryOf (c .before .before .before .before .before .before .before .before .before .loop .mem)) (c .before .before .before .before .before .before .before .before .before .loop .left) (c .before .before .before .before .before .before .before .before .loop-test .taken)
     (sym (c .before .before .before .before .before .before .test-a .ensures) ∙ c .before .before .before .before .enum-told .given .1))
@@ -395,11 +408,11 @@ repeat-loop-less t c =
     let f = s .args .fuel in
     let h = s .pre .1 .0 in
     let q = s .pre .1 .1 in
-    turn-spends T n ρ l f (c .before .before .before .before .before .before .before .before .before .loop .mem) (c .before .before .before .before .before .before .before .before .before .loop .left) (c .before .before .before .before .before .before .before .before .before .loop .inv) (childB T n) (c .before .before .run .result) (c .before .before .run .last .1 .1 .1 .1 .0)
+    part-spends T n ρ l f n (c .before .before .before .before .before .before .before .before .before .loop .mem) (c .before .before .before .before .before .before .before .before .before .loop .left) (c .before .before .before .before .before .before .before .before .before .loop .inv) (childB T n) n (c .before .before .before .before .before .before .before .before .before .loop .left - 1) (c .before .before .run .result) (c .before .before .run .last .1 .1 .1 .1 .0)
     (rw (c .before .before .before .before .before .before .before .before .before .before .child-b .ensures) at (c .before .before .run .ensures))
     (turn-yes T n (h .is) ρ q (memoryOf (c .before .before .before .before .before .before .before .before .before .loop .mem)) (c .before .before .before .before .before .before .before .before .before .loop .left) (c .before .before .before .before .before .before .before .before .loop-test .taken)
     (sym (c .before .before .before .before .before .before .test-a .ensures) ∙ c .before .before .before .before .enum-told .given .1))
-    (c .if1 .left) (c .before .before .before .before .before .before .before .before .loop-test .taken)
+    (c .if1 .left) (omega (arith, c .before .before .before .before .before .before .before .before .loop-test .taken))
 
 repeat-loop-again : (t : ℕ) → repeat-lts.Need-loop-again (repeat-claims t) (repeat-at t) repeat.Post repeat-Inv-loop repeat-μ-loop
 repeat-loop-again t c =
@@ -411,7 +424,7 @@ repeat-loop-again t c =
     let f = s .args .fuel in
     let h = s .pre .1 .0 in
     let q = s .pre .1 .1 in
-    turn-again T n ρ l f (c .before .before .before .before .before .before .before .before .before .loop .mem) (c .before .before .before .before .before .before .before .before .before .loop .left) (c .before .before .before .before .before .before .before .before .before .loop .inv) (childB T n) (c .before .before .run .result) (c .before .before .run .last .1 .1 .1 .1 .0)
+    part-finishes T n ρ l f n (c .before .before .before .before .before .before .before .before .before .loop .mem) (c .before .before .before .before .before .before .before .before .before .loop .left) (c .before .before .before .before .before .before .before .before .before .loop .inv) (childB T n) n (c .before .before .before .before .before .before .before .before .before .loop .left - 1) (c .before .before .run .result) (c .before .before .run .last .1 .1 .1 .1 .0)
     (rw (c .before .before .before .before .before .before .before .before .before .before .child-b .ensures) at (c .before .before .run .ensures))
     (turn-yes T n (h .is) ρ q (memoryOf (c .before .before .before .before .before .before .before .before .before .loop .mem)) (c .before .before .before .before .before .before .before .before .before .loop .left) (c .before .before .before .before .before .before .before .before .loop-test .taken)
     (sym (c .before .before .before .before .before .before .test-a .ensures) ∙ c .before .before .before .before .enum-told .given .1))
@@ -493,88 +506,156 @@ repeat-returns-4 t c =
     ran-is (c .before .loop .inv .rest ∙ turn-out T n (h .is) ρ q m (c .before .loop .left) (c .loop-test .left))
     (ran-from (c .before .loop .inv .bytes) (ran-same (ended 32 n m 0) _ refl refl))
 
-run-kind-requires : (t : ℕ) → run-lts.Need-kind-requires (run-claims t) (run-at t) run.Post
+abbrev run-Inv-loop : run-lts.InvT-loop
+run-Inv-loop table n variables temporaries mem₀ fuel at₀ left₀ mem at left =
+    Remaining table n (variablesOf variables) mem₀ fuel at mem left
+    × Ready table at (variablesOf variables) (memoryOf mem) × (at ≤ n)
+
+abbrev run-μ-loop : run-lts.MeasureT-loop
+run-μ-loop table n variables temporaries mem₀ fuel at₀ left₀ mem at left = at
+
+run-loop-holds : (t : ℕ) → run-lts.Need-loop-holds (run-claims t)
+    (run-at t) run.Post run-Inv-loop run-μ-loop
+run-loop-holds t c =
+    let h = c .pre .1 in
+    (record { rest = refl; bytes = becomes-same refl; fits = h .fits }, h, omega arith)
+
+run-kind-requires : (t : ℕ) → run-lts.Need-kind-requires (run-claims t)
+    (run-at t) run.Post run-Inv-loop run-μ-loop
 run-kind-requires t c κs =
-    let s = c .before in
+    let after-loop = c .before in
+    let s = after-loop .before in
     let T = s .args .table .now in
-    let n = s .args .n in
     let ρ = variablesOf (s .args .variables .now) in
-    let l = s .args .mem .now in
-    let f = s .args .fuel in
-    ready-within T n ρ (memoryOf l) (s .pre .1)
+    let l = after-loop .loop .mem in
+    let m = after-loop .loop .at in
+    let h = after-loop .loop .inv .1 in
+    ready-within T m ρ (memoryOf l) h
 
-run-assign-requires : (t : ℕ) → run-lts.Need-assign-requires (run-claims t) (run-at t) run.Post
-run-assign-requires t c κs = (c .before .before .before .before .pre .1, sym (c .before .before .kind .ensures) ∙ c .before .match .keys2)
-
-run-allocate-requires : (t : ℕ) → run-lts.Need-allocate-requires (run-claims t) (run-at t) run.Post
-run-allocate-requires t c κs = (c .before .before .before .before .pre .1, sym (c .before .before .kind .ensures) ∙ c .before .match .keys3)
-
-run-release-requires : (t : ℕ) → run-lts.Need-release-requires (run-claims t) (run-at t) run.Post
-run-release-requires t c κs = (c .before .before .before .before .pre .1, sym (c .before .before .kind .ensures) ∙ c .before .match .keys4)
-
-run-sequence-requires : (t : ℕ) → run-lts.Need-sequence-requires (run-claims t) (run-at t) run.Post
-run-sequence-requires t c κs = (omega (arith, c .before .before .before .before .pre .0), (c .before .before .before .before .pre .1, sym (c .before .before .kind .ensures) ∙ c .before .match .keys5))
-
-run-branch-requires : (t : ℕ) → run-lts.Need-branch-requires (run-claims t) (run-at t) run.Post
-run-branch-requires t c κs = (omega (arith, c .before .before .before .before .pre .0), (c .before .before .before .before .pre .1, sym (c .before .before .kind .ensures) ∙ c .before .match .keys6))
-
-run-repeat-requires : (t : ℕ) → run-lts.Need-repeat-requires (run-claims t) (run-at t) run.Post
-run-repeat-requires t c κs = (omega (arith, c .before .before .before .before .pre .0), (c .before .before .before .before .pre .1, sym (c .before .before .kind .ensures) ∙ c .before .match .keys7))
-
-run-enclose-requires : (t : ℕ) → run-lts.Need-enclose-requires (run-claims t) (run-at t) run.Post
-run-enclose-requires t c κs = (omega (arith, c .before .before .before .before .pre .0), (c .before .before .before .before .pre .1, sym (c .before .before .kind .ensures) ∙ c .before .match .keys8))
-
-run-assert-requires : (t : ℕ) → run-lts.Need-assert-requires (run-claims t) (run-at t) run.Post
-run-assert-requires t c κs =
-    let s = c .before .before .before .before in
+run-child-a-requires : (t : ℕ) → run-lts.Need-child-a-requires (run-claims t)
+    (run-at t) run.Post run-Inv-loop run-μ-loop
+run-child-a-requires t c κs =
+    let after-loop = c .before .before .before .before in
+    let s = after-loop .before in
     let T = s .args .table .now in
-    let n = s .args .n in
     let ρ = variablesOf (s .args .variables .now) in
-    let l = s .args .mem .now in
-    let f = s .args .fuel in
-    let k = c .before .before .kind .ensures in
-    let r = c .before .match .rest in (
-      s .pre .1,
-      statement-kinds T n (s .pre .1 .is)
-          (λ e. r .0 .0 .0 .0 .0 .0 .0 .1 (k ∙ e)) (λ e. r .0 .0 .0 .0 .0 .0 .1 (k ∙ e))
-          (λ e. r .0 .0 .0 .0 .0 .1 (k ∙ e)) (λ e. r .0 .0 .0 .0 .1 (k ∙ e)) (λ e. r .0 .0 .0 .1 (k ∙ e))
-          (λ e. r .0 .0 .1 (k ∙ e)) (λ e. r .0 .1 (k ∙ e)) (λ e. r .1 (k ∙ e)),
+    let l = after-loop .loop .mem in
+    let m = after-loop .loop .at in
+    let h = after-loop .loop .inv .1 in
+    ready-within T m ρ (memoryOf l) h
+
+run-run-requires : (t : ℕ) → run-lts.Need-run-requires (run-claims t)
+    (run-at t) run.Post run-Inv-loop run-μ-loop
+run-run-requires t c κs =
+    let after-child-a = c .before in
+    let after-if1 = after-child-a .before .before in
+    let after-kind = after-if1 .before in
+    let after-loop = after-kind .before .before in
+    let s = after-loop .before in
+    let T = s .args .table .now in
+    let ρ = variablesOf (s .args .variables .now) in
+    let l = after-loop .loop .mem in
+    let m = after-loop .loop .at in
+    let h = after-loop .loop .inv .1 in
+    let q = sym (after-kind .kind .ensures) ∙ after-if1 .if1 .taken in
+    rw (after-child-a .child-a .ensures) (
+      omega (arith, sequence-children source T m (h .is) q .0 .1, after-loop .loop .inv .2, s .pre .0),
+      ready-first T m ρ (memoryOf l) h q,
     )
 
-run-returns : (t : ℕ) → run-lts.Need-returns (run-claims t) (run-at t) run.Post
+run-returns : (t : ℕ) → run-lts.Need-returns (run-claims t)
+    (run-at t) run.Post run-Inv-loop run-μ-loop
 run-returns t c =
-    let s = c .before .before .before in
+    let after-run = c .before .before in
+    let after-child-a = after-run .before .before in
+    let after-if1 = after-child-a .before .before in
+    let after-kind = after-if1 .before in
+    let after-loop = after-kind .before .before in
+    let s = after-loop .before in
     let T = s .args .table .now in
     let n = s .args .n in
     let ρ = variablesOf (s .args .variables .now) in
-    let l = s .args .mem .now in
+    let a = s .args .mem .now in
     let f = s .args .fuel in
-    ran-is (run-skip T n (s .pre .1 .is) ρ (memoryOf l) f (sym (c .before .kind .ensures) ∙ c .match .keys1))
-    (ran-same (finished (memoryOf l) f) (result 0 0 f) refl refl)
+    let l = after-loop .loop .mem in
+    let m = after-loop .loop .at in
+    let h = after-loop .loop .inv .1 in
+    let q = sym (after-kind .kind .ensures) ∙ after-if1 .if1 .taken in
+    let w = rw (after-child-a .child-a .ensures) at (after-run .run .ensures) in
+    part-ends T n ρ a f m l (after-loop .loop .left) (after-loop .loop .inv .0) (childA T m) (childB T m)
+    (after-loop .loop .left) (after-run .run .result) _ w (run-sequence T m (h .is) ρ (memoryOf l) (after-loop .loop .left) q)
+    (c .if2 .taken)
 
-run-returns-2 : (t : ℕ) → run-lts.Need-returns-2 (run-claims t) (run-at t) run.Post
-run-returns-2 t c = c .assign .ensures
+run-child-b-requires : (t : ℕ) → run-lts.Need-child-b-requires (run-claims t)
+    (run-at t) run.Post run-Inv-loop run-μ-loop
+run-child-b-requires t c κs =
+    let after-loop = c .before .before .before .before .before .before .before .before .before .before in
+    let s = after-loop .before in
+    let T = s .args .table .now in
+    let ρ = variablesOf (s .args .variables .now) in
+    let l = after-loop .loop .mem in
+    let m = after-loop .loop .at in
+    let h = after-loop .loop .inv .1 in
+    ready-within T m ρ (memoryOf l) h
 
-run-returns-3 : (t : ℕ) → run-lts.Need-returns-3 (run-claims t) (run-at t) run.Post
-run-returns-3 t c = c .allocate .ensures
+run-loop-less : (t : ℕ) → run-lts.Need-loop-less (run-claims t)
+    (run-at t) run.Post run-Inv-loop run-μ-loop
+run-loop-less t c =
+    let after-run = c .before .before .before .before in
+    let after-child-a = after-run .before .before in
+    let after-if1 = after-child-a .before .before in
+    let after-kind = after-if1 .before in
+    let after-loop = after-kind .before .before in
+    let s = after-loop .before in
+    let T = s .args .table .now in
+    let m = after-loop .loop .at in
+    let h = after-loop .loop .inv .1 in
+    let q = sym (after-kind .kind .ensures) ∙ after-if1 .if1 .taken in
+    omega (arith, c .child-b .ensures, sequence-children source T m (h .is) q .1 .1)
 
-run-returns-4 : (t : ℕ) → run-lts.Need-returns-4 (run-claims t) (run-at t) run.Post
-run-returns-4 t c = c .release .ensures
+run-loop-again : (t : ℕ) → run-lts.Need-loop-again (run-claims t)
+    (run-at t) run.Post run-Inv-loop run-μ-loop
+run-loop-again t c =
+    let after-run = c .before .before .before .before in
+    let after-child-a = after-run .before .before in
+    let after-if1 = after-child-a .before .before in
+    let after-kind = after-if1 .before in
+    let after-loop = after-kind .before .before in
+    let s = after-loop .before in
+    let T = s .args .table .now in
+    let n = s .args .n in
+    let ρ = variablesOf (s .args .variables .now) in
+    let a = s .args .mem .now in
+    let f = s .args .fuel in
+    let l = after-loop .loop .mem in
+    let m = after-loop .loop .at in
+    let h = after-loop .loop .inv .1 in
+    let q = sym (after-kind .kind .ensures) ∙ after-if1 .if1 .taken in
+    let w = rw (after-child-a .child-a .ensures) at (after-run .run .ensures) in
+    rw (c .child-b .ensures) (
+      part-finishes T n ρ a f m l (after-loop .loop .left) (after-loop .loop .inv .0) (childA T m) (childB T m)
+          (after-loop .loop .left) (after-run .run .result) _ w (run-sequence T m (h .is) ρ (memoryOf l) (after-loop .loop .left) q)
+          (c .before .before .if2 .left) (ready-first T m ρ (memoryOf l) h q),
+      ready-later T m ρ (after-loop .loop .left) (after-run .run .result) l _ h q w,
+      omega (arith, sequence-children source T m (h .is) q .1 .1, after-loop .loop .inv .2),
+    )
 
-run-returns-5 : (t : ℕ) → run-lts.Need-returns-5 (run-claims t) (run-at t) run.Post
-run-returns-5 t c = c .sequence .ensures
+run-run-single-requires : (t : ℕ) → run-lts.Need-run-single-requires (run-claims t)
+    (run-at t) run.Post run-Inv-loop run-μ-loop
+run-run-single-requires t c κs =
+    let after-if1 = c .before in
+    let after-kind = after-if1 .before in
+    let after-loop = after-kind .before .before in
+    let s = after-loop .before in (
+      omega (arith, after-loop .loop .inv .2, s .pre .0),
+      (after-loop .loop .inv .1, λ e. after-if1 .if1 .left (after-kind .kind .ensures ∙ e)),
+    )
 
-run-returns-6 : (t : ℕ) → run-lts.Need-returns-6 (run-claims t) (run-at t) run.Post
-run-returns-6 t c = c .branch .ensures
-
-run-returns-7 : (t : ℕ) → run-lts.Need-returns-7 (run-claims t) (run-at t) run.Post
-run-returns-7 t c = c .repeat .ensures
-
-run-returns-8 : (t : ℕ) → run-lts.Need-returns-8 (run-claims t) (run-at t) run.Post
-run-returns-8 t c = c .enclose .ensures
-
-run-returns-9 : (t : ℕ) → run-lts.Need-returns-9 (run-claims t) (run-at t) run.Post
-run-returns-9 t c = c .assert .ensures
+run-returns-2 : (t : ℕ) → run-lts.Need-returns-2 (run-claims t)
+    (run-at t) run.Post run-Inv-loop run-μ-loop
+run-returns-2 t c =
+    let after-loop = c .before .before .before .before .before in
+    ran-is (after-loop .loop .inv .0 .rest) (ran-from (after-loop .loop .inv .0 .bytes) (c .run-single .ensures))
 
 run-inside-mark-requires : (t : ℕ) → run-inside-lts.Need-mark-requires (run-inside-claims t) (run-inside-at t) run-inside.Post
 run-inside-mark-requires t c κs = c .before .before .pre .1 .within
@@ -629,90 +710,86 @@ run-inside-returns-2 t c =
     next-stays (statementAt T (childA T n)) (extend ρ (markOf T n) k) f (λ m₁ f₁. finished (endBlock m₁ k) f₁)
     (c .before .before .run .result) l (c .before .before .run .last .1 .1 .1 .1 .0) (rw (c .before .before .before .before .before .child-a .ensures, c .before .before .before .before .before .before .before .name-variable .ensures, c .before .before .before .before .before .before .before .before .mark .ensures) at (c .before .before .run .ensures)) (c .if1 .left)
 
-sequence-child-a-requires : (t : ℕ) → sequence-lts.Need-child-a-requires (sequence-claims t) (sequence-at t) sequence.Post
-sequence-child-a-requires t c κs =
+run-single-kind-requires : (t : ℕ) → run-single-lts.Need-kind-requires (run-single-claims t) (run-single-at t) run-single.Post
+run-single-kind-requires t c κs =
     let s = c .before in
     let T = s .args .table .now in
     let n = s .args .n in
     let ρ = variablesOf (s .args .variables .now) in
     let l = s .args .mem .now in
     let f = s .args .fuel in
-    let h = s .pre .1 .0 in
-    let q = s .pre .1 .1 in
-    ready-within T n ρ (memoryOf l) h
+    ready-within T n ρ (memoryOf l) (s .pre .1 .0)
 
-sequence-run-requires : (t : ℕ) → sequence-lts.Need-run-requires (sequence-claims t) (sequence-at t) sequence.Post
-sequence-run-requires t c κs =
+run-single-assign-requires : (t : ℕ) → run-single-lts.Need-assign-requires (run-single-claims t) (run-single-at t) run-single.Post
+run-single-assign-requires t c κs = (c .before .before .before .before .pre .1 .0, sym (c .before .before .kind .ensures) ∙ c .before .match .keys2)
+
+run-single-allocate-requires : (t : ℕ) → run-single-lts.Need-allocate-requires (run-single-claims t) (run-single-at t) run-single.Post
+run-single-allocate-requires t c κs = (c .before .before .before .before .pre .1 .0, sym (c .before .before .kind .ensures) ∙ c .before .match .keys3)
+
+run-single-release-requires : (t : ℕ) → run-single-lts.Need-release-requires (run-single-claims t) (run-single-at t) run-single.Post
+run-single-release-requires t c κs = (c .before .before .before .before .pre .1 .0, sym (c .before .before .kind .ensures) ∙ c .before .match .keys4)
+
+run-single-branch-requires : (t : ℕ) → run-single-lts.Need-branch-requires (run-single-claims t) (run-single-at t) run-single.Post
+run-single-branch-requires t c κs = (omega (arith, c .before .before .before .before .pre .0), (c .before .before .before .before .pre .1 .0, sym (c .before .before .kind .ensures) ∙ c .before .match .keys5))
+
+run-single-repeat-requires : (t : ℕ) → run-single-lts.Need-repeat-requires (run-single-claims t) (run-single-at t) run-single.Post
+run-single-repeat-requires t c κs = (omega (arith, c .before .before .before .before .pre .0), (c .before .before .before .before .pre .1 .0, sym (c .before .before .kind .ensures) ∙ c .before .match .keys6))
+
+run-single-enclose-requires : (t : ℕ) → run-single-lts.Need-enclose-requires (run-single-claims t) (run-single-at t) run-single.Post
+run-single-enclose-requires t c κs = (omega (arith, c .before .before .before .before .pre .0), (c .before .before .before .before .pre .1 .0, sym (c .before .before .kind .ensures) ∙ c .before .match .keys7))
+
+run-single-assert-requires : (t : ℕ) → run-single-lts.Need-assert-requires (run-single-claims t) (run-single-at t) run-single.Post
+run-single-assert-requires t c κs =
+    let s = c .before .before .before .before in
+    let T = s .args .table .now in
+    let n = s .args .n in
+    let ρ = variablesOf (s .args .variables .now) in
+    let l = s .args .mem .now in
+    let f = s .args .fuel in
+    let k = c .before .before .kind .ensures in
+    let r = c .before .match .rest in (
+      s .pre .1 .0,
+      statement-kinds T n (s .pre .1 .0 .is)
+          (λ e. r .0 .0 .0 .0 .0 .0 .1 (k ∙ e)) (λ e. r .0 .0 .0 .0 .0 .1 (k ∙ e)) (λ e. r .0 .0 .0 .0 .1 (k ∙ e))
+          (λ e. r .0 .0 .0 .1 (k ∙ e)) (s .pre .1 .1) (λ e. r .0 .0 .1 (k ∙ e)) (λ e. r .0 .1 (k ∙ e))
+          (λ e. r .1 (k ∙ e)),
+    )
+
+run-single-returns : (t : ℕ) → run-single-lts.Need-returns (run-single-claims t) (run-single-at t) run-single.Post
+run-single-returns t c =
     let s = c .before .before .before in
     let T = s .args .table .now in
     let n = s .args .n in
     let ρ = variablesOf (s .args .variables .now) in
     let l = s .args .mem .now in
     let f = s .args .fuel in
-    let h = s .pre .1 .0 in
-    let q = s .pre .1 .1 in
-    rw (c .before .child-a .ensures)
-    (omega (arith, sequence-children source T n (h .is) q .0 .1, s .pre .0), ready-first T n ρ (memoryOf l) h q)
+    ran-is (run-skip T n (s .pre .1 .0 .is) ρ (memoryOf l) f (sym (c .before .kind .ensures) ∙ c .match .keys1))
+    (ran-same (finished (memoryOf l) f) (result 0 0 f) refl refl)
 
-sequence-child-b-requires : (t : ℕ) → sequence-lts.Need-child-b-requires (sequence-claims t) (sequence-at t) sequence.Post
-sequence-child-b-requires t c κs =
-    let s = c .before .before .before .before .before .before .before in
-    let T = s .args .table .now in
-    let n = s .args .n in
-    let ρ = variablesOf (s .args .variables .now) in
-    let l = s .args .mem .now in
-    let f = s .args .fuel in
-    let h = s .pre .1 .0 in
-    let q = s .pre .1 .1 in
-    ready-within T n ρ (memoryOf l) h
+run-single-returns-2 : (t : ℕ) → run-single-lts.Need-returns-2 (run-single-claims t) (run-single-at t) run-single.Post
+run-single-returns-2 t c = c .assign .ensures
 
-sequence-run-requires-2 : (t : ℕ) → sequence-lts.Need-run-requires-2 (sequence-claims t) (sequence-at t) sequence.Post
-sequence-run-requires-2 t c κs =
-    let s = c .before .before .before .before .before .before .before .before .before in
-    let T = s .args .table .now in
-    let n = s .args .n in
-    let ρ = variablesOf (s .args .variables .now) in
-    let l = s .args .mem .now in
-    let f = s .args .fuel in
-    let h = s .pre .1 .0 in
-    let q = s .pre .1 .1 in
-    rw (c .before .child-b .ensures) (
-      omega (arith, sequence-children source T n (h .is) q .1 .1, s .pre .0),
-      ready-later T n ρ f (c .before .before .before .before .before .run .result) l (c .before .before .before .before .before .run .last .1 .1 .1 .1 .0) h q (rw (c .before .before .before .before .before .before .before .child-a .ensures) at (c .before .before .before .before .before .run .ensures)),
-    )
+run-single-returns-3 : (t : ℕ) → run-single-lts.Need-returns-3 (run-single-claims t) (run-single-at t) run-single.Post
+run-single-returns-3 t c = c .allocate .ensures
 
-sequence-returns : (t : ℕ) → sequence-lts.Need-returns (sequence-claims t) (sequence-at t) sequence.Post
-sequence-returns t c =
-    let s = c .before .before .before .before .before .before .before .before .before .before in
-    let T = s .args .table .now in
-    let n = s .args .n in
-    let ρ = variablesOf (s .args .variables .now) in
-    let l = s .args .mem .now in
-    let f = s .args .fuel in
-    let h = s .pre .1 .0 in
-    let q = s .pre .1 .1 in
-    ran-is (run-sequence T n (h .is) ρ (memoryOf l) f q)
-    (next-goes (statementAt T (childA T n)) ρ f (λ m₁ f₁. plain.run (statementAt T (childB T n)) ρ m₁ f₁)
-    (c .before .before .before .before .before .before .run .result) l (c .before .before .before .before .before .before .run .last .1 .1 .1 .1 .0) (rw (c .before .before .before .before .before .before .before .before .child-a .ensures) at (c .before .before .before .before .before .before .run .ensures))
-    (c .run2 .result) (c .run2 .last .1 .1 .1 .1 .0) (c .before .before .before .before .if1 .taken) (rw (c .before .before .child-b .ensures) at (c .run2 .ensures)))
+run-single-returns-4 : (t : ℕ) → run-single-lts.Need-returns-4 (run-single-claims t) (run-single-at t) run-single.Post
+run-single-returns-4 t c = c .release .ensures
 
-sequence-returns-2 : (t : ℕ) → sequence-lts.Need-returns-2 (sequence-claims t) (sequence-at t) sequence.Post
-sequence-returns-2 t c =
-    let s = c .before .before .before .before .before .before in
-    let T = s .args .table .now in
-    let n = s .args .n in
-    let ρ = variablesOf (s .args .variables .now) in
-    let l = s .args .mem .now in
-    let f = s .args .fuel in
-    let h = s .pre .1 .0 in
-    let q = s .pre .1 .1 in
-    ran-is (run-sequence T n (h .is) ρ (memoryOf l) f q)
-    (next-stays (statementAt T (childA T n)) ρ f (λ m₁ f₁. plain.run (statementAt T (childB T n)) ρ m₁ f₁)
-    (c .before .before .run .result) l (c .before .before .run .last .1 .1 .1 .1 .0) (rw (c .before .before .before .before .child-a .ensures) at (c .before .before .run .ensures)) (c .if1 .left))
+run-single-returns-5 : (t : ℕ) → run-single-lts.Need-returns-5 (run-single-claims t) (run-single-at t) run-single.Post
+run-single-returns-5 t c = c .branch .ensures
 
-pub +branch+enclose+repeat+run+run-inside+sequence-spec : {M : Type 1} → statement M
-+branch+enclose+repeat+run+run-inside+sequence-spec =
-    close μ-branch μ-enclose μ-repeat μ-run μ-run-inside μ-sequence (λ t. branch-lts.spec (branch-claims t)
+run-single-returns-6 : (t : ℕ) → run-single-lts.Need-returns-6 (run-single-claims t) (run-single-at t) run-single.Post
+run-single-returns-6 t c = c .repeat .ensures
+
+run-single-returns-7 : (t : ℕ) → run-single-lts.Need-returns-7 (run-single-claims t) (run-single-at t) run-single.Post
+run-single-returns-7 t c = c .enclose .ensures
+
+run-single-returns-8 : (t : ℕ) → run-single-lts.Need-returns-8 (run-single-claims t) (run-single-at t) run-single.Post
+run-single-returns-8 t c = c .assert .ensures
+
+pub +branch+enclose+repeat+run+run-inside+run-single-spec : {M : Type 1} → statement M
++branch+enclose+repeat+run+run-inside+run-single-spec =
+    close μ-branch μ-enclose μ-repeat μ-run μ-run-inside μ-run-single (λ t. branch-lts.spec (branch-claims t)
     (branch-at t)
     branch.Post
     (branch-test-a-requires t)
@@ -761,24 +838,18 @@ pub +branch+enclose+repeat+run+run-inside+sequence-spec : {M : Type 1} → state
     (λ t. run-lts.spec (run-claims t)
     (run-at t)
     run.Post
+    run-Inv-loop
+    run-μ-loop
+    (run-loop-holds t)
     (run-kind-requires t)
-    (run-assign-requires t)
-    (run-allocate-requires t)
-    (run-release-requires t)
-    (run-sequence-requires t)
-    (run-branch-requires t)
-    (run-repeat-requires t)
-    (run-enclose-requires t)
-    (run-assert-requires t)
+    (run-child-a-requires t)
+    (run-run-requires t)
     (run-returns t)
-    (run-returns-2 t)
-    (run-returns-3 t)
-    (run-returns-4 t)
-    (run-returns-5 t)
-    (run-returns-6 t)
-    (run-returns-7 t)
-    (run-returns-8 t)
-    (run-returns-9 t))
+    (run-child-b-requires t)
+    (run-loop-less t)
+    (run-loop-again t)
+    (run-run-single-requires t)
+    (run-returns-2 t))
     (λ t. run-inside-lts.spec (run-inside-claims t)
     (run-inside-at t)
     run-inside.Post
@@ -790,12 +861,22 @@ pub +branch+enclose+repeat+run+run-inside+sequence-spec : {M : Type 1} → state
     (run-inside-end-requires t)
     (run-inside-returns t)
     (run-inside-returns-2 t))
-    λ t. sequence-lts.spec (sequence-claims t)
-    (sequence-at t)
-    sequence.Post
-    (sequence-child-a-requires t)
-    (sequence-run-requires t)
-    (sequence-child-b-requires t)
-    (sequence-run-requires-2 t)
-    (sequence-returns t)
-    (sequence-returns-2 t)
+    λ t. run-single-lts.spec (run-single-claims t)
+    (run-single-at t)
+    run-single.Post
+    (run-single-kind-requires t)
+    (run-single-assign-requires t)
+    (run-single-allocate-requires t)
+    (run-single-release-requires t)
+    (run-single-branch-requires t)
+    (run-single-repeat-requires t)
+    (run-single-enclose-requires t)
+    (run-single-assert-requires t)
+    (run-single-returns t)
+    (run-single-returns-2 t)
+    (run-single-returns-3 t)
+    (run-single-returns-4 t)
+    (run-single-returns-5 t)
+    (run-single-returns-6 t)
+    (run-single-returns-7 t)
+    (run-single-returns-8 t)
