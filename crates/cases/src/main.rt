@@ -1,8 +1,11 @@
 // Cases of document 01 through the compiled leaves: what it prints is held to the file `stdout`.
 use blocks::Making;
 use rules::Block;
+use rules::Evaluated;
+use rules::Found;
 use rules::Number;
 use rules::Pointer;
+use rules::Value;
 
 fn print_natural(n: u64) {
     io::write_all(1, b" ");
@@ -79,6 +82,13 @@ fn print_block(mem: &[u8; 18424], name: u16) {
     }
 }
 
+// The ending of statement 42 where the let's variable takes a new block of no cells.
+fn print_empty(mem: &mut [u8; 18424]) {
+    let place = Found::Place(Pointer { name: 3, offset: 0 });
+    let size = Evaluated::Value(Value::Integer(0));
+    print_natural(statements::new_at(mem, place, size) as u64);
+}
+
 fn print_p8() {
     let mut mem = [0u8; 18424];
     io::write_all(1, b"P8");
@@ -86,6 +96,8 @@ fn print_p8() {
     print_new(&mut mem, 1020);
     begin(&mut mem);
     print_new(&mut mem, 1021);
+    begin(&mut mem);
+    print_empty(&mut mem);
     end_line();
 }
 
