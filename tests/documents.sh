@@ -1,5 +1,6 @@
 #!/usr/bin/env bash
-# Checks that every definition, theorem, function and file that docs/SENTENCES.md names exists.
+# Checks that every definition, theorem, function and file that docs/SENTENCES.md names exists, and every must-fail
+# edit that docs/PROVED.md names.
 set -euo pipefail
 cd "$(dirname "$0")/.."
 page=docs/SENTENCES.md
@@ -28,5 +29,12 @@ while IFS= read -r name; do
     esac
 done <<<"$names"
 
+page=docs/PROVED.md
+edits=$(sed -n '/^## Versions/,/^## What/p' "$page" | grep -o '`[a-z_]*/[a-z0-9_]*`' | tr -d '`' | sort -u)
+[ -n "$edits" ] || { echo "$page names no edit"; exit 1; }
+while IFS=/ read -r crate edit; do
+    [ -f "crates/$crate/must-fail/$edit.edit" ] || miss "$crate/$edit"
+done <<<"$edits"
+
 [ "$missing" -eq 0 ] || exit 1
-echo "docs/SENTENCES.md: $(wc -l <<<"$names") names, all there"
+echo "the documents' names are all there: $(wc -l <<<"$names") in SENTENCES, $(wc -l <<<"$edits") edits in PROVED"

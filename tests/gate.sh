@@ -7,17 +7,22 @@ trap '[ $? -eq 0 ] || echo "the gate failed"' EXIT
 
 tests/documents.sh
 
+# Cargo's folder lies outside target/, which `rt ci` removes. The second implementation's own tests need no proof, and
+# the first crates to be proved leave a processor idle.
+export CARGO_TARGET_DIR="$PWD/build/cargo"
 mkdir -p build
+cargo test --release --offline --manifest-path tests/reference/Cargo.toml >build/reference.log 2>&1 &
+reference=$!
+
 rt ci 2>&1 | tee build/ci.log
 verdict=$(tail -n 1 build/ci.log)
 grep -qxE '[1-9][0-9]* passed, 0 failed' <<<"$verdict"
 
-# The listing program against stored texts, which the Rust tests below derive.
-tests/listing/compare.sh target/bin/listing
+wait "$reference" || { cat build/reference.log; exit 1; }
+cat build/reference.log
 
-# Cargo's folder lies outside target/, which `rt ci` removes.
-export CARGO_TARGET_DIR="$PWD/build/cargo"
-cargo test --release --offline --manifest-path tests/reference/Cargo.toml
+# The listing program against stored texts, which the second implementation derives.
+tests/listing/compare.sh target/bin/listing
 
 # The compiled library against the second implementation.
 rt staticlib recorder
