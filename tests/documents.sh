@@ -30,7 +30,7 @@ while IFS= read -r name; do
 done <<<"$names"
 
 page=docs/PROVED.md
-edits=$(sed -n '/^## Versions/,/^## What/p' "$page" | grep -o '`[^`]*/[^`]*`' | tr -d '`' | sort -u)
+edits=$(sed -n '/^## Versions/,/^## What/p' "$page" | grep '^|' | grep -o '`[^`]*/[^`]*`' | tr -d '`' | sort -u)
 [ -n "$edits" ] || { echo "$page names no edit"; exit 1; }
 while IFS=/ read -r crate edit; do
     [ -f "crates/$crate/must-fail/$edit.edit" ] || miss "$crate/$edit"
