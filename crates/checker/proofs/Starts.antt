@@ -3,8 +3,7 @@ use Prim.Native.Nat.{ℕ, _<_, _≤_}
 use native.Mathlib.Omega.{arith}
 use mathlib.Core.List.{List}
 use mathlib.Core.Path.{_≡_, refl, sym, _∙_}
-use lib.ListN.{length, getD, set, replicate, length-set, length-replicate, getD-replicate}
-use lib.Seq.{getD-set-same}
+use lib.ListN.{length, getD, replicate, length-replicate, getD-replicate}
 use Rattle.rules.specs.Records.{recordCount}
 use Rattle.rules.specs.Kinds.{Language, source}
 use Rattle.checker.specs.Scopes.{Kept}
@@ -12,12 +11,11 @@ use Rattle.checker.proofs.DescentLaws.{passed-of, Known, known-start}
 use Rattle.checker.proofs.RightLaws.{Scoped, scoped-last, Levelled, levelled-last}
 
 pub scopes-start : (l : Language) (t : List ℕ) → Kept l t → (k : ℕ) → k ≡ 4097
-    → Known (Scoped l t) l t (recordCount t) (set (replicate k 0) (recordCount t) 1)
+    → Known (Scoped l t) l t (recordCount t) (replicate k 1)
 scopes-start l t kept k e =
-    known-start (Scoped l t) l t (set (replicate k 0) (recordCount t) 1)
-    (length-set (replicate k 0) (recordCount t) 1 ∙ length-replicate k 0 ∙ e)
-    (scoped-last l t (passed-of l t kept) (getD (set (replicate k 0) (recordCount t) 1) (recordCount t) 0)
-    (getD-set-same (replicate k 0) (recordCount t) 1 0 (omega (arith, length-replicate {A = ℕ} k 0, kept .few))))
+    known-start (Scoped l t) l t (replicate k 1) (length-replicate k 1 ∙ e)
+    (scoped-last l t (passed-of l t kept) (getD (replicate k 1) (recordCount t) 0)
+    (getD-replicate k (recordCount t) 1 0 (omega (arith, kept .few))))
 
 pub levels-start : (t : List ℕ) → Kept source t → (k : ℕ) → k ≡ 4097
     → Known (Levelled t) source t (recordCount t) (replicate k 0)

@@ -73,10 +73,10 @@ pub fn lowest_out_of_scope(target: bool, table: &[u8]) -> usize
     ensures { λ r. ⌜ lowestRecord (now (table .entry)) (scopeFault (languageOf target) (now (table .entry)))
         ≡ searchOf r ⌝ }
 {
-    let mut notes = [0u64; 4097];
+    // Variable 0 alone, which is the scope of the last record; each other record's is put by its parent.
+    let mut notes = [1u64; 4097];
     let mut found = 0;
     let mut n = table.len() / 16;
-    notes[n] = 1;
     while 0 < n {
         let kind = tables::kind(table, n);
         let mark = tables::mark(table, n);

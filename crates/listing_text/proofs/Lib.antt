@@ -4,4 +4,3 @@ pub mod RecordsLaws
 pub mod LongestText
 pub mod TranslationLaws
 pub mod ListedLaws
-pub mod InputLaws

@@ -76,7 +76,7 @@ fn join(either: bool, a: Evaluated) -> Joint
 }
 
 // The value of term n of a source table, on the execution memory. Its expressions name no temporary.
-pub fn evaluate_term(
+fn evaluate_term(
     table: &[u8; 65536],
     n: usize,
     variables: &[u16; 64],

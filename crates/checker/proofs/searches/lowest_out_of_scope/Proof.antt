@@ -5,9 +5,8 @@ use native.Mathlib.Omega.{arith}
 use mathlib.Core.Bool.{Bool, _&&_, _||_}
 use mathlib.Core.List.{List}
 use mathlib.Core.Path.{_≡_, refl, sym, ap, subst, _∙_}
-use lib.ListN.{length, getD, set, replicate, length-set, length-replicate, getD-replicate}
+use lib.ListN.{getD}
 use lib.Dec.{eqb}
-use lib.Seq.{getD-set-same}
 use Rattle.rules.specs.Records.{recordCount, kindOf, markOf, childB}
 use Rattle.rules.specs.Kinds.{source}
 use Rattle.rules.specs.Checker.{scopeFault, levelFault, recordFault, levelBelow, levelOf}
@@ -28,14 +27,6 @@ Inv-loop target table notes₀ found₀ n₀ notes found n =
 
 abbrev μ-loop : tie.MeasureT-loop
 μ-loop target table notes₀ found₀ n₀ notes found n = n
-
-mul-notes : tie.Need-mul-notes Inv-loop μ-loop
-mul-notes c =
-    omega (arith, c .before .pre .few)
-
-array-write-notes : tie.Need-array-write-notes Inv-loop μ-loop
-array-write-notes c =
-    omega (arith, c .before .pre .few)
 
 loop-holds : tie.Need-loop-holds Inv-loop μ-loop
 loop-holds c =
@@ -149,8 +140,6 @@ lowest-out-of-scope-spec =
     (tie.spec
     Inv-loop
     μ-loop
-    mul-notes
-    array-write-notes
     loop-holds
     kind-requires
     mark-requires

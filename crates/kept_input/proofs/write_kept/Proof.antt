@@ -1,14 +1,14 @@
--- `listing_text::write_kept` meets its contract: what is kept has the whole input's listing. Assumes nothing.
+-- `kept_input::write_kept` meets its contract: what is kept has the whole input's listing. Assumes nothing.
 use native.Mathlib.Omega.{arith}
 use mathlib.Core.Path.{_≡_, sym, ap, _∙_}
 use borrow.Author.Needs.{needs}
 use lib.ListN.{length, take}
 use lib.Seq.{length-take-le}
 use Rattle.listing_text.specs.Text.{Listed}
 use Rattle.listing_text.proofs.ListedLaws.{listed-same, listed-inside}
-use Rattle.listing_text.proofs.InputLaws.{kept-listing}
-use Rattle.listing_text.proofs.write_kept.Statement.{statement}
-use Rattle.listing_text.proofs.write_kept.Tie as tie
+use Rattle.kept_input.proofs.InputLaws.{kept-listing}
+use Rattle.kept_input.proofs.write_kept.Statement.{statement}
+use Rattle.kept_input.proofs.write_kept.Tie as tie
 
 slice-aggregate-write-listing : tie.Need-slice-aggregate-write-listing
 slice-aggregate-write-listing c =

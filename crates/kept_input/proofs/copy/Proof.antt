@@ -1,4 +1,4 @@
--- `listing_text::copy` meets its contract: the first i of the bytes are in place. Assumes nothing.
+-- `kept_input::copy` meets its contract: the first i of the bytes are in place. Assumes nothing.
 use Prim.Native.Nat.{_+_, _-_, _≤_, _<_}
 use native.Mathlib.Omega.{arith}
 use mathlib.Core.Path.{_≡_, refl, _∙_}
@@ -7,9 +7,9 @@ use borrow.Author.Tests.{ltb-true, ltb-false}
 use native.Mathlib.Numerals.{add-one}
 use lib.ListN.{length, length-set}
 use lib.Seq.{paste, paste-zero, paste-suc}
-use Rattle.listing_text.proofs.InputLaws.{paste-all, paste-full}
-use Rattle.listing_text.proofs.copy.Statement.{statement}
-use Rattle.listing_text.proofs.copy.Tie as tie
+use Rattle.kept_input.proofs.InputLaws.{paste-all, paste-full}
+use Rattle.kept_input.proofs.copy.Statement.{statement}
+use Rattle.kept_input.proofs.copy.Tie as tie
 
 abbrev Inv-loop : tie.InvT-loop
 Inv-loop kept₀ count more i₀ kept i =

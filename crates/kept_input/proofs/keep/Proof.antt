@@ -1,11 +1,11 @@
--- `listing_text::keep` meets its contract. Assumes nothing.
+-- `kept_input::keep` meets its contract. Assumes nothing.
 use Prim.Native.Nat.{_+_}
 use native.Mathlib.Omega.{arith}
 use lib.ListN.{length}
 use borrow.Author.Needs.{needs}
-use Rattle.listing_text.proofs.InputLaws.{kept-small, kept-more}
-use Rattle.listing_text.proofs.keep.Statement.{statement}
-use Rattle.listing_text.proofs.keep.Tie as tie
+use Rattle.kept_input.proofs.InputLaws.{kept-small, kept-more}
+use Rattle.kept_input.proofs.keep.Statement.{statement}
+use Rattle.kept_input.proofs.keep.Tie as tie
 
 copy-requires : tie.Need-copy-requires
 copy-requires c κs = search needs

@@ -11,9 +11,9 @@ use Rattle.rules.specs.Words.{put}
 use Rattle.rules.specs.Kinds.{source}
 use Rattle.rules.specs.Listing.{listing}
 use Rattle.checker.proofs.OrderLaws.{check-uneven, check-many}
-use Rattle.listing_text.specs.Input.{tooMany, keptLength, keptBytes, Kept}
+use Rattle.kept_input.specs.Input.{tooMany, keptLength, keptBytes, Kept}
 use Rattle.listing_text.specs.Text.{refusalLine}
 use Rattle.listing_text.proofs.ListedLaws.{refused-listing}
 
 -- ---- the length
 pub kept-below : (n : ℕ) → n < tooMany → keptLength n ≡ n

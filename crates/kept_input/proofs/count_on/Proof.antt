@@ -1,11 +1,11 @@
--- `listing_text::count_on` meets its contract. Assumes nothing.
+-- `kept_input::count_on` meets its contract. Assumes nothing.
 use native.Mathlib.Omega.{arith}
 use Prim.Native.Nat.{_+_}
 use mathlib.Core.Path.{sym, _∙_}
 use borrow.Author.Needs.{needs}
-use Rattle.listing_text.proofs.InputLaws.{kept-below, kept-above}
-use Rattle.listing_text.proofs.count_on.Statement.{statement}
-use Rattle.listing_text.proofs.count_on.Tie as tie
+use Rattle.kept_input.proofs.InputLaws.{kept-below, kept-above}
+use Rattle.kept_input.proofs.count_on.Statement.{statement}
+use Rattle.kept_input.proofs.count_on.Tie as tie
 
 count-round-requires : tie.Need-count-round-requires
 count-round-requires c κs = search needs
