@@ -24,7 +24,7 @@ fn combine(k: u8, a: Evaluated, b: Evaluated) -> Evaluated
 {
     match a {
         Evaluated::Value(x) => match b {
-            Evaluated::Value(y) => values::restate(values::operate(k, x, y)),
+            Evaluated::Value(y) => values::restate(operators::operate(k, x, y)),
             Evaluated::Stopped(s) => Evaluated::Stopped(s),
         },
         Evaluated::Stopped(s) => Evaluated::Stopped(s),

@@ -1,11 +1,11 @@
--- `values::same_pointer` meets its contract. Assumes nothing.
+-- `operators::same_pointer` meets its contract. Assumes nothing.
 use borrow.Author.Needs.{needs}
 use borrow.Author.Tests.{eq-eqb, ne-eqb}
 use mir.Facts.{toZ-ofZ}
 use mir.Syntax.{w64}
 use mir.Val.{SFits}
-use Rattle.values.proofs.same_pointer.Statement.{statement}
-use Rattle.values.proofs.same_pointer.Tie as tie
+use Rattle.operators.proofs.same_pointer.Statement.{statement}
+use Rattle.operators.proofs.same_pointer.Tie as tie
 
 equal-requires : tie.Need-equal-requires
 equal-requires c κs = search needs

@@ -1,11 +1,11 @@
--- `values::operate_integers` meets its contract. Assumes nothing.
+-- `operators::operate_integers` meets its contract. Assumes nothing.
 use mathlib.Core.Path.{sym, ap, _∙_}
 use mir.Facts.{toZ-ofZ}
 use Rattle.rules.specs.Numbers.{numbered, truthValue, onIntegers}
-use Rattle.values.proofs.Operators.{other-integers}
+use Rattle.operators.proofs.Operators.{other-integers}
 use borrow.Author.Needs.{needs}
-use Rattle.values.proofs.operate_integers.Statement.{statement}
-use Rattle.values.proofs.operate_integers.Tie as tie
+use Rattle.operators.proofs.operate_integers.Statement.{statement}
+use Rattle.operators.proofs.operate_integers.Tie as tie
 
 add-requires : tie.Need-add-requires
 add-requires c κs = search needs
