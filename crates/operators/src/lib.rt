@@ -22,7 +22,7 @@ fn same_pointer(p: Pointer, q: Pointer) -> bool
     ensures { λ r. ⌜ r ≡ samePointer p q ⌝ }
 {
     if p.name == q.name {
-        numbers::equal(p.offset, q.offset)
+        p.offset == q.offset
     } else {
         false
     }
@@ -37,8 +37,8 @@ fn operate_integers(k: u8, x: i64, y: i64) -> Evaluated
         3 => number(numbers::multiply(x, y)),
         4 => number(numbers::divide(x, y)),
         5 => number(numbers::divide_nearest(x, y)),
-        6 => values::truth(numbers::at_most(x, y)),
-        7 => values::truth(numbers::equal(x, y)),
+        6 => values::truth(x <= y),
+        7 => values::truth(x == y),
         _ => Evaluated::Stopped(40),
     }
 }

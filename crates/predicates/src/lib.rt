@@ -63,7 +63,7 @@ fn join(either: bool, a: Evaluated) -> Joint
         Evaluated::Value(v) => match v {
             Value::Undefined => Joint::Decided(Evaluated::Stopped(40)),
             Value::Integer(z) => {
-                if numbers::equal(z, 0) != either {
+                if (z == 0) != either {
                     Joint::Decided(Evaluated::Value(Value::Integer(z)))
                 } else {
                     Joint::Open

@@ -25,13 +25,7 @@ fn test_value(v: Value) -> Test
 {
     match v {
         Value::Undefined => Test::Stopped(40),
-        Value::Integer(z) => {
-            if numbers::equal(z, 0) {
-                Test::No
-            } else {
-                Test::Yes
-            }
-        }
+        Value::Integer(z) => { if z == 0 { Test::No } else { Test::Yes } }
         Value::Pointer(_) => Test::Stopped(40),
     }
 }
