@@ -12,20 +12,19 @@ fn print_natural(n: u64) {
     io::print_decimal(1, n);
 }
 
-// A signed number, of its bits.
-fn print_integer(bits: u64) {
-    if bits < 9223372036854775808 {
-        print_natural(bits);
-    } else {
+fn print_integer(z: i64) {
+    if z < 0 {
         io::write_all(1, b" -");
-        io::print_decimal(1, 18446744073709551615 - bits + 1);
+        io::print_decimal(1, numbers::magnitude(z));
+    } else {
+        print_natural(numbers::magnitude(z));
     }
 }
 
 // The number, or the ending of an overflow or a zero divisor.
 fn print_number(n: Number) {
     match n {
-        Number::Is(z) => print_integer(numbers::to_bits(z)),
+        Number::Is(z) => print_integer(z),
         Number::Overflow => print_natural(43),
         Number::ZeroDivisor => print_natural(44),
     }

@@ -127,7 +127,7 @@ pub fn evaluate(
                 temporaries,
                 mem,
             ) {
-                Evaluated::Value(b) => values::restate(values::operate(
+                Evaluated::Value(b) => values::restate(operators::operate(
                     tables::mark(&table[..], n),
                     a,
                     b,

@@ -4,7 +4,7 @@ use Prim.Native.Nat.{ℕ, zero, suc, _+_, _-_, _^_, _≤_, _<_}
 use native.Mathlib.Omega.{arith}
 use mathlib.Core.Path.{_≡_, refl, sym, ap, _∙_, subst}
 use mathlib.Core.Bool.{Bool, true, false, cond}
-use lib.Dec.{T, ltb, leb, eqb}
+use lib.Dec.{T, ltb, leb, eqb, lit<}
 use lib.IntN.{ℤ, pos, negsuc, negℤ, natAbs, subℕ, _+ℤ_, _-ℤ_}
 use lib.Signed.{mag, ltZ, leZ, nonNeg}
 use borrow.Author.Tests.{eqb-true, eqb-false, eq-eqb, ne-eqb, ltb-true, ltb-false, le-ltb}
@@ -12,7 +12,7 @@ use borrow.Author.Tests.{leb-true, leb-false, le-leb, lt-leb}
 use mir.Syntax.{w64}
 use mir.Val.{SFits, Fits, ofZ, toZ}
 use mir.Facts.{toZ-ofZ}
-use Rattle.rules.specs.Numbers.{isNegative}
+use Rattle.rules.specs.Numbers.{isNegative, sameInteger}
 
 abbrev pub up : ℤ → ℕ
 up (pos n) = n
@@ -137,3 +137,15 @@ pub same-equality : (a b c d : ℕ) → (a ≡ b → c ≡ d) → (c ≡ d → a
 same-equality a b c d f g =
     by-test (λ (t : Bool). t ≡ eqb c d) (eqb a b) (λ e. sym (eq-eqb c d (f (eqb-true a b e))))
     (λ e. sym (ne-eqb c d (λ q. eqb-false a b e (g q))))
+
+-- two locals' bits are the same where the numbers are
+pub bits-equal : (a b : ℤ) → SFits w64 a → SFits w64 b → eqb (ofZ w64 a) (ofZ w64 b) ≡ sameInteger a b
+bits-equal (pos a) (pos b) f g = refl
+bits-equal (pos a) (negsuc b) f g = ne-eqb a (2 ^ 64 - suc b) (omega (arith, f .sfits, g .sfits))
+bits-equal (negsuc a) (pos b) f g = ne-eqb (2 ^ 64 - suc a) b (omega (arith, f .sfits, g .sfits))
+bits-equal (negsuc a) (negsuc b) f g =
+    same-equality (2 ^ 64 - suc a) (2 ^ 64 - suc b) a b (omega (arith, f .sfits, g .sfits))
+    (omega (arith, f .sfits, g .sfits))
+
+pub zero-test : (z : ℤ) → SFits w64 z → eqb (ofZ w64 z) 0 ≡ sameInteger z (pos 0)
+zero-test z f = bits-equal z (pos 0) f (record { sfits = lit< tt })

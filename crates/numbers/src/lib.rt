@@ -1,12 +1,9 @@
 // The operators on integers, exact. No function has a `requires`; the pointer shift's offset sum is `add`.
 ghost use mathlib.Core.Path.{_≡_};
 ghost use lib.IntN.{natAbs, _+ℤ_, _-ℤ_, _*ℤ_};
-ghost use lib.Signed.{leZ};
 ghost use Prim.Native.Nat.{_*_, _<_};
 ghost use lib.Dec.{leb};
-ghost use mir.Syntax.{w64};
-ghost use mir.Val.{ofZ, toZ};
-ghost use Rattle.rules.specs.Numbers.{ranged, signed, divided, towardZero, toNearest, sameInteger};
+ghost use Rattle.rules.specs.Numbers.{ranged, signed, divided, towardZero, toNearest};
 use rules::Number;
 
 pub fn add(a: i64, b: i64) -> Number
@@ -147,39 +144,5 @@ pub fn divide_nearest(a: i64, b: i64) -> Number
         }
     } else {
         Number::Is(q)
-    }
-}
-
-pub fn at_most(a: i64, b: i64) -> bool
-    ensures { λ r. ⌜ r ≡ leZ a b ⌝ }
-{
-    a <= b
-}
-
-pub fn equal(a: i64, b: i64) -> bool
-    ensures { λ r. ⌜ r ≡ sameInteger a b ⌝ }
-{
-    a == b
-}
-
-// The 64 bits of a, in two's complement.
-pub fn to_bits(a: i64) -> u64
-    ensures { λ r. ⌜ r ≡ ofZ w64 a ⌝ }
-{
-    if a < 0 {
-        18446744073709551615 - ((-1 - a) as u64)
-    } else {
-        a as u64
-    }
-}
-
-// The number that 64 bits are in two's complement.
-pub fn from_bits(v: u64) -> i64
-    ensures { λ r. ⌜ r ≡ toZ w64 v ⌝ }
-{
-    if v < 9223372036854775808 {
-        v as i64
-    } else {
-        -1 - ((18446744073709551615 - v) as i64)
     }
 }

@@ -24,7 +24,7 @@ fn combine(k: u8, a: Evaluated, b: Evaluated) -> Evaluated
 {
     match a {
         Evaluated::Value(x) => match b {
-            Evaluated::Value(y) => values::restate(values::operate(k, x, y)),
+            Evaluated::Value(y) => values::restate(operators::operate(k, x, y)),
             Evaluated::Stopped(s) => Evaluated::Stopped(s),
         },
         Evaluated::Stopped(s) => Evaluated::Stopped(s),
@@ -63,7 +63,7 @@ fn join(either: bool, a: Evaluated) -> Joint
         Evaluated::Value(v) => match v {
             Value::Undefined => Joint::Decided(Evaluated::Stopped(40)),
             Value::Integer(z) => {
-                if numbers::equal(z, 0) != either {
+                if (z == 0) != either {
                     Joint::Decided(Evaluated::Value(Value::Integer(z)))
                 } else {
                     Joint::Open

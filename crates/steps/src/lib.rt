@@ -40,7 +40,7 @@ pub fn take_operation(temporaries: &mut [u8; 1024], n: usize, k: u8) -> u32
 {
     match temporaries::read_temporary(&*temporaries, n + 1) {
         Evaluated::Value(a) => match temporaries::read_temporary(&*temporaries, n + 2) {
-            Evaluated::Value(b) => take_evaluated(temporaries, n, values::operate(k, a, b)),
+            Evaluated::Value(b) => take_evaluated(temporaries, n, operators::operate(k, a, b)),
             Evaluated::Stopped(c) => c,
         },
         Evaluated::Stopped(c) => c,

@@ -34,7 +34,7 @@ use Rattle.evaluation.proofs.find_place.Kinds as find-place-kinds
 use Rattle.evaluation.proofs.+evaluate+evaluate_operand+find_place.Lts-find_place as f-lts
 use Rattle.values.proofs.address.Reads as address-reads
 use Rattle.evaluation.proofs.fetch.Reads as fetch-reads
-use Rattle.values.proofs.operate.Reads as operate-reads
+use Rattle.operators.proofs.operate.Reads as operate-reads
 use Rattle.values.proofs.point.Reads as point-reads
 use Rattle.temporaries.proofs.read_temporary.Reads as read-temporary-reads
 use Rattle.values.proofs.restate.Reads as restate-reads

@@ -5,6 +5,7 @@ use lib.IntN.{ℤ, pos}
 use mir.Syntax.{w64}
 use mir.Val.{SFits}
 use mir.Facts.{toZ-ofZ}
+use Rattle.numbers.proofs.Integers.{zero-test}
 use Rattle.rules.specs.Numbers.{sameInteger}
 use Rattle.rules.specs.declared.Evaluated.the-variants as evaluated
 use Rattle.rules.specs.Evaluation.{onTest}
@@ -45,9 +46,6 @@ enum-told c = search needs
 enum-known-v : tie.Need-enum-known-v
 enum-known-v c = search needs
 
-equal-requires : tie.Need-equal-requires
-equal-requires c κs = search needs
-
 enum-told-2 : tie.Need-enum-told-2
 enum-told-2 c = search needs
 
@@ -62,13 +60,12 @@ returns c =
 
 returns-2 : tie.Need-returns-2
 returns-2 c =
-    let e = c .before in
-    let v = e .before .before in
+    let v = c .before .before in
     let a = v .before .before .before in
     let b = a .before .before .args .either in
     let z = v .v .given .0 .0 in
-    let f : SFits w64 z = record { sfits = e .before .known-told2 .given .0 .1 } in
-    let w = simp (toZ-ofZ f) at (e .equal .ensures) in
+    let f : SFits w64 z = record { sfits = c .before .known-told2 .given .0 .1 } in
+    let w = zero-test z f in
     let r = a .a .given .1 ∙ ap evaluated.Value (v .v .given .1) in
     ap (λ (z : ℤ). joint.Decided (evaluated.Value (value.Integer z))) (toZ-ofZ f)
     ∙ decided (sameInteger z (pos 0)) b (value.Integer z)
@@ -77,13 +74,12 @@ returns-2 c =
 
 returns-3 : tie.Need-returns-3
 returns-3 c =
-    let e = c .before in
-    let v = e .before .before in
+    let v = c .before .before in
     let a = v .before .before .before in
     let b = a .before .before .args .either in
     let z = v .v .given .0 .0 in
-    let f : SFits w64 z = record { sfits = e .before .known-told2 .given .0 .1 } in
-    let w = simp (toZ-ofZ f) at (e .equal .ensures) in
+    let f : SFits w64 z = record { sfits = c .before .known-told2 .given .0 .1 } in
+    let w = zero-test z f in
     let r = a .a .given .1 ∙ ap evaluated.Value (v .v .given .1) in
     left-open (sameInteger z (pos 0)) b (value.Integer z)
     (ap (λ (x : Bool). not (Bool·beq x b)) (sym w) ∙ c .if1 .left)
@@ -107,7 +103,6 @@ join-spec =
     enum-known-a
     enum-told
     enum-known-v
-    equal-requires
     enum-told-2
     enum-known-a-2
     returns

@@ -1,4 +1,4 @@
--- `values::move_pointer` meets its contract. Assumes nothing.
+-- `operators::move_pointer` meets its contract. Assumes nothing.
 use borrow.Author.Needs.{needs}
 use mathlib.Core.Path.{sym, ap, _∙_}
 use lib.IntN.{ℤ}
@@ -8,8 +8,8 @@ use mir.Facts.{toZ-ofZ}
 use Rattle.rules.specs.Numbers.{moved}
 use Rattle.rules.specs.declared.Value.the-variants as value
 use Rattle.rules.specs.declared.Evaluated.the-variants as evaluated
-use Rattle.values.proofs.move_pointer.Statement.{statement}
-use Rattle.values.proofs.move_pointer.Tie as tie
+use Rattle.operators.proofs.move_pointer.Statement.{statement}
+use Rattle.operators.proofs.move_pointer.Tie as tie
 
 enum-known-n : tie.Need-enum-known-n
 enum-known-n c = search needs

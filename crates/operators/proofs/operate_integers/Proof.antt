@@ -1,11 +1,12 @@
--- `values::operate_integers` meets its contract. Assumes nothing.
+-- `operators::operate_integers` meets its contract. Assumes nothing.
 use mathlib.Core.Path.{sym, ap, _∙_}
 use mir.Facts.{toZ-ofZ}
 use Rattle.rules.specs.Numbers.{numbered, truthValue, onIntegers}
-use Rattle.values.proofs.Operators.{other-integers}
+use Rattle.numbers.proofs.Integers.{bits-equal}
+use Rattle.operators.proofs.Operators.{other-integers}
 use borrow.Author.Needs.{needs}
-use Rattle.values.proofs.operate_integers.Statement.{statement}
-use Rattle.values.proofs.operate_integers.Tie as tie
+use Rattle.operators.proofs.operate_integers.Statement.{statement}
+use Rattle.operators.proofs.operate_integers.Tie as tie
 
 add-requires : tie.Need-add-requires
 add-requires c κs = search needs
@@ -37,14 +38,8 @@ divide-nearest-requires c κs = search needs
 number-requires-5 : tie.Need-number-requires-5
 number-requires-5 c κs = search needs
 
-at-most-requires : tie.Need-at-most-requires
-at-most-requires c κs = search needs
-
 truth-requires : tie.Need-truth-requires
 truth-requires c κs = search needs
-
-equal-requires : tie.Need-equal-requires
-equal-requires c κs = search needs
 
 truth-requires-2 : tie.Need-truth-requires-2
 truth-requires-2 c κs = search needs
@@ -87,16 +82,16 @@ returns-5 c =
 returns-6 : tie.Need-returns-6
 unfolding onIntegers
 returns-6 c =
-    let s = c .before .before .before in
-    let e = simp (toZ-ofZ (s .fits .x), toZ-ofZ (s .fits .y)) at (c .before .at-most .ensures) in
-    rw (c .before .before .match .keys6) (c .truth .ensures ∙ ap truthValue e)
+    let s = c .before .before in
+    let e = simp (toZ-ofZ (s .fits .x), toZ-ofZ (s .fits .y)) at (c .truth .ensures) in
+    rw (c .before .match .keys6) e
 
 returns-7 : tie.Need-returns-7
 unfolding onIntegers
 returns-7 c =
-    let s = c .before .before .before in
-    let e = simp (toZ-ofZ (s .fits .x), toZ-ofZ (s .fits .y)) at (c .before .equal .ensures) in
-    rw (c .before .before .match .keys7) (c .truth2 .ensures ∙ ap truthValue e)
+    let s = c .before .before in
+    let e = bits-equal (s .args .x) (s .args .y) (s .fits .x) (s .fits .y) in
+    rw (c .before .match .keys7) (c .truth2 .ensures ∙ ap truthValue e)
 
 returns-8 : tie.Need-returns-8
 returns-8 c =
@@ -119,9 +114,7 @@ operate-integers-spec =
     number-requires-4
     divide-nearest-requires
     number-requires-5
-    at-most-requires
     truth-requires
-    equal-requires
     truth-requires-2
     returns
     returns-2

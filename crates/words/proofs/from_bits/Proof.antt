@@ -1,4 +1,4 @@
--- `numbers::from_bits` meets its contract. Assumes nothing.
+-- `words::from_bits` meets its contract. Assumes nothing.
 use Prim.Native.Nat.{ℕ, suc, _-_, _^_, _≤_, _<_}
 use native.Mathlib.Omega.{arith}
 use borrow.Author.Needs.{needs}
@@ -7,9 +7,9 @@ use lib.IntN.{pos, negsuc, _-ℤ_}
 use mir.Syntax.{w64}
 use mir.Val.{Fits, toZ}
 use mir.Facts.{toZ-ofZ, toZ-pos, sfits-toZ, toZ-neg}
 use Rattle.numbers.proofs.Integers.{same-parts, difference-parts}
-use Rattle.numbers.proofs.from_bits.Statement.{statement}
-use Rattle.numbers.proofs.from_bits.Tie as tie
+use Rattle.words.proofs.from_bits.Statement.{statement}
+use Rattle.words.proofs.from_bits.Tie as tie
 
 module _ (v : ℕ) (f : Fits w64 v) (h : 2 ^ 63 ≤ v) where
   turned : negsuc 0 -ℤ toZ w64 (18446744073709551615 - v) ≡ toZ w64 v

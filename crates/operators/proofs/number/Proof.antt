@@ -1,4 +1,4 @@
--- `values::number` meets its contract. Assumes nothing.
+-- `operators::number` meets its contract. Assumes nothing.
 use borrow.Author.Needs.{needs}
 use mathlib.Core.Path.{sym, ap, _∙_}
 use lib.IntN.{ℤ}
@@ -6,8 +6,8 @@ use mir.Syntax.{w64}
 use mir.Val.{SFits}
 use mir.Facts.{toZ-ofZ}
 use Rattle.rules.specs.Numbers.{numbered, integerValue}
-use Rattle.values.proofs.number.Statement.{statement}
-use Rattle.values.proofs.number.Tie as tie
+use Rattle.operators.proofs.number.Statement.{statement}
+use Rattle.operators.proofs.number.Tie as tie
 
 enum-known-n : tie.Need-enum-known-n
 enum-known-n c = search needs

@@ -1,4 +1,4 @@
--- `values::operate` meets its contract. Assumes nothing.
+-- `operators::operate` meets its contract. Assumes nothing.
 use borrow.Author.Needs.{needs}
 use mathlib.Core.Path.{sym, ap, ap₂, _∙_}
 use mir.Facts.{toZ-ofZ}
@@ -7,8 +7,8 @@ use mir.Val.{SFits}
 use Rattle.rules.specs.Nodes.{operatorOf}
 use Rattle.rules.specs.Numbers.{operate}
 use Rattle.rules.specs.declared.Value.{Value}
-use Rattle.values.proofs.operate.Statement.{statement}
-use Rattle.values.proofs.operate.Tie as tie
+use Rattle.operators.proofs.operate.Statement.{statement}
+use Rattle.operators.proofs.operate.Tie as tie
 
 enum-told : tie.Need-enum-told
 enum-told c = search needs

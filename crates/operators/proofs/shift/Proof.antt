@@ -1,13 +1,13 @@
--- `values::shift` meets its contract. Assumes nothing.
+-- `operators::shift` meets its contract. Assumes nothing.
 use mathlib.Core.Path.{sym, ap, _∙_}
 use mir.Facts.{toZ-ofZ}
 use mir.Syntax.{w64}
 use mir.Val.{SFits}
 use Rattle.rules.specs.Numbers.{moved}
-use Rattle.values.proofs.Operators.{no-shift, shift-zero, shift-high}
+use Rattle.operators.proofs.Operators.{no-shift, shift-zero, shift-high}
 use borrow.Author.Needs.{needs}
-use Rattle.values.proofs.shift.Statement.{statement}
-use Rattle.values.proofs.shift.Tie as tie
+use Rattle.operators.proofs.shift.Statement.{statement}
+use Rattle.operators.proofs.shift.Tie as tie
 
 add-requires : tie.Need-add-requires
 add-requires c κs = search needs

@@ -1,10 +1,10 @@
--- `values::operate_pointers` meets its contract. Assumes nothing.
+-- `operators::operate_pointers` meets its contract. Assumes nothing.
 use borrow.Author.Needs.{needs}
 use mathlib.Core.Path.{sym, ap, _∙_}
 use Rattle.rules.specs.Numbers.{truthValue, onPointers}
-use Rattle.values.proofs.Operators.{other-pointers}
-use Rattle.values.proofs.operate_pointers.Statement.{statement}
-use Rattle.values.proofs.operate_pointers.Tie as tie
+use Rattle.operators.proofs.Operators.{other-pointers}
+use Rattle.operators.proofs.operate_pointers.Statement.{statement}
+use Rattle.operators.proofs.operate_pointers.Tie as tie
 
 same-pointer-requires : tie.Need-same-pointer-requires
 same-pointer-requires c κs = search needs

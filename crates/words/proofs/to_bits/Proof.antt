@@ -1,4 +1,4 @@
--- `numbers::to_bits` meets its contract. Assumes nothing.
+-- `words::to_bits` meets its contract. Assumes nothing.
 use Prim.Native.Nat.{_-_}
 use native.Mathlib.Omega.{arith}
 use mathlib.Core.Path.{_≡_, refl, subst}
@@ -9,9 +9,9 @@ use lib.Signed.{mag, ltZ}
 use mir.Syntax.{w64}
 use mir.Val.{SFits, toZ, ofZ}
 use mir.Facts.{toZ-ofZ}
 use Rattle.numbers.proofs.Integers.{flipped, flipped-bits, not-negative, magnitude-fits, ltZ-true}
-use Rattle.numbers.proofs.to_bits.Statement.{statement}
-use Rattle.numbers.proofs.to_bits.Tie as tie
+use Rattle.words.proofs.to_bits.Statement.{statement}
+use Rattle.words.proofs.to_bits.Tie as tie
 
 low : (a : ℤ) → SFits w64 a → ltZ a (pos 0) ≡ true → 18446744073709551615 - mag a ≡ ofZ w64 a
 low (pos n) f t = absurd (omega (arith, ltZ-true (pos n) (pos 0) t))
