@@ -98,7 +98,7 @@ fn fill(mem: &mut [u8; 18424], first: u16, n: u16, c: Cell)
 {
     let mut i: usize = 0;
     while i < n as usize {
-        cells::put_cell(mem, first as usize + i, c);
+        cell_changes::put_cell(mem, first as usize + i, c);
         i += 1;
     }
 }
@@ -120,7 +120,7 @@ fn place(mem: &mut [u8; 18424], freeable: bool, k: u16, first: u16, n: u16)
         (withBlock (memoryOf (now (mem .entry))) (useOf freeable) k first n) ⌝ }
 {
     fill(mem, first, n, Cell::Holds(k, Value::Undefined));
-    cells::put_block(mem, k, live(freeable, first, n));
+    block_changes::put_block(mem, k, live(freeable, first, n));
 }
 
 // A new block of n cells: 31 where all names are given, then 30 where no run of free cells is long enough.
@@ -147,7 +147,7 @@ fn release(mem: &mut [u8; 18424], name: u16, first: u16, n: u16)
         (withoutCells (memoryOf (now (mem .entry))) name (recorded.Live first n)) ⌝ }
 {
     fill(mem, first, n, Cell::Free);
-    cells::put_block(mem, name, Block::Dead);
+    block_changes::put_block(mem, name, Block::Dead);
 }
 
 fn free_block(mem: &mut [u8; 18424], name: u16) -> u32

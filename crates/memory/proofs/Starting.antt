@@ -18,7 +18,7 @@ use Rattle.rules.specs.declared.Cell.{Cell}
 use Rattle.rules.specs.declared.Cell.the-variants as cell
 use Rattle.rules.specs.declared.Value.the-variants as value
 use Rattle.cells.specs.Changes.{Exact, Becomes, emptyMemory}
-use Rattle.cells.proofs.Clearing.{empty-view}
+use Rattle.cell_changes.proofs.Clearing.{empty-view}
 use Rattle.memory.specs.Starting.{withStart, withInputs}
 
 -- ---- the inputs, one after the other

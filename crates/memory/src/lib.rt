@@ -89,7 +89,7 @@ pub fn store(mem: &mut [u8; 18424], p: Pointer, v: Value) -> u32
 {
     match locate(&*mem, p) {
         Located::At(i) => {
-            cells::put_cell(mem, i, Cell::Holds(p.name, v));
+            cell_changes::put_cell(mem, i, Cell::Holds(p.name, v));
             0
         }
         Located::Dead => 42,
@@ -107,7 +107,7 @@ fn put_inputs(mem: &mut [u8; 18424], inputs: &[u8], n: usize)
     while i < n {
         let z = words::read_i64(inputs, i * 8);
         i += 1;
-        cells::put_cell(mem, i, Cell::Holds(2, Value::Integer(z)));
+        cell_changes::put_cell(mem, i, Cell::Holds(2, Value::Integer(z)));
     }
 }
 
@@ -115,10 +115,10 @@ fn put_inputs(mem: &mut [u8; 18424], inputs: &[u8], n: usize)
 fn put_start(mem: &mut [u8; 18424], n: u16)
     ensures { λ _. ⌜ Becomes (now (mem .entry)) (now (mem .exit)) (withStart (memoryOf (now (mem .entry))) n) ⌝ }
 {
-    cells::put_block(mem, 1, Block::Fixed(0, 1));
-    cells::put_block(mem, 2, Block::Fixed(1, n));
+    block_changes::put_block(mem, 1, Block::Fixed(0, 1));
+    block_changes::put_block(mem, 2, Block::Fixed(1, n));
     let p = Pointer { name: 2, offset: 0 };
-    cells::put_cell(mem, 0, Cell::Holds(1, Value::Pointer(p)));
+    cell_changes::put_cell(mem, 0, Cell::Holds(1, Value::Pointer(p)));
 }
 
 // The memory that a run starts with, whatever the bytes were.
@@ -127,7 +127,7 @@ pub fn start(mem: &mut [u8; 18424], inputs: &[u8])
     ensures { λ _. ⌜ now (mem .exit) ≡ memoryImage (startMemory (inputsOf (now (inputs .entry)))) ⌝ }
 {
     let n = inputs.len() / 8;
-    cells::clear(mem);
+    cell_changes::clear(mem);
     put_start(mem, n as u16);
     put_inputs(mem, inputs, n);
 }

@@ -6,13 +6,13 @@ use Rattle.rules.specs.Layout.{memoryOf}
 use Rattle.rules.specs.Memory.{Memory, setCell}
 use Rattle.cells.specs.Changes.{Becomes}
 use Rattle.blocks.specs.Blocks.{fillCells}
-use Rattle.cells.proofs.Writing.{unchanged, becomes-then, becomes-as}
+use Rattle.cell_changes.proofs.Writing.{unchanged, becomes-then, becomes-as}
 use Rattle.blocks.proofs.Steps.{fill-cells-none, fill-cells-more}
 use Rattle.blocks.proofs.fill.Statement.{statement}
 use Rattle.blocks.proofs.fill.Tie as tie
 use Rattle.blocks.proofs.fill.Reads as reads
 use Rattle.blocks.proofs.fill.Lts as lts
-use Rattle.cells.proofs.put_cell.Reads as put-cell-reads
+use Rattle.cell_changes.proofs.put_cell.Reads as put-cell-reads
 
 abbrev Inv-loop : tie.InvT-loop
 Inv-loop mem₀ first n c i₀ mem i = (i ≤ n) × Becomes mem₀ mem (fillCells (memoryOf mem₀) first i c)

@@ -7,7 +7,7 @@ use lib.IntN.{ℤ, pos}
 use mir.Val.{ofZ}
 use Rattle.rules.specs.Memory.{freeAt, stopped}
 use Rattle.numbers.proofs.Integers.{of-bits}
-use Rattle.cells.proofs.Writing.{unchanged}
+use Rattle.cell_changes.proofs.Writing.{unchanged}
 use Rattle.blocks.proofs.Steps.{not-first}
 use borrow.Author.Needs.{needs}
 use Rattle.blocks.proofs.free.Statement.{statement}

@@ -3,7 +3,7 @@ use mathlib.Core.Path.{_≡_, refl, sym, ap, _∙_, subst}
 use Rattle.rules.specs.Layout.{memoryOf}
 use Rattle.rules.specs.Memory.{blockOf}
 use Rattle.rules.specs.declared.Block.the-variants as block
-use Rattle.cells.proofs.Writing.{unchanged, becomes-as}
+use Rattle.cell_changes.proofs.Writing.{unchanged, becomes-as}
 use Rattle.blocks.proofs.Steps.{free-live}
 use borrow.Author.Needs.{needs}
 use Rattle.blocks.proofs.free_block.Statement.{statement}

@@ -2,14 +2,14 @@
 use Rattle.rules.specs.Memory.{Memory}
 use Rattle.rules.specs.declared.Block.the-variants as block
 use Rattle.cells.specs.Changes.{setBlock}
-use Rattle.cells.proofs.Writing.{becomes-then}
+use Rattle.cell_changes.proofs.Writing.{becomes-then}
 use borrow.Author.Needs.{needs}
 use Rattle.blocks.proofs.release.Statement.{statement}
 use Rattle.blocks.proofs.release.Tie as tie
 use Rattle.blocks.proofs.release.Reads as reads
 use Rattle.blocks.proofs.release.Lts as lts
 use Rattle.blocks.proofs.fill.Reads as fill-reads
-use Rattle.cells.proofs.put_block.Reads as put-block-reads
+use Rattle.block_changes.proofs.put_block.Reads as put-block-reads
 
 fill-requires : tie.Need-fill-requires
 fill-requires c κs = search needs

@@ -11,13 +11,13 @@ use Rattle.rules.specs.declared.Cell.the-variants as cell
 use Rattle.rules.specs.declared.Value.the-variants as value
 use Rattle.cells.specs.Changes.{Becomes}
 use Rattle.memory.specs.Starting.{withInputs}
-use Rattle.cells.proofs.Writing.{unchanged, becomes-then, becomes-as}
+use Rattle.cell_changes.proofs.Writing.{unchanged, becomes-then, becomes-as}
 use Rattle.memory.proofs.Starting.{inputs-none, inputs-more}
 use Rattle.memory.proofs.put_inputs.Statement.{statement}
 use Rattle.memory.proofs.put_inputs.Tie as tie
 use Rattle.memory.proofs.put_inputs.Reads as reads
 use Rattle.memory.proofs.put_inputs.Lts as lts
-use Rattle.cells.proofs.put_cell.Reads as put-cell-reads
+use Rattle.cell_changes.proofs.put_cell.Reads as put-cell-reads
 use Rattle.words.proofs.read_i64.Reads as read-i64-reads
 
 abbrev Inv-loop : tie.InvT-loop

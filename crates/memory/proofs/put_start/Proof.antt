@@ -5,14 +5,14 @@ use Rattle.rules.specs.declared.Block.the-variants as block
 use Rattle.rules.specs.declared.Cell.the-variants as cell
 use Rattle.rules.specs.declared.Value.the-variants as value
 use Rattle.cells.specs.Changes.{setBlock}
-use Rattle.cells.proofs.Writing.{becomes-then}
+use Rattle.cell_changes.proofs.Writing.{becomes-then}
 use borrow.Author.Needs.{needs}
 use Rattle.memory.proofs.put_start.Statement.{statement}
 use Rattle.memory.proofs.put_start.Tie as tie
 use Rattle.memory.proofs.put_start.Reads as reads
 use Rattle.memory.proofs.put_start.Lts as lts
-use Rattle.cells.proofs.put_block.Reads as put-block-reads
-use Rattle.cells.proofs.put_cell.Reads as put-cell-reads
+use Rattle.block_changes.proofs.put_block.Reads as put-block-reads
+use Rattle.cell_changes.proofs.put_cell.Reads as put-cell-reads
 
 put-block-requires : tie.Need-put-block-requires
 put-block-requires c κs = search needs

@@ -9,7 +9,7 @@ use Rattle.memory.proofs.start.Statement.{statement}
 use Rattle.memory.proofs.start.Tie as tie
 use Rattle.memory.proofs.start.Reads as reads
 use Rattle.memory.proofs.start.Lts as lts
-use Rattle.cells.proofs.clear.Reads as clear-reads
+use Rattle.cell_changes.proofs.clear.Reads as clear-reads
 use Rattle.memory.proofs.put_inputs.Reads as put-inputs-reads
 use Rattle.memory.proofs.put_start.Reads as put-start-reads
 

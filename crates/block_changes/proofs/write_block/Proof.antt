@@ -1,4 +1,4 @@
--- `cells::write_block` meets its contract. Assumes nothing.
+-- `block_changes::write_block` meets its contract. Assumes nothing.
 use mathlib.Core.Path.{_≡_, refl, sym, ap, _∙_, subst}
 use Prim.Native.Nat.{ℕ, suc, _+_, _-_, _*_, _≤_, _<_}
 use native.Mathlib.Omega.{arith}
@@ -6,13 +6,13 @@ use Rattle.rules.specs.declared.Block.{Block}
 use Rattle.rules.specs.declared.Block.the-variants as block
 use Rattle.rules.specs.Words.{put}
 use Rattle.rules.specs.Layout.{blockBytes, blockPlace}
 use Rattle.cells.specs.Changes.{BlockHeld}
 use borrow.Author.Needs.{needs}
-use Rattle.cells.proofs.write_block.Statement.{statement}
-use Rattle.cells.proofs.write_block.Tie as tie
-use Rattle.cells.proofs.write_block.Reads as reads
-use Rattle.cells.proofs.write_block.Lts as lts
-use Rattle.cells.proofs.write_record.Reads as write-record-reads
+use Rattle.block_changes.proofs.write_block.Statement.{statement}
+use Rattle.block_changes.proofs.write_block.Tie as tie
+use Rattle.block_changes.proofs.write_block.Reads as reads
+use Rattle.block_changes.proofs.write_block.Lts as lts
+use Rattle.block_changes.proofs.write_record.Reads as write-record-reads
 
 enum-told : tie.Need-enum-told
 enum-told c = search needs

@@ -1,14 +1,14 @@
--- `cells::clear` meets its contract. Assumes nothing.
+-- `cell_changes::clear` meets its contract. Assumes nothing.
 use mathlib.Core.Path.{_≡_, refl, sym, ap, _∙_, subst}
 use Prim.Native.Nat.{ℕ, suc, _+_, _-_, _*_, _≤_, _<_}
 use lib.ListN.{length, replicate}
-use Rattle.cells.proofs.Clearing.{empty-image}
+use Rattle.cell_changes.proofs.Clearing.{empty-image}
 use borrow.Author.Needs.{needs}
-use Rattle.cells.proofs.clear.Statement.{statement}
-use Rattle.cells.proofs.clear.Tie as tie
-use Rattle.cells.proofs.clear.Reads as reads
-use Rattle.cells.proofs.clear.Lts as lts
-use Rattle.cells.proofs.clear_bytes.Reads as clear-bytes-reads
+use Rattle.cell_changes.proofs.clear.Statement.{statement}
+use Rattle.cell_changes.proofs.clear.Tie as tie
+use Rattle.cell_changes.proofs.clear.Reads as reads
+use Rattle.cell_changes.proofs.clear.Lts as lts
+use Rattle.cell_changes.proofs.clear_bytes.Reads as clear-bytes-reads
 
 clear-bytes-requires : tie.Need-clear-bytes-requires
 clear-bytes-requires c κs = search needs

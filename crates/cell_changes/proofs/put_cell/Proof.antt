@@ -1,18 +1,18 @@
--- `cells::put_cell` meets its contract. Assumes nothing.
+-- `cell_changes::put_cell` meets its contract. Assumes nothing.
 use mathlib.Core.Path.{_≡_, refl, sym, ap, _∙_, subst}
 use mathlib.Core.List.{List}
 use Prim.Native.Nat.{ℕ, suc, _+_, _-_, _*_, _≤_, _<_}
 use lib.ListN.{length}
 use Rattle.rules.specs.Memory.{setCell}
 use Rattle.rules.specs.Layout.{memoryOf}
 use Rattle.cells.specs.Changes.{Becomes}
-use Rattle.cells.proofs.Writing.{becomes-cell, cell-outside}
+use Rattle.cell_changes.proofs.Writing.{becomes-cell, cell-outside}
 use borrow.Author.Needs.{needs}
-use Rattle.cells.proofs.put_cell.Statement.{statement}
-use Rattle.cells.proofs.put_cell.Tie as tie
-use Rattle.cells.proofs.put_cell.Reads as reads
-use Rattle.cells.proofs.put_cell.Lts as lts
-use Rattle.cells.proofs.write_cell.Reads as write-cell-reads
+use Rattle.cell_changes.proofs.put_cell.Statement.{statement}
+use Rattle.cell_changes.proofs.put_cell.Tie as tie
+use Rattle.cell_changes.proofs.put_cell.Reads as reads
+use Rattle.cell_changes.proofs.put_cell.Lts as lts
+use Rattle.cell_changes.proofs.write_cell.Reads as write-cell-reads
 
 write-cell-requires : tie.Need-write-cell-requires
 write-cell-requires c κs = search needs

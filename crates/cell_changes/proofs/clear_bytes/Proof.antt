@@ -1,14 +1,14 @@
--- `cells::clear_bytes` meets its contract. Assumes nothing.
+-- `cell_changes::clear_bytes` meets its contract. Assumes nothing.
 use Prim.Native.Nat.{ℕ, _+_, _-_, _≤_, _<_}
 use native.Mathlib.Omega.{arith}
 use mathlib.Core.Path.{_≡_, refl, sym, ap, _∙_}
 use mathlib.Core.List.{List, _++_, append-nil}
 use lib.ListN.{length, drop, replicate, length-set, drop-of-length-le}
 use borrow.Author.Fill.{fill-none, fill-more}
-use Rattle.cells.proofs.clear_bytes.Statement.{statement}
-use Rattle.cells.proofs.clear_bytes.Tie as tie
-use Rattle.cells.proofs.clear_bytes.Reads as reads
-use Rattle.cells.proofs.clear_bytes.Lts as lts
+use Rattle.cell_changes.proofs.clear_bytes.Statement.{statement}
+use Rattle.cell_changes.proofs.clear_bytes.Tie as tie
+use Rattle.cell_changes.proofs.clear_bytes.Reads as reads
+use Rattle.cell_changes.proofs.clear_bytes.Lts as lts
 
 abbrev Inv-loop : tie.InvT-loop
 Inv-loop bytes₀ i₀ bytes i =

@@ -1,4 +1,4 @@
--- `cells::write_cell` meets its contract. Assumes nothing.
+-- `cell_changes::write_cell` meets its contract. Assumes nothing.
 use mathlib.Core.Path.{_≡_, refl, sym, ap, _∙_, subst}
 use Prim.Native.Nat.{ℕ, suc, _+_, _-_, _*_, _≤_, _<_}
 use native.Mathlib.Omega.{arith}
@@ -10,13 +10,13 @@ use mir.Val.{SFits}
 use mir.Facts.{toZ-ofZ}
 use Rattle.rules.specs.Words.{put}
 use Rattle.rules.specs.Layout.{cellBytes, cellPlace}
 use Rattle.cells.specs.Changes.{CellFits, CellHeld}
 use borrow.Author.Needs.{needs}
-use Rattle.cells.proofs.write_cell.Statement.{statement}
-use Rattle.cells.proofs.write_cell.Tie as tie
-use Rattle.cells.proofs.write_cell.Reads as reads
-use Rattle.cells.proofs.write_cell.Lts as lts
-use Rattle.cells.proofs.write_parts.Reads as write-parts-reads
+use Rattle.cell_changes.proofs.write_cell.Statement.{statement}
+use Rattle.cell_changes.proofs.write_cell.Tie as tie
+use Rattle.cell_changes.proofs.write_cell.Reads as reads
+use Rattle.cell_changes.proofs.write_cell.Lts as lts
+use Rattle.cell_changes.proofs.write_parts.Reads as write-parts-reads
 
 enum-told : tie.Need-enum-told
 enum-told c = search needs

@@ -1,16 +1,16 @@
--- `cells::write_parts` meets its contract. Assumes nothing.
+-- `cell_changes::write_parts` meets its contract. Assumes nothing.
 use mathlib.Core.Path.{_≡_, refl, sym, ap, _∙_, subst}
 use Prim.Native.Nat.{ℕ, suc, _+_, _-_, _*_, _≤_, _<_}
 use native.Mathlib.Omega.{arith}
 use mir.Facts.{toZ-ofZ}
 use lib.ListN.{length}
 use Rattle.rules.specs.Layout.{cellPlace}
-use Rattle.cells.proofs.Parts.{parts-put}
+use Rattle.cell_changes.proofs.Parts.{parts-put}
 use borrow.Author.Needs.{needs}
-use Rattle.cells.proofs.write_parts.Statement.{statement}
-use Rattle.cells.proofs.write_parts.Tie as tie
-use Rattle.cells.proofs.write_parts.Reads as reads
-use Rattle.cells.proofs.write_parts.Lts as lts
+use Rattle.cell_changes.proofs.write_parts.Statement.{statement}
+use Rattle.cell_changes.proofs.write_parts.Tie as tie
+use Rattle.cell_changes.proofs.write_parts.Reads as reads
+use Rattle.cell_changes.proofs.write_parts.Lts as lts
 use Rattle.words.proofs.write_i64.Reads as write-i64-reads
 use Rattle.words.proofs.write_word.Reads as write-word-reads
 

@@ -1,8 +1,7 @@
 -- What bytes stand for after one record is put, and that exact bytes stay exact.
 use Prim.Native.Nat.{ℕ, zero, suc, _+_, _-_, _*_, _<_, _≤_}
-use native.Mathlib.Nat.{add-zero, mul-le-mul-right, le-trans, le-of-eq}
+use native.Mathlib.Nat.{add-zero, le-trans, le-of-eq}
 use native.Mathlib.Omega.{arith}
-use native.Mathlib.Decide.{decLt}
 use mathlib.Core.Path.{_≡_, refl, sym, ap, ap₂, _∙_, subst}
 use mathlib.Core.Logic.{_≢_, _⊎_, inl, inr, ⊎-elim}
 use mathlib.Core.List.{List, [], _∷_, _++_}
@@ -24,8 +23,9 @@ use Rattle.rules.specs.declared.Block.the-variants as block
 use Rattle.rules.specs.declared.Cell.{Cell}
 use Rattle.rules.specs.declared.Cell.the-variants as cell
 use Rattle.rules.specs.declared.Value.the-variants as value
 use Rattle.cells.specs.Changes.{Exact, Becomes, setBlock, CellFits, CellHeld, BlockHeld}
 use Rattle.cells.proofs.Reading.{count-blocks, count-cells}
+use Rattle.cells.proofs.Apart.{rows-apart}
 
 -- ---- records that a put leaves alone
 module _ (l bs : List ℕ) (at : ℕ) (room : at + length bs ≤ length l)
@@ -51,17 +51,6 @@ module _ (l bs : List ℕ) (at : ℕ) (room : at + length bs ≤ length l)
       let x = word-put-apart l bs at room a n 2 2 r (omega arith) in
       let y = word-put-apart l bs at room a n 4 2 r (omega arith) in
       rw (← e, z, x, y) refl
-
--- rows of one width do not overlap
-pub rows-apart : (w i j : ℕ) → j ≢ i → (j * w + w ≤ i * w) ⊎ (i * w + w ≤ j * w)
-rows-apart w i j d = pick (decLt j i)
-  where
-    below : (a b : ℕ) → a < b → a * w + w ≤ b * w
-    below a b h = let k : suc a * w ≤ b * w = mul-le-mul-right w h in omega arith
-
-    pick : Dec (j < i) → (j * w + w ≤ i * w) ⊎ (i * w + w ≤ j * w)
-    pick (yes h) = inl (below j i h)
-    pick (no f) = inr (below i j (omega arith))
 
 -- ---- the record that was put
 module _ (l bs : List ℕ) (at : ℕ) (room : at + length bs ≤ length l) where

@@ -1,16 +1,16 @@
--- `cells::write_record` meets its contract. Assumes nothing.
+-- `block_changes::write_record` meets its contract. Assumes nothing.
 use mathlib.Core.Path.{_≡_, refl, sym, ap, _∙_, subst}
 use lib.ListN.{length}
 use Prim.Native.Nat.{ℕ, suc, _+_, _-_, _*_, _≤_, _<_}
 use native.Mathlib.Omega.{arith}
 use Rattle.rules.specs.Words.{put}
 use Rattle.rules.specs.Layout.{blockPlace}
-use Rattle.cells.proofs.Parts.{record-digits}
+use Rattle.cell_changes.proofs.Parts.{record-digits}
 use borrow.Author.Needs.{needs}
-use Rattle.cells.proofs.write_record.Statement.{statement}
-use Rattle.cells.proofs.write_record.Tie as tie
-use Rattle.cells.proofs.write_record.Reads as reads
-use Rattle.cells.proofs.write_record.Lts as lts
+use Rattle.block_changes.proofs.write_record.Statement.{statement}
+use Rattle.block_changes.proofs.write_record.Tie as tie
+use Rattle.block_changes.proofs.write_record.Reads as reads
+use Rattle.block_changes.proofs.write_record.Lts as lts
 use Rattle.words.proofs.write_word.Reads as write-word-reads
 
 mul-v : tie.Need-mul-v

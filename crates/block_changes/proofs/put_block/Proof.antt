@@ -1,17 +1,17 @@
--- `cells::put_block` meets its contract. Assumes nothing.
+-- `block_changes::put_block` meets its contract. Assumes nothing.
 use mathlib.Core.Path.{_≡_, refl, sym, ap, _∙_, subst}
 use mathlib.Core.List.{List}
 use Prim.Native.Nat.{ℕ, suc, _+_, _-_, _*_, _≤_, _<_}
 use lib.ListN.{length}
 use Rattle.rules.specs.Layout.{memoryOf}
 use Rattle.cells.specs.Changes.{Becomes, setBlock}
-use Rattle.cells.proofs.Writing.{becomes-block, block-outside, block-none}
+use Rattle.cell_changes.proofs.Writing.{becomes-block, block-outside, block-none}
 use borrow.Author.Needs.{needs}
-use Rattle.cells.proofs.put_block.Statement.{statement}
-use Rattle.cells.proofs.put_block.Tie as tie
-use Rattle.cells.proofs.put_block.Reads as reads
-use Rattle.cells.proofs.put_block.Lts as lts
-use Rattle.cells.proofs.write_block.Reads as write-block-reads
+use Rattle.block_changes.proofs.put_block.Statement.{statement}
+use Rattle.block_changes.proofs.put_block.Tie as tie
+use Rattle.block_changes.proofs.put_block.Reads as reads
+use Rattle.block_changes.proofs.put_block.Lts as lts
+use Rattle.block_changes.proofs.write_block.Reads as write-block-reads
 
 sub-write-block : tie.Need-sub-write-block
 sub-write-block c = search needs
