@@ -1,3 +1,2 @@
--- Facts about runs of free cells, and about the steps of making and freeing a block.
+-- Facts about unused names and runs of free cells.
 pub mod Runs
-pub mod Steps

@@ -1,4 +1,4 @@
--- Laws of the lowest number that passes, of runs, of the count of free cells, and of filling.
+-- Laws of the lowest number that passes, of runs, and of the count of free cells.
 use Prim.Native.Nat.{ℕ, zero, suc, _+_, _-_, _<_, _≤_}
 use native.Mathlib.Nat.{eq-or-lt-of-le, zero-add}
 use native.Mathlib.Omega.{arith}
@@ -7,12 +7,11 @@ use native.Mathlib.Numerals.{add-one}
 use mathlib.Core.Path.{_≡_, refl, sym, ap, _∙_, subst}
 use mathlib.Core.Logic.{_⊎_, inl, inr, ⊎-elim}
 use mathlib.Core.Bool.{Bool, true, false}
-use mathlib.Core.List.{List, [], _∷_}
+use mathlib.Core.List.{List}
 use lib.Dec.{T}
-use lib.ListN.{set}
 use Rattle.rules.specs.Checker.{lowest}
 use Rattle.rules.specs.Words.{table}
-use Rattle.rules.specs.Memory.{Memory, cellOf, isFree, isUnused, blockOf, allFree, lowestRun, freeRun, nextName, fill, one, countFree}
+use Rattle.rules.specs.Memory.{Memory, cellOf, isFree, isUnused, blockOf, allFree, lowestRun, freeRun, nextName, one, countFree}
 use Rattle.rules.specs.Layout.{memoryOf, cellAt}
 use Rattle.rules.specs.declared.Search.{Search}
 use Rattle.rules.specs.declared.Search.the-variants as search
@@ -70,6 +69,13 @@ module _ (q : ℕ → Bool) where
   lowest-none (suc k) j f =
       passed-over (q j) (search.At j) (lowest q (suc j) k) (f j (omega arith) (omega arith))
       ∙ lowest-none k (suc j) (λ i x y. f i (omega arith) (omega arith))
+
+pub none-more : (p : ℕ → Bool) (s k : ℕ) → ((j : ℕ) → s ≤ j → j < k → p j ≡ false) → p k ≡ false
+    → (j : ℕ) → s ≤ j → j < k + 1 → p j ≡ false
+none-more p s k f t j a b = ⊎-elim (λ e. ap p e ∙ t) (λ l. f j a l) last
+  where
+    last : (j ≡ k) ⊎ (j < k)
+    last = let h : j ≤ k = omega arith in eq-or-lt-of-le h
 
 abbrev Within : ℕ → ℕ → Search → Type 0
 Within j n (search.At k) = (j ≤ k) × (k < j + n)
@@ -218,19 +224,3 @@ count-turn l i n n′ total b h e f (inr w) =
     let c : freeFrom l i ≡ 0 + freeFrom l (i + 1) =
     count-next l i h ∙ ap (λ (x : Bool). one x + freeFrom l (i + 1)) t in
     omega (arith, f, c, w .1)
-
--- ---- filling, one more
-pub fill-none : {A : Type 0} (xs : List A) (s : ℕ) (x : A) → fill xs s 0 x ≡ xs
-fill-none [] s x = refl
-fill-none (y ∷ ys) zero x = refl
-fill-none (y ∷ ys) (suc s) x = ap (λ (t : List _). y ∷ t) (fill-none ys s x)
-
-pub fill-more : {A : Type 0} (xs : List A) (s n : ℕ) (x : A) → fill xs s (suc n) x ≡ set (fill xs s n x) (s + n) x
-fill-more [] s n x = refl
-fill-more (y ∷ ys) zero zero x = ap (λ (t : List _). x ∷ t) (fill-none ys 0 x)
-fill-more (y ∷ ys) zero (suc n) x =
-    let e : zero + suc n ≡ suc (zero + n) = omega arith in
-    rw e (ap (λ (t : List _). x ∷ t) (fill-more ys zero n x))
-fill-more (y ∷ ys) (suc s) n x =
-    let e : suc s + n ≡ suc (s + n) = omega arith in
-    rw e (ap (λ (t : List _). y ∷ t) (fill-more ys s n x))

@@ -1,8 +1,6 @@
--- What making a block answers, and cells that become others.
-use Prim.Native.Nat.{ℕ}
+-- What making a block answers.
 use mathlib.Core.Bool.{Bool, true, false}
-use Rattle.rules.specs.Memory.{Memory, Made, made, unmade, Use, fixed, freeable, fill}
-use Rattle.rules.specs.declared.Cell.{Cell}
+use Rattle.rules.specs.Memory.{Memory, Made, made, unmade, Use, fixed, freeable}
 use Rattle.blocks.specs.declared.Making.{Making}
 use Rattle.blocks.specs.declared.Making.the-variants as making
 
@@ -18,7 +16,3 @@ madeMemory m (unmade c) = m
 abbrev pub useOf : Bool → Use
 useOf true = freeable
 useOf false = fixed
-
--- the n cells from s on are others
-abbrev pub fillCells : Memory → ℕ → ℕ → Cell → Memory
-fillCells m s n c = record { blocks = m .blocks; cells = fill (m .cells) s n c }

@@ -1,2 +1,2 @@
--- What the code of new and freed blocks is held to.
+-- What the code of new blocks is held to.
 pub mod Blocks

@@ -1,14 +1,12 @@
-// New blocks, freed blocks and free cells of the execution memory.
+// New blocks of the execution memory, and the count of its free cells.
 ghost use mathlib.Core.Path.{_≡_};
 ghost use Prim.Native.Nat.{_+_, _*_, _<_};
-ghost use Rattle.rules.specs.Memory.{blockOf, cellOf, isFree, isUnused, freeRun, nextName, makeBlock, withBlock, endBlock, withoutCells, blockFor, freeOf, freeAt, countFree};
+ghost use Rattle.rules.specs.Memory.{blockOf, cellOf, isFree, isUnused, freeRun, nextName, makeBlock, withBlock, blockFor, countFree};
 ghost use Rattle.rules.specs.Layout.{memoryOf};
-ghost use Rattle.rules.specs.declared.Recorded.the-variants as recorded;
-ghost use Rattle.cells.specs.Changes.{Becomes, changeNumber, changeMemory, CellFits};
-ghost use Rattle.blocks.specs.Blocks.{makingOf, madeMemory, useOf, fillCells};
+ghost use Rattle.cells.specs.Changes.{Becomes};
+ghost use Rattle.blocks.specs.Blocks.{makingOf, madeMemory, useOf};
 use rules::Block;
 use rules::Cell;
-use rules::Pointer;
 use rules::Search;
 use rules::Value;
 
@@ -90,19 +88,6 @@ fn free_run(mem: &[u8; 18424], n: usize) -> Search
     find_run(mem, n)
 }
 
-// The n cells from first on, as far as there are such cells, become c.
-fn fill(mem: &mut [u8; 18424], first: u16, n: u16, c: Cell)
-    requires { ⌜ CellFits c ⌝ }
-    ensures { λ _. ⌜ Becomes (now (mem .entry)) (now (mem .exit))
-        (fillCells (memoryOf (now (mem .entry))) first n c) ⌝ }
-{
-    let mut i: usize = 0;
-    while i < n as usize {
-        cells::put_cell(mem, first as usize + i, c);
-        i += 1;
-    }
-}
-
 fn live(freeable: bool, first: u16, n: u16) -> Block
     ensures { λ r. ⌜ r ≡ blockFor (useOf freeable) first n ⌝ }
 {
@@ -119,8 +104,8 @@ fn place(mem: &mut [u8; 18424], freeable: bool, k: u16, first: u16, n: u16)
     ensures { λ _. ⌜ Becomes (now (mem .entry)) (now (mem .exit))
         (withBlock (memoryOf (now (mem .entry))) (useOf freeable) k first n) ⌝ }
 {
-    fill(mem, first, n, Cell::Holds(k, Value::Undefined));
-    cells::put_block(mem, k, live(freeable, first, n));
+    filling::fill(mem, first, n, Cell::Holds(k, Value::Undefined));
+    block_changes::put_block(mem, k, live(freeable, first, n));
 }
 
 // A new block of n cells: 31 where all names are given, then 30 where no run of free cells is long enough.
@@ -138,56 +123,5 @@ pub fn make(mem: &mut [u8; 18424], freeable: bool, n: usize) -> Making
                 Making::Name(k as u16)
             }
         },
-    }
-}
-
-// A block that has the n cells from first on is dead, and they are free.
-fn release(mem: &mut [u8; 18424], name: u16, first: u16, n: u16)
-    ensures { λ _. ⌜ Becomes (now (mem .entry)) (now (mem .exit))
-        (withoutCells (memoryOf (now (mem .entry))) name (recorded.Live first n)) ⌝ }
-{
-    fill(mem, first, n, Cell::Free);
-    cells::put_block(mem, name, Block::Dead);
-}
-
-fn free_block(mem: &mut [u8; 18424], name: u16) -> u32
-    ensures number { λ r. ⌜ r ≡ changeNumber (freeOf (memoryOf (now (mem .entry))) name
-        (blockOf (memoryOf (now (mem .entry))) name)) ⌝ }
-    ensures memory { λ _. ⌜ Becomes (now (mem .entry)) (now (mem .exit))
-        (changeMemory (freeOf (memoryOf (now (mem .entry))) name (blockOf (memoryOf (now (mem .entry))) name))) ⌝ }
-{
-    match cells::block(&*mem, name) {
-        Block::Unused => 46,
-        Block::Fixed(_, _) => 46,
-        Block::Freeable(first, n) => {
-            release(mem, name, first, n);
-            0
-        }
-        Block::Dead => 46,
-    }
-}
-
-// 46 where the pointer is not to the first cell of a live freeable block.
-pub fn free(mem: &mut [u8; 18424], p: Pointer) -> u32
-    ensures number { λ r. ⌜ r ≡ changeNumber (freeAt (memoryOf (now (mem .entry))) (p .name) (p .offset)) ⌝ }
-    ensures memory { λ _. ⌜ Becomes (now (mem .entry)) (now (mem .exit))
-        (changeMemory (freeAt (memoryOf (now (mem .entry))) (p .name) (p .offset))) ⌝ }
-{
-    if p.offset == 0 {
-        free_block(mem, p.name)
-    } else {
-        46
-    }
-}
-
-// The end of a block, if it is live.
-pub fn end(mem: &mut [u8; 18424], name: u16)
-    ensures { λ _. ⌜ Becomes (now (mem .entry)) (now (mem .exit)) (endBlock (memoryOf (now (mem .entry))) name) ⌝ }
-{
-    match cells::block(&*mem, name) {
-        Block::Unused => {}
-        Block::Fixed(first, n) => release(mem, name, first, n),
-        Block::Freeable(first, n) => release(mem, name, first, n),
-        Block::Dead => {}
     }
 }

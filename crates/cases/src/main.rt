@@ -56,7 +56,7 @@ fn print_p3_p4() {
 // The memory with inputs 7 and 9 and one let's block.
 fn begin(mem: &mut [u8; 18424]) {
     let inputs = [7u8, 0, 0, 0, 0, 0, 0, 0, 9, 0, 0, 0, 0, 0, 0, 0];
-    memory::start(mem, &inputs);
+    starting::start(mem, &inputs);
     blocks::make(mem, false, 1);
 }
 
@@ -105,7 +105,7 @@ fn print_p9() {
     io::write_all(1, b"P9");
     begin(&mut mem);
     print_new(&mut mem, 6);
-    print_natural(blocks::free(&mut mem, Pointer { name: 4, offset: 0 }) as u64);
+    print_natural(freeing::free(&mut mem, Pointer { name: 4, offset: 0 }) as u64);
     print_new(&mut mem, 6);
     print_block(&mem, 4);
     end_line();

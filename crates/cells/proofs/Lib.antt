@@ -1,5 +1,3 @@
 -- Facts about the bytes of cells and block records.
 pub mod Reading
-pub mod Writing
-pub mod Parts
-pub mod Clearing
+pub mod Apart

@@ -1,4 +1,2 @@
--- Facts about pointers into the execution memory, and about its start.
+-- Facts about pointers into the execution memory.
 pub mod Names
-pub mod Starting
-pub mod Queries

@@ -320,7 +320,7 @@ fn run_inside(
         fuel,
     );
     if r.number == 0 {
-        blocks::end(mem, k);
+        freeing::end(mem, k);
     }
     r
 }
@@ -355,7 +355,7 @@ fn run_inputs(table: &[u8], inputs: &[u8], fuel: u32, memory: &mut [u8]) -> Answ
         (now (memory .exit)) ⌝ }
 {
     let mut mem = [0u8; 18424];
-    memory::start(&mut mem, inputs);
+    starting::start(&mut mem, inputs);
     let r = run_table(table, &mut mem, fuel);
     let free_cells = blocks::count_free(&mem);
     statements::copy(memory, &mem[..]);

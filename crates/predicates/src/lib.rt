@@ -39,7 +39,7 @@ fn ask(mem: &[u8; 18424], q: u8, e: Evaluated) -> Evaluated
         Evaluated::Value(v) => match v {
             Value::Undefined => Evaluated::Stopped(40),
             Value::Integer(_) => Evaluated::Stopped(40),
-            Value::Pointer(p) => memory::query(mem, q, p),
+            Value::Pointer(p) => queries::query(mem, q, p),
         },
         Evaluated::Stopped(k) => Evaluated::Stopped(k),
     }

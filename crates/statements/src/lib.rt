@@ -189,7 +189,7 @@ pub fn free_at(mem: &mut [u8; 18424], e: Evaluated) -> u32
         Evaluated::Value(v) => match v {
             Value::Undefined => 40,
             Value::Integer(_) => 40,
-            Value::Pointer(p) => blocks::free(mem, p),
+            Value::Pointer(p) => freeing::free(mem, p),
         },
         Evaluated::Stopped(k) => k,
     }

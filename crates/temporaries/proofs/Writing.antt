@@ -14,7 +14,7 @@ use Rattle.rules.specs.Layout.{cellFrom}
 use Rattle.rules.proofs.WordLaws.{length-digits, part-put-in, getD-put-in, getD-put-apart, word-put-apart, put-put, fits-range, integer-value}
 use Rattle.rules.proofs.Rows.{table-set}
 use Rattle.temporaries.specs.Bytes.{temporaryIn, temporaryPlace, temporaryAt, temporariesOf}
-use Rattle.cells.proofs.Writing.{rows-apart}
+use Rattle.cells.proofs.Apart.{rows-apart}
 
 -- a kind in byte 0 and a name in bytes 2 and 3, as one word
 abbrev pub head : ℕ → ℕ → ℕ

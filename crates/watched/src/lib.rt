@@ -63,7 +63,7 @@ fn run_memories(
     ensures { λ r. ⌜ AnsweredBy (watchedEnded (watchedOutcome (now (table .entry)) (now (inputs .entry)) fuel)) r
         (now (mem .exit)) (now (obs .exit)) ⌝ }
 {
-    memory::start(mem, inputs);
+    starting::start(mem, inputs);
     steps::start_observation(obs, inputs.len() / 8);
     let r = run_table(table, mem, obs, fuel);
     let free_cells = blocks::count_free(&*mem);

@@ -188,7 +188,7 @@ fn run_inside(
     let body = tables::child_a(&table[..], n);
     let r = run(table, body, &inner, temporaries, mem, obs, fuel);
     if r.number == 0 {
-        blocks::end(mem, k);
+        freeing::end(mem, k);
     }
     r
 }

@@ -6,7 +6,7 @@ use Rattle.rules.specs.Layout.{memoryOf}
 use Rattle.rules.specs.declared.Search.{Search}
 use Rattle.rules.specs.declared.Search.the-variants as search
 use Rattle.rules.specs.Memory.{nextName, freeRun}
-use Rattle.cells.proofs.Writing.{unchanged}
+use Rattle.cell_changes.proofs.Writing.{unchanged}
 use Rattle.blocks.proofs.Runs.{name-bound, run-bound}
 use borrow.Author.Needs.{needs}
 use Rattle.blocks.proofs.make.Statement.{statement}

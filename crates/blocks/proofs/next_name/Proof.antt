@@ -6,8 +6,7 @@ use mathlib.Core.Bool.{Bool, true, false}
 use mathlib.Core.List.{List}
 use Rattle.rules.specs.Layout.{memoryOf}
 use Rattle.rules.specs.Memory.{isUnused, blockOf}
-use Rattle.blocks.proofs.Runs.{lowest-at, lowest-none}
-use Rattle.blocks.proofs.Steps.{none-more}
+use Rattle.blocks.proofs.Runs.{lowest-at, lowest-none, none-more}
 use Rattle.blocks.proofs.next_name.Statement.{statement}
 use Rattle.blocks.proofs.next_name.Tie as tie
 use Rattle.blocks.proofs.next_name.Reads as reads

@@ -7,16 +7,16 @@ use Rattle.rules.specs.Memory.{Memory}
 use Rattle.rules.specs.declared.Cell.the-variants as cell
 use Rattle.rules.specs.declared.Value.the-variants as value
 use Rattle.cells.specs.Changes.{setBlock}
-use Rattle.blocks.specs.Blocks.{fillCells}
-use Rattle.cells.proofs.Writing.{becomes-then, becomes-as}
+use Rattle.filling.specs.Filling.{fillCells}
+use Rattle.cell_changes.proofs.Writing.{becomes-then, becomes-as}
 use borrow.Author.Needs.{needs}
 use Rattle.blocks.proofs.place.Statement.{statement}
 use Rattle.blocks.proofs.place.Tie as tie
 use Rattle.blocks.proofs.place.Reads as reads
 use Rattle.blocks.proofs.place.Lts as lts
-use Rattle.blocks.proofs.fill.Reads as fill-reads
+use Rattle.filling.proofs.fill.Reads as fill-reads
 use Rattle.blocks.proofs.live.Reads as live-reads
-use Rattle.cells.proofs.put_block.Reads as put-block-reads
+use Rattle.block_changes.proofs.put_block.Reads as put-block-reads
 
 fill-requires : tie.Need-fill-requires
 fill-requires c κs = search needs

@@ -38,7 +38,7 @@ use Rattle.plain.proofs.+branch+enclose+repeat+run+run_inside+run_singl
 use Rattle.plain.proofs.run_single.Reads as run-single
 use Rattle.plain.proofs.run_single.Kinds as run-single-kinds
 use Rattle.plain.proofs.+branch+enclose+repeat+run+run_inside+run_single.Lts-run_single as run-single-lts
-use Rattle.blocks.proofs.end.Reads as end-reads
+use Rattle.freeing.proofs.end.Reads as end-reads
 use Rattle.blocks.proofs.make.Reads as make-reads
 use Rattle.plain.proofs.allocate.Reads as allocate-reads
 use Rattle.plain.proofs.assert.Reads as assert-reads

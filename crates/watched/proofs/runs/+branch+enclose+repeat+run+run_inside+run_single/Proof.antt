@@ -40,7 +40,7 @@ use Rattle.watched.proofs.runs.+branch+enclose+repeat+run+run_inside+ru
 use Rattle.watched.proofs.runs.run_single.Reads as run-single
 use Rattle.watched.proofs.runs.run_single.Kinds as run-single-kinds
 use Rattle.watched.proofs.runs.+branch+enclose+repeat+run+run_inside+run_single.Lts-run_single as run-single-lts
-use Rattle.blocks.proofs.end.Reads as end-reads
+use Rattle.freeing.proofs.end.Reads as end-reads
 use Rattle.blocks.proofs.make.Reads as make-reads
 use Rattle.statements.proofs.name_variable.Reads as name-variable-reads
 use Rattle.statements.proofs.test_a.Reads as test-a-reads

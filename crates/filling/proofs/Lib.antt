@@ -1,0 +1,2 @@
+-- Facts about cells that are filled.
+pub mod Filling

@@ -1,0 +1,2 @@
+-- What the code that fills cells is held to.
+pub mod Filling

@@ -1,0 +1,2 @@
+-- Facts about the steps of freeing a block.
+pub mod Steps

@@ -1,0 +1,3 @@
+-- Facts about live blocks and about the queries by their numbers.
+pub mod Names
+pub mod Queries

@@ -1,0 +1,2 @@
+-- What the code of the queries is held to.
+pub mod Queries

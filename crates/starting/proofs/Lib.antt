@@ -1,0 +1,2 @@
+-- Facts about the start of the execution memory.
+pub mod Starting

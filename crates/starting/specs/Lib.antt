@@ -1,0 +1,2 @@
+-- What the code of the start is held to.
+pub mod Starting
