@@ -1,6 +1,4 @@
 // The watched run of an accepted target table.
-mod runs;
-
 ghost use mathlib.Core.Path.{_≡_};
 ghost use mathlib.Core.Bool.{false};
 ghost use lib.ListN.{replicate};
@@ -17,7 +15,6 @@ ghost use Rattle.rules.proofs.TargetFields.{statementAt};
 ghost use Rattle.watched_statements.specs.Watching.{lent, Ready, Leaves, AnsweredBy};
 use rules::Answer;
 use rules::Checked;
-use runs::run;
 use statements::Ended;
 
 // Runs statement n with the variables and temporaries of the start.
@@ -35,7 +32,7 @@ fn run_from_start(
 {
     let variables = statements::start_variables();
     let mut temporaries = [0u8; 1024];
-    run(table, n, &variables, &mut temporaries, mem, obs, fuel)
+    watched_runs::run(table, n, &variables, &mut temporaries, mem, obs, fuel)
 }
 
 // Runs an accepted table from memories of the start.
