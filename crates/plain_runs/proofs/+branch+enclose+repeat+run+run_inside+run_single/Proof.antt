@@ -113,7 +113,16 @@ run-single-below t =
     and 4 run-single-kinds.ps (falls 4 run-single-kinds.ps _<_ μ-run-single t) run-single.Pre
 
 abbrev branch-claims : ℕ → branch-lts.Claims
-branch-claims t = (test-a-reads.Asked, test-a-reads.Learnt, child-b-reads.Asked, child-b-reads.Learnt, run-below t, run.Post, child-c-reads.Asked, child-c-reads.Learnt)
+branch-claims t = (
+  test-a-reads.Asked,
+  test-a-reads.Learnt,
+  child-b-reads.Asked,
+  child-b-reads.Learnt,
+  run-below t,
+  run.Post,
+  child-c-reads.Asked,
+  child-c-reads.Learnt,
+)
 
 abbrev enclose-claims : ℕ → enclose-lts.Claims
 enclose-claims t = (make-reads.Asked, make-reads.Learnt, run-inside-below t, run-inside.Post)
@@ -136,10 +145,38 @@ run-claims t = (
 )
 
 abbrev run-inside-claims : ℕ → run-inside-lts.Claims
-run-inside-claims t = (mark-reads.Asked, mark-reads.Learnt, name-variable-reads.Asked, name-variable-reads.Learnt, child-a-reads.Asked, child-a-reads.Learnt, run-below t, run.Post, end-reads.Asked, end-reads.Learnt)
+run-inside-claims t = (
+  mark-reads.Asked,
+  mark-reads.Learnt,
+  name-variable-reads.Asked,
+  name-variable-reads.Learnt,
+  child-a-reads.Asked,
+  child-a-reads.Learnt,
+  run-below t,
+  run.Post,
+  end-reads.Asked,
+  end-reads.Learnt,
+)
 
 abbrev run-single-claims : ℕ → run-single-lts.Claims
-run-single-claims t = (kind-reads.Asked, kind-reads.Learnt, assign-reads.Asked, assign-reads.Learnt, allocate-reads.Asked, allocate-reads.Learnt, release-reads.Asked, release-reads.Learnt, branch-below t, branch.Post, repeat-below t, repeat.Post, enclose-below t, enclose.Post, assert-reads.Asked, assert-reads.Learnt)
+run-single-claims t = (
+  kind-reads.Asked,
+  kind-reads.Learnt,
+  assign-reads.Asked,
+  assign-reads.Learnt,
+  allocate-reads.Asked,
+  allocate-reads.Learnt,
+  release-reads.Asked,
+  release-reads.Learnt,
+  branch-below t,
+  branch.Post,
+  repeat-below t,
+  repeat.Post,
+  enclose-below t,
+  enclose.Post,
+  assert-reads.Asked,
+  assert-reads.Learnt,
+)
 
 branch-test-a-requires : (t : ℕ) → branch-lts.Need-test-a-requires (branch-claims t) (branch-at t) branch.Post
 branch-test-a-requires t c κs =
@@ -234,7 +271,10 @@ branch-returns t c =
     let f = s .args .fuel in
     let h = s .pre .1 .0 in
     let q = s .pre .1 .1 in
-    ran-is (branch-yes T n (h .is) ρ q (memoryOf l) f (sym (c .before .before .before .before .before .before .test-a .ensures) ∙ c .before .before .before .before .enum-told .given .1))
+    ran-is
+    (branch-yes T n (h .is) ρ q (memoryOf l) f
+    (sym (c .before .before .before .before .before .before .test-a .ensures)
+    ∙ c .before .before .before .before .enum-told .given .1))
     (rw (c .before .before .child-b .ensures) at (c .run .ensures))
 
 branch-returns-2 : (t : ℕ) → branch-lts.Need-returns-2 (branch-claims t) (branch-at t) branch.Post
@@ -247,7 +287,10 @@ branch-returns-2 t c =
     let f = s .args .fuel in
     let h = s .pre .1 .0 in
     let q = s .pre .1 .1 in
-    ran-is (branch-no T n (h .is) ρ q (memoryOf l) f (sym (c .before .before .before .before .before .before .test-a .ensures) ∙ c .before .before .before .before .enum-told2 .given .1))
+    ran-is
+    (branch-no T n (h .is) ρ q (memoryOf l) f
+    (sym (c .before .before .before .before .before .before .test-a .ensures)
+    ∙ c .before .before .before .before .enum-told2 .given .1))
     (rw (c .before .before .child-c .ensures) at (c .run2 .ensures))
 
 branch-returns-3 : (t : ℕ) → branch-lts.Need-returns-3 (branch-claims t) (branch-at t) branch.Post
@@ -260,7 +303,9 @@ branch-returns-3 t c =
     let f = s .args .fuel in
     let h = s .pre .1 .0 in
     let q = s .pre .1 .1 in
-    ran-is (branch-stop T n (h .is) ρ q (memoryOf l) f (c .before .k .given .0 .0) (sym (c .before .before .before .test-a .ensures) ∙ c .before .k .given .1))
+    ran-is
+    (branch-stop T n (h .is) ρ q (memoryOf l) f (c .before .k .given .0 .0)
+    (sym (c .before .before .before .test-a .ensures) ∙ c .before .k .given .1))
     (ran-same (ended (c .before .k .given .0 .0) n (memoryOf l) f) _ refl refl)
 
 enclose-make-requires : (t : ℕ) → enclose-lts.Need-make-requires (enclose-claims t) (enclose-at t) enclose.Post
@@ -280,7 +325,8 @@ enclose-run-inside-requires t c κs =
     let h = s .pre .1 .0 in
     let q = s .pre .1 .1 in (
       omega (arith, s .pre .0),
-      ready-made T n ρ (c .before .before .k .given .0 .0) l (c .before .before .before .before .make .last .0) h q (c .before .before .before .before .make .ensures .1)
+      ready-made T n ρ (c .before .before .k .given .0 .0) l (c .before .before .before .before .make .last .0)
+          h q (c .before .before .before .before .make .ensures .1)
           (sym (c .before .before .k .given .1) ∙ c .before .before .before .before .make .ensures .0),
     )
 
@@ -310,7 +356,8 @@ enclose-returns t c =
     let h = s .pre .1 .0 in
     let q = s .pre .1 .1 in
     ran-is
-    (let-made T n (h .is) ρ q l (c .before .before .before .before .before .make .last .0) f (c .before .before .before .before .before .make .ensures .1) (c .before .before .before .k .given .0 .0)
+    (let-made T n (h .is) ρ q l (c .before .before .before .before .before .make .last .0) f
+    (c .before .before .before .before .before .make .ensures .1) (c .before .before .before .k .given .0 .0)
     (sym (c .before .before .before .k .given .1) ∙ c .before .before .before .before .before .make .ensures .0))
     (ran-from (c .before .before .before .before .before .make .ensures .1) (c .run-inside .ensures))
 
@@ -379,7 +426,9 @@ repeat-run-requires t c κs =
     let q = s .pre .1 .1 in
     rw (c .before .before .before .before .before .before .before .child-b .ensures) (
       omega (arith, while-children source T n (h .is) q .1 .1, s .pre .0),
-      ready-turn T n ρ (memoryOf l) h q (memoryOf (c .before .before .before .before .before .before .loop .mem)) (c .before .before .before .before .before .before .loop .inv .fits),
+      ready-turn T n ρ (memoryOf l) h q
+          (memoryOf (c .before .before .before .before .before .before .loop .mem))
+          (c .before .before .before .before .before .before .loop .inv .fits),
     )
 
 repeat-returns : (t : ℕ) → repeat-lts.Need-returns (repeat-claims t) (repeat-at t) repeat.Post repeat-Inv-loop repeat-μ-loop
@@ -392,9 +441,16 @@ repeat-returns t c =
     let f = s .args .fuel in
     let h = s .pre .1 .0 in
     let q = s .pre .1 .1 in
-    part-ends T n ρ l f n (c .before .before .before .before .before .before .before .before .before .loop .mem) (c .before .before .before .before .before .before .before .before .before .loop .left) (c .before .before .before .before .before .before .before .before .before .loop .inv) (childB T n) n (c .before .before .before .before .before .before .before .before .before .loop .left - 1) (c .before .before .run .result) (c .before .before .run .last .1 .1 .1 .1 .0)
+    part-ends T n ρ l f n (c .before .before .before .before .before .before .before .before .before .loop .mem)
+    (c .before .before .before .before .before .before .before .before .before .loop .left)
+    (c .before .before .before .before .before .before .before .before .before .loop .inv) (childB T n) n
+    (c .before .before .before .before .before .before .before .before .before .loop .left - 1)
+    (c .before .before .run .result) (c .before .before .run .last .1 .1 .1 .1 .0)
     (rw (c .before .before .before .before .before .before .before .before .before .before .child-b .ensures) at (c .before .before .run .ensures))
-    (turn-yes T n (h .is) ρ q (memoryOf (c .before .before .before .before .before .before .before .before .before .loop .mem)) (c .before .before .before .before .before .before .before .before .before .loop .left) (c .before .before .before .before .before .before .before .before .loop-test .taken)
+    (turn-yes T n (h .is) ρ q
+    (memoryOf (c .before .before .before .before .before .before .before .before .before .loop .mem))
+    (c .before .before .before .before .before .before .before .before .before .loop .left)
+    (c .before .before .before .before .before .before .before .before .loop-test .taken)
     (sym (c .before .before .before .before .before .before .test-a .ensures) ∙ c .before .before .before .before .enum-told .given .1))
     (c .if1 .taken)
 
@@ -408,9 +464,17 @@ repeat-loop-less t c =
     let f = s .args .fuel in
     let h = s .pre .1 .0 in
     let q = s .pre .1 .1 in
-    part-spends T n ρ l f n (c .before .before .before .before .before .before .before .before .before .loop .mem) (c .before .before .before .before .before .before .before .before .before .loop .left) (c .before .before .before .before .before .before .before .before .before .loop .inv) (childB T n) n (c .before .before .before .before .before .before .before .before .before .loop .left - 1) (c .before .before .run .result) (c .before .before .run .last .1 .1 .1 .1 .0)
+    part-spends T n ρ l f n
+    (c .before .before .before .before .before .before .before .before .before .loop .mem)
+    (c .before .before .before .before .before .before .before .before .before .loop .left)
+    (c .before .before .before .before .before .before .before .before .before .loop .inv) (childB T n) n
+    (c .before .before .before .before .before .before .before .before .before .loop .left - 1)
+    (c .before .before .run .result) (c .before .before .run .last .1 .1 .1 .1 .0)
     (rw (c .before .before .before .before .before .before .before .before .before .before .child-b .ensures) at (c .before .before .run .ensures))
-    (turn-yes T n (h .is) ρ q (memoryOf (c .before .before .before .before .before .before .before .before .before .loop .mem)) (c .before .before .before .before .before .before .before .before .before .loop .left) (c .before .before .before .before .before .before .before .before .loop-test .taken)
+    (turn-yes T n (h .is) ρ q
+    (memoryOf (c .before .before .before .before .before .before .before .before .before .loop .mem))
+    (c .before .before .before .before .before .before .before .before .before .loop .left)
+    (c .before .before .before .before .before .before .before .before .loop-test .taken)
     (sym (c .before .before .before .before .before .before .test-a .ensures) ∙ c .before .before .before .before .enum-told .given .1))
     (c .if1 .left) (omega (arith, c .before .before .before .before .before .before .before .before .loop-test .taken))
 
@@ -424,11 +488,22 @@ repeat-loop-again t c =
     let f = s .args .fuel in
     let h = s .pre .1 .0 in
     let q = s .pre .1 .1 in
-    part-finishes T n ρ l f n (c .before .before .before .before .before .before .before .before .before .loop .mem) (c .before .before .before .before .before .before .before .before .before .loop .left) (c .before .before .before .before .before .before .before .before .before .loop .inv) (childB T n) n (c .before .before .before .before .before .before .before .before .before .loop .left - 1) (c .before .before .run .result) (c .before .before .run .last .1 .1 .1 .1 .0)
+    part-finishes T n ρ l f n
+    (c .before .before .before .before .before .before .before .before .before .loop .mem)
+    (c .before .before .before .before .before .before .before .before .before .loop .left)
+    (c .before .before .before .before .before .before .before .before .before .loop .inv) (childB T n) n
+    (c .before .before .before .before .before .before .before .before .before .loop .left - 1)
+    (c .before .before .run .result) (c .before .before .run .last .1 .1 .1 .1 .0)
     (rw (c .before .before .before .before .before .before .before .before .before .before .child-b .ensures) at (c .before .before .run .ensures))
-    (turn-yes T n (h .is) ρ q (memoryOf (c .before .before .before .before .before .before .before .before .before .loop .mem)) (c .before .before .before .before .before .before .before .before .before .loop .left) (c .before .before .before .before .before .before .before .before .loop-test .taken)
+    (turn-yes T n (h .is) ρ q
+    (memoryOf (c .before .before .before .before .before .before .before .before .before .loop .mem))
+    (c .before .before .before .before .before .before .before .before .before .loop .left)
+    (c .before .before .before .before .before .before .before .before .loop-test .taken)
     (sym (c .before .before .before .before .before .before .test-a .ensures) ∙ c .before .before .before .before .enum-told .given .1))
-    (c .if1 .left) (ready-turn T n ρ (memoryOf l) h q (memoryOf (c .before .before .before .before .before .before .before .before .before .loop .mem)) (c .before .before .before .before .before .before .before .before .before .loop .inv .fits))
+    (c .if1 .left)
+    (ready-turn T n ρ (memoryOf l) h q
+    (memoryOf (c .before .before .before .before .before .before .before .before .before .loop .mem))
+    (c .before .before .before .before .before .before .before .before .before .loop .inv .fits))
 
 repeat-enum-told-2 : (t : ℕ) → repeat-lts.Need-enum-told-2 (repeat-claims t) (repeat-at t) repeat.Post repeat-Inv-loop repeat-μ-loop
 repeat-enum-told-2 t c = search needs
@@ -446,8 +521,11 @@ repeat-returns-2 t c =
     let m = memoryOf (c .before .before .before .before .before .loop .mem) in
     ran-is
     (c .before .before .before .before .before .loop .inv .rest
-    ∙ turn-no T n (h .is) ρ q m (c .before .before .before .before .before .loop .left) (c .before .before .before .before .loop-test .taken) (sym (c .before .before .test-a .ensures) ∙ c .enum-told2 .given .1))
-    (ran-from (c .before .before .before .before .before .loop .inv .bytes) (ran-same (finished m (c .before .before .before .before .before .loop .left - 1)) _ refl refl))
+    ∙ turn-no T n (h .is) ρ q m (c .before .before .before .before .before .loop .left)
+    (c .before .before .before .before .loop-test .taken)
+    (sym (c .before .before .test-a .ensures) ∙ c .enum-told2 .given .1))
+    (ran-from (c .before .before .before .before .before .loop .inv .bytes)
+    (ran-same (finished m (c .before .before .before .before .before .loop .left - 1)) _ refl refl))
 
 repeat-enum-known-k : (t : ℕ) → repeat-lts.Need-enum-known-k (repeat-claims t) (repeat-at t) repeat.Post repeat-Inv-loop repeat-μ-loop
 repeat-enum-known-k t c = search needs
@@ -477,8 +555,13 @@ repeat-returns-3 t c =
     let m = memoryOf (c .before .before .before .before .before .before .loop .mem) in
     ran-is
     (c .before .before .before .before .before .before .loop .inv .rest
-    ∙ turn-stop T n (h .is) ρ q m (c .before .before .before .before .before .before .loop .left) (c .before .before .before .before .before .loop-test .taken) (c .before .k .given .0 .0) (sym (c .before .before .before .test-a .ensures) ∙ c .before .k .given .1))
-    (ran-from (c .before .before .before .before .before .before .loop .inv .bytes) (ran-same (ended (c .before .k .given .0 .0) n m (c .before .before .before .before .before .before .loop .left - 1)) _ refl refl))
+    ∙ turn-stop T n (h .is) ρ q m (c .before .before .before .before .before .before .loop .left)
+    (c .before .before .before .before .before .loop-test .taken) (c .before .k .given .0 .0)
+    (sym (c .before .before .before .test-a .ensures) ∙ c .before .k .given .1))
+    (ran-from (c .before .before .before .before .before .before .loop .inv .bytes)
+    (ran-same
+    (ended (c .before .k .given .0 .0) n m (c .before .before .before .before .before .before .loop .left - 1))
+    _ refl refl))
 
 repeat-cast-t19 : (t : ℕ) → repeat-lts.Need-cast-t19 (repeat-claims t) (repeat-at t) repeat.Post repeat-Inv-loop repeat-μ-loop
 repeat-cast-t19 t c =
@@ -679,7 +762,12 @@ run-inside-run-requires t c κs =
     let f = s .args .fuel in
     let h = s .pre .1 in
     let k = s .args .k in
-    rw (c .before .before .child-a .ensures, c .before .before .before .before .name-variable .ensures, c .before .before .before .before .before .mark .ensures) (omega (arith, h .smaller, s .pre .0), h .body)
+    rw (
+      c .before .before .child-a .ensures,
+      c .before .before .before .before .name-variable .ensures,
+      c .before .before .before .before .before .mark .ensures,
+    )
+    (omega (arith, h .smaller, s .pre .0), h .body)
 
 run-inside-end-requires : (t : ℕ) → run-inside-lts.Need-end-requires (run-inside-claims t) (run-inside-at t) run-inside.Post
 run-inside-end-requires t c κs = tt
@@ -694,8 +782,16 @@ run-inside-returns t c =
     let f = s .args .fuel in
     let h = s .pre .1 in
     let k = s .args .k in
-    inside-ends (statementAt T (childA T n)) (extend ρ (markOf T n) k) f k (c .before .before .before .before .run .result) l (c .before .before .before .before .run .last .1 .1 .1 .1 .0) (c .end .last .0)
-    (rw (c .before .before .before .before .before .before .before .child-a .ensures, c .before .before .before .before .before .before .before .before .before .name-variable .ensures, c .before .before .before .before .before .before .before .before .before .before .mark .ensures) at (c .before .before .before .before .run .ensures)) (c .before .before .if1 .taken) (c .end .ensures)
+    inside-ends (statementAt T (childA T n)) (extend ρ (markOf T n) k) f k
+    (c .before .before .before .before .run .result) l
+    (c .before .before .before .before .run .last .1 .1 .1 .1 .0) (c .end .last .0)
+    (rw (
+      c .before .before .before .before .before .before .before .child-a .ensures,
+      c .before .before .before .before .before .before .before .before .before .name-variable .ensures,
+      c .before .before .before .before .before .before .before .before .before .before .mark .ensures,
+    )
+    at (c .before .before .before .before .run .ensures))
+    (c .before .before .if1 .taken) (c .end .ensures)
 
 run-inside-returns-2 : (t : ℕ) → run-inside-lts.Need-returns-2 (run-inside-claims t) (run-inside-at t) run-inside.Post
 run-inside-returns-2 t c =
@@ -708,7 +804,12 @@ run-inside-returns-2 t c =
     let h = s .pre .1 in
     let k = s .args .k in
     next-stays (statementAt T (childA T n)) (extend ρ (markOf T n) k) f (λ m₁ f₁. finished (endBlock m₁ k) f₁)
-    (c .before .before .run .result) l (c .before .before .run .last .1 .1 .1 .1 .0) (rw (c .before .before .before .before .before .child-a .ensures, c .before .before .before .before .before .before .before .name-variable .ensures, c .before .before .before .before .before .before .before .before .mark .ensures) at (c .before .before .run .ensures)) (c .if1 .left)
+    (c .before .before .run .result) l (c .before .before .run .last .1 .1 .1 .1 .0)
+    (rw (
+      c .before .before .before .before .before .child-a .ensures,
+      c .before .before .before .before .before .before .before .name-variable .ensures,
+      c .before .before .before .before .before .before .before .before .mark .ensures,
+    ) at (c .before .before .run .ensures)) (c .if1 .left)
 
 run-single-kind-requires : (t : ℕ) → run-single-lts.Need-kind-requires (run-single-claims t) (run-single-at t) run-single.Post
 run-single-kind-requires t c κs =
@@ -730,13 +831,34 @@ run-single-release-requires : (t : ℕ) → run-single-lts.Need-release-requires
 run-single-release-requires t c κs = (c .before .before .before .before .pre .1 .0, sym (c .before .before .kind .ensures) ∙ c .before .match .keys4)
 
 run-single-branch-requires : (t : ℕ) → run-single-lts.Need-branch-requires (run-single-claims t) (run-single-at t) run-single.Post
-run-single-branch-requires t c κs = (omega (arith, c .before .before .before .before .pre .0), (c .before .before .before .before .pre .1 .0, sym (c .before .before .kind .ensures) ∙ c .before .match .keys5))
+run-single-branch-requires t c κs = (
+  omega (arith, c .before .before .before .before .pre .0),
+  (
+    c .before .before .before .before .pre .1 .0,
+    sym (c .before .before .kind .ensures)
+        ∙ c .before .match .keys5,
+  ),
+)
 
 run-single-repeat-requires : (t : ℕ) → run-single-lts.Need-repeat-requires (run-single-claims t) (run-single-at t) run-single.Post
-run-single-repeat-requires t c κs = (omega (arith, c .before .before .before .before .pre .0), (c .before .before .before .before .pre .1 .0, sym (c .before .before .kind .ensures) ∙ c .before .match .keys6))
+run-single-repeat-requires t c κs = (
+  omega (arith, c .before .before .before .before .pre .0),
+  (
+    c .before .before .before .before .pre .1 .0,
+    sym (c .before .before .kind .ensures)
+        ∙ c .before .match .keys6,
+  ),
+)
 
 run-single-enclose-requires : (t : ℕ) → run-single-lts.Need-enclose-requires (run-single-claims t) (run-single-at t) run-single.Post
-run-single-enclose-requires t c κs = (omega (arith, c .before .before .before .before .pre .0), (c .before .before .before .before .pre .1 .0, sym (c .before .before .kind .ensures) ∙ c .before .match .keys7))
+run-single-enclose-requires t c κs = (
+  omega (arith, c .before .before .before .before .pre .0),
+  (
+    c .before .before .before .before .pre .1 .0,
+    sym (c .before .before .kind .ensures)
+        ∙ c .before .match .keys7,
+  ),
+)
 
 run-single-assert-requires : (t : ℕ) → run-single-lts.Need-assert-requires (run-single-claims t) (run-single-at t) run-single.Post
 run-single-assert-requires t c κs =
