@@ -1,5 +1,2 @@
--- Laws for the proofs of the plain run.
-pub mod Laws
-pub mod ReadyLaws
-pub mod MemberLaws
+-- Laws for the proofs of the plain run's entry.
 pub mod EntryLaws

@@ -1,2 +1,2 @@
 -- What the code of the plain run is held to.
-pub mod Running
+pub mod Answering

@@ -1,3 +1,2 @@
--- Laws for the proofs of the watched run.
-pub mod MemberLaws
+-- Laws for the proofs of the watched run's entry.
 pub mod EntryLaws

@@ -1,6 +1,4 @@
 // The watched run of an accepted target table.
-mod runs;
-
 ghost use mathlib.Core.Path.{_≡_};
 ghost use mathlib.Core.Bool.{false};
 ghost use lib.ListN.{replicate};
@@ -17,8 +15,7 @@ ghost use Rattle.rules.proofs.TargetFields.{statementAt};
 ghost use Rattle.watched_statements.specs.Watching.{lent, Ready, Leaves, AnsweredBy};
 use rules::Answer;
 use rules::Checked;
-use runs::run;
-use statements::Ended;
+use endings::Ended;
 
 // Runs statement n with the variables and temporaries of the start.
 fn run_from_start(
@@ -33,9 +30,9 @@ fn run_from_start(
         (observationOf (now (obs .entry))) startTemporaries fuel) r
         (now (mem .entry)) (now (mem .exit)) (now (obs .entry)) (now (obs .exit)) ⌝ }
 {
-    let variables = statements::start_variables();
+    let variables = variables::start_variables();
     let mut temporaries = [0u8; 1024];
-    run(table, n, &variables, &mut temporaries, mem, obs, fuel)
+    watched_runs::run(table, n, &variables, &mut temporaries, mem, obs, fuel)
 }
 
 // Runs an accepted table from memories of the start.
@@ -47,7 +44,7 @@ fn run_table(table: &[u8], mem: &mut [u8; 18424], obs: &mut [u8; 3064], fuel: u3
         (now (mem .entry)) (now (mem .exit)) (now (obs .entry)) (now (obs .exit)) ⌝ }
 {
     let mut whole = [0u8; 65536];
-    statements::copy(&mut whole[..], table);
+    buffers::copy(&mut whole[..], table);
     run_from_start(&whole, table.len() / 16, mem, obs, fuel)
 }
 
@@ -64,7 +61,7 @@ fn run_memories(
         (now (mem .exit)) (now (obs .exit)) ⌝ }
 {
     starting::start(mem, inputs);
-    steps::start_observation(obs, inputs.len() / 8);
+    noting::start_observation(obs, inputs.len() / 8);
     let r = run_table(table, mem, obs, fuel);
     let free_cells = blocks::count_free(&*mem);
     Answer {
@@ -91,8 +88,8 @@ fn run_inputs(
     let mut mem = [0u8; 18424];
     let mut obs = [0u8; 3064];
     let answer = run_memories(table, inputs, fuel, &mut mem, &mut obs);
-    statements::copy(memory, &mem[..]);
-    statements::copy(observation, &obs[..]);
+    buffers::copy(memory, &mem[..]);
+    buffers::copy(observation, &obs[..]);
     answer
 }
 
@@ -108,14 +105,14 @@ fn run_accepted(
     ensures { λ r. ⌜ AnsweredBy (watchedBy checked.Accepted (now (table .entry)) (now (inputs .entry)) fuel
         (now (memory .entry)) (now (observation .entry))) r (now (memory .exit)) (now (observation .exit)) ⌝ }
 {
-    if statements::has_inputs_fault(inputs) {
-        return statements::refuse(9, 0);
+    if buffers::has_inputs_fault(inputs) {
+        return endings::refuse(9, 0);
     }
     if memory.len() != 18424 {
-        return statements::refuse(21, 0);
+        return endings::refuse(21, 0);
     }
     if observation.len() != 3064 {
-        return statements::refuse(22, 0);
+        return endings::refuse(22, 0);
     }
     run_inputs(table, inputs, fuel, memory, observation)
 }
@@ -133,6 +130,6 @@ pub fn run_watched(
 {
     match checker::check_target(table) {
         Checked::Accepted => run_accepted(table, inputs, fuel, memory, observation),
-        Checked::Refused(k, n) => statements::refuse(k, n),
+        Checked::Refused(k, n) => endings::refuse(k, n),
     }
 }

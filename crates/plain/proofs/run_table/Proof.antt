@@ -4,7 +4,7 @@ use lib.ListN.{length, replicate, length-replicate}
 use Rattle.rules.specs.Trees.{Statement}
 use Rattle.rules.specs.Plain.{run, startVariables}
 use Rattle.rules.specs.Layout.{memoryOf}
-use Rattle.plain.proofs.Laws.{ran-is}
+use Rattle.plain_runs.proofs.Laws.{ran-is}
 use Rattle.plain.proofs.EntryLaws.{table-length, ready-start, same-program}
 use Rattle.plain.proofs.run_table.Statement.{statement}
 use Rattle.plain.proofs.run_table.Tie as tie

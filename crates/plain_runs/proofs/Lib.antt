@@ -1,0 +1,4 @@
+-- Laws for the proofs of the plain run's statements.
+pub mod Laws
+pub mod ReadyLaws
+pub mod MemberLaws

@@ -1,0 +1,56 @@
+use mathlib.Core.Path.{sym, ap, ap₂, _∙_}
+use Rattle.rules.specs.Plain.{after}
+use Rattle.rules.specs.Layout.{memoryOf}
+use Rattle.evaluation.specs.State.{variablesOf}
+use Rattle.temporaries.specs.Bytes.{temporariesOf}
+use Rattle.rules.specs.Memory.{allocated}
+use Rattle.rules.specs.Records.{childA, childB}
+use Rattle.rules.proofs.SharedExpressions.{target-expression, target-place, evaluated-alike, found-alike}
+use Rattle.rules.specs.Kinds.{source}
+use Rattle.rules.proofs.StatementArms.{new-children}
+use Rattle.rules.proofs.PlainArms.{statementAt, run-new}
+use Rattle.plain_runs.proofs.Laws.{ran-does}
+use Rattle.plain_runs.proofs.ReadyLaws.{ready-within, ready-number}
+use Rattle.plain_runs.proofs.allocate.Statement.{statement}
+use Rattle.plain_runs.proofs.allocate.Tie as tie
+
+find-a-requires : tie.Need-find-a-requires
+find-a-requires c κs =
+    let s = c .before in
+    let T = s .args .table .now in
+    (ready-within T (s .args .n) _ _ (s .pre .0), target-place T (childA T (s .args .n)) (new-children source T (s .args .n) (s .pre .0 .is) (s .pre .1) .0 .2))
+
+evaluate-b-requires : tie.Need-evaluate-b-requires
+evaluate-b-requires c κs =
+    let s = c .before .before .before in
+    let T = s .args .table .now in
+    (ready-within T (s .args .n) _ _ (s .pre .0), target-expression T (childB T (s .args .n)) (new-children source T (s .args .n) (s .pre .0 .is) (s .pre .1) .1 .2))
+
+new-at-requires : tie.Need-new-at-requires
+new-at-requires c κs = tt
+
+cast-conclude : tie.Need-cast-conclude
+cast-conclude c =
+    let s = c .before .before .before .before .before .before in
+    ready-number (s .args .table .now) (s .args .n) _ _ (s .pre .0)
+
+conclude-requires : tie.Need-conclude-requires
+conclude-requires c κs = tt
+
+returns : tie.Need-returns
+returns c =
+    let s = c .before .before .before .before .before .before .before in
+    let T = s .args .table .now in
+    let n = s .args .n in
+    let ρ = variablesOf (s .args .variables .now) in
+    let τ = temporariesOf (s .args .temporaries .now) in
+    let l = s .args .mem .now in
+    let q = new-children source T n (s .pre .0 .is) (s .pre .1) in
+    ran-does (statementAt T n) ρ (s .args .fuel) n (allocated (memoryOf l) (c .before .before .before .before .before .find-a .result) (c .before .before .before .evaluate-b .result))
+    (c .before .new-at .result) (c .conclude .result) l (c .before .new-at .last .0)
+    (run-new T n (s .pre .0 .is) ρ (memoryOf l) (s .args .fuel) (s .pre .1)
+    ∙ sym (ap (after n (s .args .fuel)) (ap₂ (allocated (memoryOf l)) (c .before .before .before .before .before .find-a .ensures ∙ found-alike T (childA T n) τ ρ (memoryOf l) (q .0 .2)) (c .before .before .before .evaluate-b .ensures ∙ evaluated-alike T (childB T n) τ ρ (memoryOf l) (q .1 .2)))))
+    (c .before .new-at .ensures) (c .conclude .ensures)
+
+pub allocate-spec : {M : Type 1} → statement M
+allocate-spec = tie.close (tie.spec find-a-requires evaluate-b-requires new-at-requires cast-conclude conclude-requires returns)

@@ -1,0 +1,49 @@
+use mathlib.Core.Path.{sym, ap, _∙_}
+use Rattle.rules.specs.Plain.{after}
+use Rattle.rules.specs.Layout.{memoryOf}
+use Rattle.evaluation.specs.State.{variablesOf}
+use Rattle.temporaries.specs.Bytes.{temporariesOf}
+use Rattle.rules.specs.Memory.{freed}
+use Rattle.rules.specs.Records.{childA}
+use Rattle.rules.proofs.SharedExpressions.{target-expression, evaluated-alike}
+use Rattle.rules.specs.Kinds.{source}
+use Rattle.rules.proofs.StatementArms.{free-child}
+use Rattle.rules.proofs.PlainArms.{statementAt, run-free}
+use Rattle.plain_runs.proofs.Laws.{ran-does}
+use Rattle.plain_runs.proofs.ReadyLaws.{ready-within, ready-number}
+use Rattle.plain_runs.proofs.release.Statement.{statement}
+use Rattle.plain_runs.proofs.release.Tie as tie
+
+evaluate-a-requires : tie.Need-evaluate-a-requires
+evaluate-a-requires c κs =
+    let s = c .before in
+    let T = s .args .table .now in
+    (ready-within T (s .args .n) _ _ (s .pre .0), target-expression T (childA T (s .args .n)) (free-child source T (s .args .n) (s .pre .0 .is) (s .pre .1) .2))
+
+free-at-requires : tie.Need-free-at-requires
+free-at-requires c κs = tt
+
+cast-conclude : tie.Need-cast-conclude
+cast-conclude c =
+    let s = c .before .before .before .before in
+    ready-number (s .args .table .now) (s .args .n) _ _ (s .pre .0)
+
+conclude-requires : tie.Need-conclude-requires
+conclude-requires c κs = tt
+
+returns : tie.Need-returns
+returns c =
+    let s = c .before .before .before .before .before in
+    let T = s .args .table .now in
+    let n = s .args .n in
+    let ρ = variablesOf (s .args .variables .now) in
+    let τ = temporariesOf (s .args .temporaries .now) in
+    let l = s .args .mem .now in
+    ran-does (statementAt T n) ρ (s .args .fuel) n (freed (memoryOf l) (c .before .before .before .evaluate-a .result))
+    (c .before .free-at .result) (c .conclude .result) l (c .before .free-at .last .0)
+    (run-free T n (s .pre .0 .is) ρ (memoryOf l) (s .args .fuel) (s .pre .1)
+    ∙ sym (ap (after n (s .args .fuel)) (ap (freed (memoryOf l)) (c .before .before .before .evaluate-a .ensures ∙ evaluated-alike T (childA T n) τ ρ (memoryOf l) (free-child source T n (s .pre .0 .is) (s .pre .1) .2)))))
+    (c .before .free-at .ensures) (c .conclude .ensures)
+
+pub release-spec : {M : Type 1} → statement M
+release-spec = tie.close (tie.spec evaluate-a-requires free-at-requires cast-conclude conclude-requires returns)

@@ -1,0 +1,194 @@
+// The watched run of a statement, by recursion on the record number; sequences and the turns of a while are loops.
+ghost use mathlib.Core.Logic.{_≢_};
+ghost use mathlib.Core.Path.{_≡_};
+ghost use Rattle.rules.specs.Records.{kindOf};
+ghost use Rattle.evaluation.specs.State.{variablesOf};
+ghost use Rattle.watched_statements.specs.Watching.{lent, Ready, Inside, enclosed, IsBranch, Ran, Runs};
+use blocks::Making;
+use rules::Test;
+use endings::Ended;
+
+// Runs statement n. Of a sequence A runs, and B where A finished; as B may be one again, they are a loop.
+pub fn run(
+    table: &[u8; 65536],
+    n: usize,
+    variables: &[u16; 64],
+    temporaries: &mut [u8; 1024],
+    mem: &mut [u8; 18424],
+    obs: &mut [u8; 3064],
+    fuel: u32,
+) -> Ended
+    requires { ⌜ Ready (now table) n (variablesOf (now variables)) (lent (now mem) (now obs) (now temporaries)) ⌝ }
+    ensures { λ r. ⌜ Runs (now (table .entry)) n (variablesOf (now (variables .entry))) fuel r
+        (lent (now (mem .entry)) (now (obs .entry)) (now (temporaries .entry)))
+        (lent (now (mem .exit)) (now (obs .exit)) (now (temporaries .exit))) ⌝ }
+{
+    let mut at = n;
+    let mut left = fuel;
+    while tables::kind(&table[..], at) == 44 {
+        let first = tables::child_a(&table[..], at);
+        let r = run(table, first, variables, temporaries, mem, obs, left);
+        if r.number != 0 {
+            return r;
+        }
+        left = r.fuel;
+        at = tables::child_b(&table[..], at);
+    }
+    run_single(table, at, variables, temporaries, mem, obs, left)
+}
+
+// Runs statement n, which is no sequence.
+fn run_single(
+    table: &[u8; 65536],
+    n: usize,
+    variables: &[u16; 64],
+    temporaries: &mut [u8; 1024],
+    mem: &mut [u8; 18424],
+    obs: &mut [u8; 3064],
+    fuel: u32,
+) -> Ended
+    requires { ⌜ Ready (now table) n (variablesOf (now variables)) (lent (now mem) (now obs) (now temporaries))
+        × (kindOf (now table) n ≢ 44) ⌝ }
+    ensures { λ r. ⌜ Runs (now (table .entry)) n (variablesOf (now (variables .entry))) fuel r
+        (lent (now (mem .entry)) (now (obs .entry)) (now (temporaries .entry)))
+        (lent (now (mem .exit)) (now (obs .exit)) (now (temporaries .exit))) ⌝ }
+{
+    match tables::kind(&table[..], n) {
+        45 | 66 => branch(table, n, variables, temporaries, mem, obs, fuel),
+        46 => repeat(table, n, variables, temporaries, mem, obs, fuel),
+        47 => enclose(table, n, variables, temporaries, mem, obs, fuel),
+        _ => watched_statements::step(table, n, variables, temporaries, mem, obs, fuel),
+    }
+}
+
+// B or C, by a condition or a temporary.
+fn branch(
+    table: &[u8; 65536],
+    n: usize,
+    variables: &[u16; 64],
+    temporaries: &mut [u8; 1024],
+    mem: &mut [u8; 18424],
+    obs: &mut [u8; 3064],
+    fuel: u32,
+) -> Ended
+    requires { ⌜ Ready (now table) n (variablesOf (now variables)) (lent (now mem) (now obs) (now temporaries))
+        × IsBranch (kindOf (now table) n) ⌝ }
+    ensures { λ r. ⌜ Runs (now (table .entry)) n (variablesOf (now (variables .entry))) fuel r
+        (lent (now (mem .entry)) (now (obs .entry)) (now (temporaries .entry)))
+        (lent (now (mem .exit)) (now (obs .exit)) (now (temporaries .exit))) ⌝ }
+{
+    let then = tables::child_b(&table[..], n);
+    let other = tables::child_c(&table[..], n);
+    match watched_statements::test(table, n, variables, &*temporaries, &*mem) {
+        Test::Yes => run(table, then, variables, temporaries, mem, obs, fuel),
+        Test::No => run(table, other, variables, temporaries, mem, obs, fuel),
+        Test::Stopped(k) => Ended {
+            number: k,
+            statement: watched_statements::statement_of(table, n),
+            fuel,
+        },
+    }
+}
+
+// B for as long as condition A is true. Each turn takes its unit of fuel before the condition.
+fn repeat(
+    table: &[u8; 65536],
+    n: usize,
+    variables: &[u16; 64],
+    temporaries: &mut [u8; 1024],
+    mem: &mut [u8; 18424],
+    obs: &mut [u8; 3064],
+    fuel: u32,
+) -> Ended
+    requires { ⌜ Ready (now table) n (variablesOf (now variables)) (lent (now mem) (now obs) (now temporaries))
+        × (kindOf (now table) n ≡ 46) ⌝ }
+    ensures { λ r. ⌜ Runs (now (table .entry)) n (variablesOf (now (variables .entry))) fuel r
+        (lent (now (mem .entry)) (now (obs .entry)) (now (temporaries .entry)))
+        (lent (now (mem .exit)) (now (obs .exit)) (now (temporaries .exit))) ⌝ }
+{
+    let b = tables::child_b(&table[..], n);
+    let mut left = fuel;
+    while left > 0 {
+        left -= 1;
+        match children::test_a(table, n, variables, &*temporaries, &*mem) {
+            Test::Yes => {
+                let r = run(table, b, variables, temporaries, mem, obs, left);
+                if r.number != 0 {
+                    return r;
+                }
+                left = r.fuel;
+            }
+            Test::No => {
+                return Ended {
+                    number: 0,
+                    statement: 0,
+                    fuel: left,
+                };
+            }
+            Test::Stopped(k) => {
+                return Ended {
+                    number: k,
+                    statement: watched_statements::statement_of(table, n),
+                    fuel: left,
+                };
+            }
+        }
+    }
+    Ended {
+        number: 32,
+        statement: watched_statements::statement_of(table, n),
+        fuel: 0,
+    }
+}
+
+// A, with a new block of one cell for the variable.
+fn enclose(
+    table: &[u8; 65536],
+    n: usize,
+    variables: &[u16; 64],
+    temporaries: &mut [u8; 1024],
+    mem: &mut [u8; 18424],
+    obs: &mut [u8; 3064],
+    fuel: u32,
+) -> Ended
+    requires { ⌜ Ready (now table) n (variablesOf (now variables)) (lent (now mem) (now obs) (now temporaries))
+        × (kindOf (now table) n ≡ 47) ⌝ }
+    ensures { λ r. ⌜ Runs (now (table .entry)) n (variablesOf (now (variables .entry))) fuel r
+        (lent (now (mem .entry)) (now (obs .entry)) (now (temporaries .entry)))
+        (lent (now (mem .exit)) (now (obs .exit)) (now (temporaries .exit))) ⌝ }
+{
+    match blocks::make(mem, false, 1) {
+        Making::Name(k) => run_inside(table, n, variables, temporaries, mem, obs, fuel, k),
+        Making::Stopped(c) => Ended {
+            number: c,
+            statement: watched_statements::statement_of(table, n),
+            fuel,
+        },
+    }
+}
+
+// Child A of statement n, its variable being block k, which then ends where A finished.
+fn run_inside(
+    table: &[u8; 65536],
+    n: usize,
+    variables: &[u16; 64],
+    temporaries: &mut [u8; 1024],
+    mem: &mut [u8; 18424],
+    obs: &mut [u8; 3064],
+    fuel: u32,
+    k: u16,
+) -> Ended
+    requires { ⌜ Inside (now table) n (variablesOf (now variables)) (lent (now mem) (now obs) (now temporaries)) k ⌝ }
+    ensures { λ r. ⌜ Ran (enclosed (now (table .entry)) n (variablesOf (now (variables .entry)))
+        (lent (now (mem .entry)) (now (obs .entry)) (now (temporaries .entry))) fuel k) r
+        (lent (now (mem .entry)) (now (obs .entry)) (now (temporaries .entry)))
+        (lent (now (mem .exit)) (now (obs .exit)) (now (temporaries .exit))) ⌝ }
+{
+    let inner = variables::name_variable(*variables, tables::mark(&table[..], n) as usize, k);
+    let body = tables::child_a(&table[..], n);
+    let r = run(table, body, &inner, temporaries, mem, obs, fuel);
+    if r.number == 0 {
+        freeing::end(mem, k);
+    }
+    r
+}
