@@ -26,7 +26,7 @@ use Rattle.rules.proofs.Reachable.{startVariables-fit}
 use Rattle.rules.proofs.ReachableRoundTrip.{start-inside, plain-round-trip}
 use Rattle.rules.proofs.Padding.{node-padded}
 use Rattle.rules.proofs.PlainArms.{statementAt}
-use Rattle.statements.specs.declared.Ended.{Ended}
+use Rattle.endings.specs.declared.Ended.{Ended}
 use Rattle.plain.specs.Running.{Ready, resultOf, Ran, AnsweredBy}
 use Rattle.plain.proofs.Laws.{ran-is}
 

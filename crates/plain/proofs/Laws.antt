@@ -15,9 +15,10 @@ use Rattle.rules.specs.declared.Test.{Test}
 use Rattle.rules.specs.declared.Test.the-variants as test
 use Rattle.rules.proofs.Keeping.{Ending}
 use Rattle.rules.proofs.Endings.{PlainEnds, run-endings}
-use Rattle.statements.specs.declared.Ended.{Ended}
+use Rattle.endings.specs.declared.Ended.{Ended}
 use Rattle.statements.proofs.ChangeLaws.{becomes-same, becomes-then}
-use Rattle.statements.specs.Ending.{result, concluded, assertNumber, Does}
+use Rattle.endings.specs.Ending.{result, concluded, assertNumber}
+use Rattle.statements.specs.Changing.{Does}
 use Rattle.plain.specs.Running.{Ran}
 
 -- ---- outcomes

@@ -21,8 +21,8 @@ use Rattle.rules.proofs.PlainArms.{HasSort, expressionAt, statementAt, run-bran
 use Rattle.cells.specs.Changes.{Becomes}
 use Rattle.blocks.specs.Blocks.{makingOf, madeMemory}
 use Rattle.blocks.specs.declared.Making.the-variants as making
-use Rattle.statements.specs.declared.Ended.{Ended}
-use Rattle.statements.specs.Ending.{result}
+use Rattle.endings.specs.declared.Ended.{Ended}
+use Rattle.endings.specs.Ending.{result}
 use Rattle.plain.specs.Running.{Ready, Inside, enclosed, resultOf, Ran}
 use Rattle.statements.proofs.ChangeLaws.{becomes-is, becomes-then, made-by, unmade-by, name-fits}
 use Rattle.plain.proofs.Laws.{ran-is, run-finished, next-goes, next-stays}

@@ -15,8 +15,8 @@ use Rattle.rules.proofs.Reachable.{NamesFit}
 use Rattle.rules.proofs.PlainArms.{HasSort, statementAt}
 use Rattle.tables.specs.Within.{Within}
 use Rattle.cells.specs.Changes.{Becomes}
-use Rattle.statements.specs.declared.Ended.{Ended}
-use Rattle.statements.specs.Ending.{result}
+use Rattle.endings.specs.declared.Ended.{Ended}
+use Rattle.endings.specs.Ending.{result}
 
 -- statement n may run: its numbers and names fit, and so do those that it finds
 pub record Ready (t : List ℕ) (n : ℕ) (ρ : Variables) (m : Memory) : Type 0 where

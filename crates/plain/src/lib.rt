@@ -17,10 +17,10 @@ ghost use Rattle.tables.specs.Within.{Within};
 ghost use Rattle.evaluation.specs.State.{variablesOf};
 ghost use Rattle.plain.specs.Running.{Ready, Inside, enclosed, Ran, AnsweredBy};
 use blocks::Making;
+use endings::Ended;
 use rules::Answer;
 use rules::Checked;
 use rules::Test;
-use statements::Ended;
 
 // What condition A says.
 fn test_a(
@@ -34,7 +34,7 @@ fn test_a(
     ensures { λ r. ⌜ r ≡ condition (evaluateSource (expressionAt (now (table .entry)) (childA (now (table .entry)) n))
         (variablesOf (now (variables .entry))) (memoryOf (now (mem .entry)))) ⌝ }
 {
-    statements::test_a(table, n, variables, temporaries, mem)
+    children::test_a(table, n, variables, temporaries, mem)
 }
 
 // What predicate A says.
@@ -67,9 +67,9 @@ fn assign(
     ensures { λ r. ⌜ Ran (run (statementAt (now (table .entry)) n) (variablesOf (now (variables .entry)))
         (memoryOf (now (mem .entry))) fuel) r (now (mem .entry)) (now (mem .exit)) ⌝ }
 {
-    let f = statements::find_a(table, n, variables, temporaries, &*mem);
-    let e = statements::evaluate_b(table, n, variables, temporaries, &*mem);
-    statements::conclude(statements::store_at(mem, f, e), n as u32, fuel)
+    let f = children::find_a(table, n, variables, temporaries, &*mem);
+    let e = children::evaluate_b(table, n, variables, temporaries, &*mem);
+    endings::conclude(statements::store_at(mem, f, e), n as u32, fuel)
 }
 
 // Place A takes a new block of B cells.
@@ -86,9 +86,9 @@ fn allocate(
     ensures { λ r. ⌜ Ran (run (statementAt (now (table .entry)) n) (variablesOf (now (variables .entry)))
         (memoryOf (now (mem .entry))) fuel) r (now (mem .entry)) (now (mem .exit)) ⌝ }
 {
-    let f = statements::find_a(table, n, variables, temporaries, &*mem);
-    let e = statements::evaluate_b(table, n, variables, temporaries, &*mem);
-    statements::conclude(statements::new_at(mem, f, e), n as u32, fuel)
+    let f = children::find_a(table, n, variables, temporaries, &*mem);
+    let e = children::evaluate_b(table, n, variables, temporaries, &*mem);
+    endings::conclude(statements::new_at(mem, f, e), n as u32, fuel)
 }
 
 // What A points to is freed.
@@ -105,8 +105,8 @@ fn release(
     ensures { λ r. ⌜ Ran (run (statementAt (now (table .entry)) n) (variablesOf (now (variables .entry)))
         (memoryOf (now (mem .entry))) fuel) r (now (mem .entry)) (now (mem .exit)) ⌝ }
 {
-    let e = statements::evaluate_a(table, n, variables, temporaries, &*mem);
-    statements::conclude(statements::free_at(mem, e), n as u32, fuel)
+    let e = children::evaluate_a(table, n, variables, temporaries, &*mem);
+    endings::conclude(statements::free_at(mem, e), n as u32, fuel)
 }
 
 // Predicate A is asserted.
@@ -124,7 +124,7 @@ fn assert(
         (memoryOf (now (mem .entry))) fuel) r (now (mem .entry)) (now (mem .exit)) ⌝ }
 {
     let t = test_predicate(table, n, variables, temporaries, &*mem);
-    statements::conclude(statements::assert_number(t), n as u32, fuel)
+    endings::conclude(endings::assert_number(t), n as u32, fuel)
 }
 
 // Runs statement n. Of a sequence A runs, and B where A finished; as B may be one again, they are a loop.
@@ -310,7 +310,7 @@ fn run_inside(
     ensures { λ r. ⌜ Ran (enclosed (now (table .entry)) n (variablesOf (now (variables .entry)))
         (memoryOf (now (mem .entry))) fuel k) r (now (mem .entry)) (now (mem .exit)) ⌝ }
 {
-    let inner = statements::name_variable(*variables, tables::mark(&table[..], n) as usize, k);
+    let inner = variables::name_variable(*variables, tables::mark(&table[..], n) as usize, k);
     let r = run(
         table,
         tables::child_a(&table[..], n),
@@ -331,7 +331,7 @@ fn run_from_start(table: &[u8; 65536], n: usize, mem: &mut [u8; 18424], fuel: u3
     ensures { λ r. ⌜ Ran (run (statementAt (now (table .entry)) n) startVariables (memoryOf (now (mem .entry))) fuel) r
         (now (mem .entry)) (now (mem .exit)) ⌝ }
 {
-    let variables = statements::start_variables();
+    let variables = variables::start_variables();
     let temporaries = [0u8; 1024];
     run(table, n, &variables, &temporaries, mem, fuel)
 }
@@ -343,7 +343,7 @@ fn run_table(table: &[u8], mem: &mut [u8; 18424], fuel: u32) -> Ended
         (now (mem .entry)) (now (mem .exit)) ⌝ }
 {
     let mut whole = [0u8; 65536];
-    statements::copy(&mut whole[..], table);
+    buffers::copy(&mut whole[..], table);
     run_from_start(&whole, table.len() / 16, mem, fuel)
 }
 
@@ -358,7 +358,7 @@ fn run_inputs(table: &[u8], inputs: &[u8], fuel: u32, memory: &mut [u8]) -> Answ
     memory::start(&mut mem, inputs);
     let r = run_table(table, &mut mem, fuel);
     let free_cells = blocks::count_free(&mem);
-    statements::copy(memory, &mem[..]);
+    buffers::copy(memory, &mem[..]);
     Answer {
         number: r.number,
         record: r.statement,
@@ -373,11 +373,11 @@ fn run_accepted(table: &[u8], inputs: &[u8], fuel: u32, memory: &mut [u8]) -> An
     ensures { λ r. ⌜ AnsweredBy (plainBy checked.Accepted (now (table .entry)) (now (inputs .entry)) fuel
         (now (memory .entry))) r (now (memory .exit)) ⌝ }
 {
-    if statements::has_inputs_fault(inputs) {
-        return statements::refuse(9, 0);
+    if buffers::has_inputs_fault(inputs) {
+        return endings::refuse(9, 0);
     }
     if memory.len() != 18424 {
-        return statements::refuse(21, 0);
+        return endings::refuse(21, 0);
     }
     run_inputs(table, inputs, fuel, memory)
 }
@@ -389,6 +389,6 @@ pub fn run_plain(table: &[u8], inputs: &[u8], fuel: u32, memory: &mut [u8]) -> A
 {
     match checker::check_source(table) {
         Checked::Accepted => run_accepted(table, inputs, fuel, memory),
-        Checked::Refused(k, n) => statements::refuse(k, n),
+        Checked::Refused(k, n) => endings::refuse(k, n),
     }
 }

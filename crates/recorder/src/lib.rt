@@ -171,7 +171,7 @@ fn run_accepted(
         (lent (now (out .entry)) (now (memory .entry)) (now (second .entry)) (now (observation .entry))) (r .plain) (r .watched)
         (lent (now (out .exit)) (now (memory .exit)) (now (second .exit)) (now (observation .exit))) ⌝ }
 {
-    if statements::has_inputs_fault(inputs) {
+    if buffers::has_inputs_fault(inputs) {
         return refuse_both(9, 0);
     }
     if memory.len() != 18424 {

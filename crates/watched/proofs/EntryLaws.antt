@@ -37,7 +37,7 @@ use Rattle.rules.proofs.ReachableRoundTrip.{start-inside, watched-round-trip}
 use Rattle.rules.proofs.Padding.{node-padded}
 use Rattle.rules.proofs.TargetFields.{statementAt}
 use Rattle.temporaries.specs.Bytes.{temporaryIn, temporaryPlace, temporaryAt, temporariesOf}
-use Rattle.statements.specs.declared.Ended.{Ended}
+use Rattle.endings.specs.declared.Ended.{Ended}
 use Rattle.watched_statements.specs.Watching.{lent, Ready, resultOf, Ran, Leaves, watchFrom, AnsweredBy}
 
 -- ---- the start

@@ -19,8 +19,8 @@ use Rattle.cells.specs.Changes.{Becomes}
 use Rattle.blocks.specs.Blocks.{makingOf, madeMemory}
 use Rattle.blocks.specs.declared.Making.the-variants as making
 use Rattle.temporaries.specs.Bytes.{temporariesOf}
-use Rattle.statements.specs.declared.Ended.{Ended}
-use Rattle.statements.specs.Ending.{result}
+use Rattle.endings.specs.declared.Ended.{Ended}
+use Rattle.endings.specs.Ending.{result}
 use Rattle.statements.proofs.ChangeLaws.{becomes-is, made-by, unmade-by}
 use Rattle.watched_statements.specs.Watching.{Lent, lent, goFrom, watchFrom, LentFits, Ready, enclosed, IsBranch, choice, resultOf, Ran}
 use Rattle.watched_statements.proofs.Choices.{choice-on, choice-of}

@@ -15,10 +15,10 @@ ghost use Rattle.rules.specs.declared.Checked.the-variants as checked;
 ghost use Rattle.rules.proofs.Fits.{FitsMemory, FitsObservation};
 ghost use Rattle.rules.proofs.TargetFields.{statementAt};
 ghost use Rattle.watched_statements.specs.Watching.{lent, Ready, Leaves, AnsweredBy};
+use endings::Ended;
 use rules::Answer;
 use rules::Checked;
 use runs::run;
-use statements::Ended;
 
 // Runs statement n with the variables and temporaries of the start.
 fn run_from_start(
@@ -33,7 +33,7 @@ fn run_from_start(
         (observationOf (now (obs .entry))) startTemporaries fuel) r
         (now (mem .entry)) (now (mem .exit)) (now (obs .entry)) (now (obs .exit)) ⌝ }
 {
-    let variables = statements::start_variables();
+    let variables = variables::start_variables();
     let mut temporaries = [0u8; 1024];
     run(table, n, &variables, &mut temporaries, mem, obs, fuel)
 }
@@ -47,7 +47,7 @@ fn run_table(table: &[u8], mem: &mut [u8; 18424], obs: &mut [u8; 3064], fuel: u3
         (now (mem .entry)) (now (mem .exit)) (now (obs .entry)) (now (obs .exit)) ⌝ }
 {
     let mut whole = [0u8; 65536];
-    statements::copy(&mut whole[..], table);
+    buffers::copy(&mut whole[..], table);
     run_from_start(&whole, table.len() / 16, mem, obs, fuel)
 }
 
@@ -91,8 +91,8 @@ fn run_inputs(
     let mut mem = [0u8; 18424];
     let mut obs = [0u8; 3064];
     let answer = run_memories(table, inputs, fuel, &mut mem, &mut obs);
-    statements::copy(memory, &mem[..]);
-    statements::copy(observation, &obs[..]);
+    buffers::copy(memory, &mem[..]);
+    buffers::copy(observation, &obs[..]);
     answer
 }
 
@@ -108,14 +108,14 @@ fn run_accepted(
     ensures { λ r. ⌜ AnsweredBy (watchedBy checked.Accepted (now (table .entry)) (now (inputs .entry)) fuel
         (now (memory .entry)) (now (observation .entry))) r (now (memory .exit)) (now (observation .exit)) ⌝ }
 {
-    if statements::has_inputs_fault(inputs) {
-        return statements::refuse(9, 0);
+    if buffers::has_inputs_fault(inputs) {
+        return endings::refuse(9, 0);
     }
     if memory.len() != 18424 {
-        return statements::refuse(21, 0);
+        return endings::refuse(21, 0);
     }
     if observation.len() != 3064 {
-        return statements::refuse(22, 0);
+        return endings::refuse(22, 0);
     }
     run_inputs(table, inputs, fuel, memory, observation)
 }
@@ -133,6 +133,6 @@ pub fn run_watched(
 {
     match checker::check_target(table) {
         Checked::Accepted => run_accepted(table, inputs, fuel, memory, observation),
-        Checked::Refused(k, n) => statements::refuse(k, n),
+        Checked::Refused(k, n) => endings::refuse(k, n),
     }
 }

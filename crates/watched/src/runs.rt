@@ -5,8 +5,8 @@ ghost use Rattle.rules.specs.Records.{kindOf};
 ghost use Rattle.evaluation.specs.State.{variablesOf};
 ghost use Rattle.watched_statements.specs.Watching.{lent, Ready, Inside, enclosed, IsBranch, Ran, Runs};
 use blocks::Making;
+use endings::Ended;
 use rules::Test;
-use statements::Ended;
 
 // Runs statement n. Of a sequence A runs, and B where A finished; as B may be one again, they are a loop.
 pub fn run(
@@ -110,7 +110,7 @@ fn repeat(
     let mut left = fuel;
     while left > 0 {
         left -= 1;
-        match statements::test_a(table, n, variables, &*temporaries, &*mem) {
+        match children::test_a(table, n, variables, &*temporaries, &*mem) {
             Test::Yes => {
                 let r = run(table, b, variables, temporaries, mem, obs, left);
                 if r.number != 0 {
@@ -184,7 +184,7 @@ fn run_inside(
         (lent (now (mem .entry)) (now (obs .entry)) (now (temporaries .entry)))
         (lent (now (mem .exit)) (now (obs .exit)) (now (temporaries .exit))) ⌝ }
 {
-    let inner = statements::name_variable(*variables, tables::mark(&table[..], n) as usize, k);
+    let inner = variables::name_variable(*variables, tables::mark(&table[..], n) as usize, k);
     let body = tables::child_a(&table[..], n);
     let r = run(table, body, &inner, temporaries, mem, obs, fuel);
     if r.number == 0 {

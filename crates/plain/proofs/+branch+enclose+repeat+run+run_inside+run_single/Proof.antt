@@ -12,7 +12,7 @@ use Rattle.rules.specs.Kinds.{source}
 use Rattle.rules.proofs.StatementArms.{sequence-children, branch-children, while-children}
 use Rattle.rules.proofs.PlainArms.{statementAt, statement-kinds, run-skip, run-sequence}
 use Rattle.evaluation.specs.State.{variablesOf}
-use Rattle.statements.specs.Ending.{result}
+use Rattle.endings.specs.Ending.{result}
 use Rattle.statements.proofs.ChangeLaws.{becomes-same}
 use Rattle.plain.specs.Running.{Ready}
 use Rattle.plain.proofs.Laws.{ran-is, next-stays}
@@ -43,7 +43,7 @@ use Rattle.blocks.proofs.make.Reads as make-reads
 use Rattle.plain.proofs.allocate.Reads as allocate-reads
 use Rattle.plain.proofs.assert.Reads as assert-reads
 use Rattle.plain.proofs.assign.Reads as assign-reads
-use Rattle.statements.proofs.name_variable.Reads as name-variable-reads
+use Rattle.variables.proofs.name_variable.Reads as name-variable-reads
 use Rattle.plain.proofs.release.Reads as release-reads
 use Rattle.plain.proofs.test_a.Reads as test-a-reads
 use Rattle.tables.proofs.child_a.Reads as child-a-reads

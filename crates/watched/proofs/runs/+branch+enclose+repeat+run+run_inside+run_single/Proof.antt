@@ -42,8 +42,8 @@ use Rattle.watched.proofs.runs.run_single.Kinds as run-single-kinds
 use Rattle.watched.proofs.runs.+branch+enclose+repeat+run+run_inside+run_single.Lts-run_single as run-single-lts
 use Rattle.blocks.proofs.end.Reads as end-reads
 use Rattle.blocks.proofs.make.Reads as make-reads
-use Rattle.statements.proofs.name_variable.Reads as name-variable-reads
-use Rattle.statements.proofs.test_a.Reads as test-a-reads
+use Rattle.variables.proofs.name_variable.Reads as name-variable-reads
+use Rattle.children.proofs.test_a.Reads as test-a-reads
 use Rattle.tables.proofs.child_a.Reads as child-a-reads
 use Rattle.tables.proofs.child_b.Reads as child-b-reads
 use Rattle.tables.proofs.child_c.Reads as child-c-reads
