@@ -17,7 +17,8 @@ use Rattle.rules.proofs.Keeping.{Ending}
 use Rattle.rules.proofs.Endings.{PlainEnds, run-endings}
 use Rattle.endings.specs.declared.Ended.{Ended}
 use Rattle.statements.proofs.ChangeLaws.{becomes-same, becomes-then}
-use Rattle.endings.specs.Ending.{result, concluded, assertNumber, Does}
+use Rattle.endings.specs.Ending.{result, concluded, assertNumber}
+use Rattle.statements.specs.Changing.{Does}
 use Rattle.plain_runs.specs.Running.{Ran}
 
 -- ---- outcomes

@@ -8,24 +8,18 @@ ghost use Rattle.rules.specs.Checker.{check};
 ghost use Rattle.rules.specs.declared.Checked.the-variants as checked;
 ghost use Rattle.recorder.specs.BothRuns.{lent, both, Ready, AnsweredBoth};
 
-fn answer_with(number: u32, record: u32) -> Answer
-    ensures { λ r. ⌜ r ≡ answer number «record» 0 0 ⌝ }
-{
-    Answer {
-        number,
-        record,
-        fuel: 0,
-        free_cells: 0,
-    }
-}
-
 // A checker's word as an answer: 0 and record 0, or the refusal's number and record.
 fn answer_of(c: Checked) -> Answer
     ensures { λ r. ⌜ r ≡ checkedAnswer c ⌝ }
 {
     match c {
-        Checked::Accepted => answer_with(0, 0),
-        Checked::Refused(number, record) => answer_with(number, record),
+        Checked::Accepted => Answer {
+            number: 0,
+            record: 0,
+            fuel: 0,
+            free_cells: 0,
+        },
+        Checked::Refused(number, record) => endings::refuse(number, record),
     }
 }
 
@@ -50,7 +44,7 @@ pub extern "C" fn recorder_translate(table: &[u8], out: &mut [u8]) -> Answer
 {
     match checker::check_source(table) {
         Checked::Accepted => translation::translate_accepted(table, out),
-        Checked::Refused(rule, record) => answer_with(rule, record),
+        Checked::Refused(rule, record) => endings::refuse(rule, record),
     }
 }
 
@@ -96,8 +90,8 @@ fn refuse_both(number: u32, record: u32) -> Both
     ensures { λ r. ⌜ r ≡ both (answer number «record» 0 0) (answer number «record» 0 0) ⌝ }
 {
     Both {
-        plain: answer_with(number, record),
-        watched: answer_with(number, record),
+        plain: endings::refuse(number, record),
+        watched: endings::refuse(number, record),
     }
 }
 
@@ -171,7 +165,7 @@ fn run_accepted(
         (lent (now (out .entry)) (now (memory .entry)) (now (second .entry)) (now (observation .entry))) (r .plain) (r .watched)
         (lent (now (out .exit)) (now (memory .exit)) (now (second .exit)) (now (observation .exit))) ⌝ }
 {
-    if statements::has_inputs_fault(inputs) {
+    if buffers::has_inputs_fault(inputs) {
         return refuse_both(9, 0);
     }
     if memory.len() != 18424 {

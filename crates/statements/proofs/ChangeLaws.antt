@@ -23,7 +23,7 @@ use Rattle.cells.specs.Changes.{Becomes, EvaluatedFits}
 use Rattle.blocks.specs.Blocks.{makingOf, madeMemory}
 use Rattle.blocks.specs.declared.Making.{Making}
 use Rattle.blocks.specs.declared.Making.the-variants as making
-use Rattle.statements.specs.Ending.{Does}
+use Rattle.statements.specs.Changing.{Does}
 
 -- ---- changes of the bytes, one after the other
 pub becomes-same : {l : List ℕ} {m : Memory} → memoryOf l ≡ m → Becomes l l m

@@ -1,3 +1,2 @@
--- Laws for the proofs of what both runs share.
+-- Laws for the proofs of a statement's changes.
 pub mod ChangeLaws
-pub mod EntryLaws

@@ -1,3 +1,2 @@
--- What the code that both runs share is held to.
-pub mod Ending
-pub mod Children
+-- What a statement's changes of the execution memory are held to.
+pub mod Changing

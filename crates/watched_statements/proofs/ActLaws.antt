@@ -21,7 +21,8 @@ use Rattle.rules.proofs.Keeping.{Ending}
 use Rattle.rules.proofs.Endings.{WatchedEnds, watch-endings}
 use Rattle.rules.proofs.TargetFields.{HasSort, statement-kinds}
 use Rattle.temporaries.specs.Bytes.{temporariesOf}
-use Rattle.statements.specs.Ending.{result, concluded, assertNumber, Does}
+use Rattle.endings.specs.Ending.{result, concluded, assertNumber}
+use Rattle.statements.specs.Changing.{Does}
 use Rattle.statements.proofs.ChangeLaws.{becomes-same}
 use Rattle.steps.specs.Steps.{Takes, Observes}
 use Rattle.watched_statements.specs.Watching.{lent, goFrom, watchFrom, IsAct, Ran}

@@ -15,8 +15,8 @@ use Rattle.rules.proofs.Endings.{WatchedEnds, watch-endings}
 use Rattle.cells.specs.Changes.{Becomes, Exact}
 use Rattle.observation.specs.Calls.{ObservationBecomes}
 use Rattle.temporaries.specs.Bytes.{temporariesOf}
-use Rattle.statements.specs.declared.Ended.{Ended}
-use Rattle.statements.specs.Ending.{result}
+use Rattle.endings.specs.declared.Ended.{Ended}
+use Rattle.endings.specs.Ending.{result}
 use Rattle.statements.proofs.ChangeLaws.{becomes-same}
 use Rattle.watched_statements.specs.Watching.{Lent, lent, goFrom, watchFrom, Ran}
 

@@ -26,7 +26,7 @@ use Rattle.cells.specs.Changes.{Becomes, EvaluatedFits}
 use Rattle.blocks.specs.Blocks.{makingOf, madeMemory}
 use Rattle.blocks.specs.declared.Making.the-variants as making
 use Rattle.temporaries.specs.Bytes.{temporariesOf}
-use Rattle.statements.specs.declared.Ended.{Ended}
+use Rattle.endings.specs.declared.Ended.{Ended}
 use Rattle.statements.proofs.ChangeLaws.{names-fit, made-by, name-fits}
 use Rattle.watched_statements.specs.Watching.{Lent, lent, watchFrom, LentFits, Ready, Inside, IsBranch, Ran}
 

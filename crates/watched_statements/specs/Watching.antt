@@ -24,8 +24,8 @@ use Rattle.tables.specs.Within.{Within}
 use Rattle.cells.specs.Changes.{Becomes}
 use Rattle.observation.specs.Calls.{ObservationBecomes}
 use Rattle.temporaries.specs.Bytes.{temporariesOf}
-use Rattle.statements.specs.declared.Ended.{Ended}
-use Rattle.statements.specs.Ending.{result, concluded}
+use Rattle.endings.specs.declared.Ended.{Ended}
+use Rattle.endings.specs.Ending.{result, concluded}
 
 -- the bytes that a run changes: both memories and the temporaries
 pub record Lent : Type 0 where

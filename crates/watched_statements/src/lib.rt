@@ -14,12 +14,13 @@ ghost use Rattle.rules.proofs.TargetFields.{HasSort, numberAt};
 ghost use Rattle.cells.specs.Changes.{EvaluatedFits};
 ghost use Rattle.evaluation.specs.State.{variablesOf};
 ghost use Rattle.temporaries.specs.Bytes.{temporariesOf};
-ghost use Rattle.statements.specs.Children.{foundIn, valueIn};
-ghost use Rattle.statements.specs.Ending.{assertNumber, Does};
+ghost use Rattle.children.specs.Children.{foundIn, valueIn};
+ghost use Rattle.endings.specs.Ending.{assertNumber};
+ghost use Rattle.statements.specs.Changing.{Does};
 ghost use Rattle.steps.specs.Steps.{Takes, Observes};
 ghost use Rattle.watched_statements.specs.Watching.{lent, Ready, IsAct, IsBranch, choice, Runs, Acts};
+use endings::Ended;
 use rules::Test;
-use statements::Ended;
 
 // The source statement that record n came from.
 pub fn statement_of(table: &[u8; 65536], n: usize) -> u32
@@ -47,8 +48,8 @@ fn assign(
         (now (temporaries .entry)) (now (mem .entry))))
         r (now (mem .entry)) (now (mem .exit)) ⌝ }
 {
-    let f = statements::find_a(table, n, variables, temporaries, &*mem);
-    let e = statements::evaluate_b(table, n, variables, temporaries, &*mem);
+    let f = children::find_a(table, n, variables, temporaries, &*mem);
+    let e = children::evaluate_b(table, n, variables, temporaries, &*mem);
     statements::store_at(mem, f, e)
 }
 
@@ -68,8 +69,8 @@ fn allocate(
         (now (temporaries .entry)) (now (mem .entry))))
         r (now (mem .entry)) (now (mem .exit)) ⌝ }
 {
-    let f = statements::find_a(table, n, variables, temporaries, &*mem);
-    let e = statements::evaluate_b(table, n, variables, temporaries, &*mem);
+    let f = children::find_a(table, n, variables, temporaries, &*mem);
+    let e = children::evaluate_b(table, n, variables, temporaries, &*mem);
     statements::new_at(mem, f, e)
 }
 
@@ -87,7 +88,7 @@ fn release(
         (now (temporaries .entry)) (now (mem .entry))))
         r (now (mem .entry)) (now (mem .exit)) ⌝ }
 {
-    let e = statements::evaluate_a(table, n, variables, temporaries, &*mem);
+    let e = children::evaluate_a(table, n, variables, temporaries, &*mem);
     statements::free_at(mem, e)
 }
 
@@ -104,7 +105,7 @@ fn take_address(
         (addressOf (foundIn (now (table .entry)) (childA (now (table .entry)) n) (now (variables .entry))
         (now (temporaries .entry)) (now (mem .entry)))) ⌝ }
 {
-    let f = statements::find_a(table, n, variables, &*temporaries, mem);
+    let f = children::find_a(table, n, variables, &*temporaries, mem);
     let e = values::address(f);
     steps::take_evaluated(temporaries, tables::mark(&table[..], n) as usize, e)
 }
@@ -122,7 +123,7 @@ fn take_value(
         (valueIn (now (table .entry)) (childA (now (table .entry)) n) (now (variables .entry))
         (now (temporaries .entry)) (now (mem .entry))) ⌝ }
 {
-    let e = statements::evaluate_a(table, n, variables, &*temporaries, mem);
+    let e = children::evaluate_a(table, n, variables, &*temporaries, mem);
     steps::take_evaluated(temporaries, tables::mark(&table[..], n) as usize, e)
 }
 
@@ -168,7 +169,7 @@ fn assert(table: &[u8; 65536], n: usize, temporaries: &[u8; 1024]) -> u32
         (markOf (now (table .entry)) n))) ⌝ }
 {
     let t = steps::test_temporary(temporaries, tables::mark(&table[..], n) as usize);
-    statements::assert_number(t)
+    endings::assert_number(t)
 }
 
 // 68: the block that the temporary points to is recorded, the next being its length.
@@ -261,7 +262,7 @@ pub fn step(
         (lent (now (mem .exit)) (now (obs .exit)) (now (temporaries .exit))) ⌝ }
 {
     let number = act(table, n, variables, temporaries, mem, obs);
-    statements::conclude(number, statement_of(table, n), fuel)
+    endings::conclude(number, statement_of(table, n), fuel)
 }
 
 // What decides between B and C: condition A of 45, the temporary of 66.
@@ -279,5 +280,5 @@ pub fn test(
     if tables::kind(&table[..], n) == 66 {
         return steps::test_temporary(temporaries, tables::mark(&table[..], n) as usize);
     }
-    statements::test_a(table, n, variables, temporaries, mem)
+    children::test_a(table, n, variables, temporaries, mem)
 }

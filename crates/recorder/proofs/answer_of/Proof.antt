@@ -8,21 +8,18 @@ use Rattle.recorder.proofs.answer_of.Tie as tie
 enum-told : tie.Need-enum-told
 enum-told c = search needs
 
-answer-with-requires : tie.Need-answer-with-requires
-answer-with-requires c κs = search needs
-
 enum-known-c : tie.Need-enum-known-c
 enum-known-c c = search needs
 
-answer-with-requires-2 : tie.Need-answer-with-requires-2
-answer-with-requires-2 c κs = search needs
+refuse-requires : tie.Need-refuse-requires
+refuse-requires c κs = search needs
 
 returns : tie.Need-returns
-returns c = c .answer-with .ensures ∙ sym (ap checkedAnswer (c .before .enum-told .given .1))
+returns c = sym (ap checkedAnswer (c .enum-told .given .1))
 
 returns-2 : tie.Need-returns-2
-returns-2 c = c .answer-with2 .ensures ∙ sym (ap checkedAnswer (c .before .before .c .given .1))
+returns-2 c = c .refuse .ensures ∙ sym (ap checkedAnswer (c .before .before .c .given .1))
 
 pub answer-of-spec : {M : Type 1} → statement M
 answer-of-spec =
-    tie.close (tie.spec enum-told answer-with-requires enum-known-c answer-with-requires-2 returns returns-2)
+    tie.close (tie.spec enum-told enum-known-c refuse-requires returns returns-2)

@@ -21,8 +21,8 @@ translate-accepted-requires c κs =
 enum-known-rule : tie.Need-enum-known-rule
 enum-known-rule c = search needs
 
-answer-with-requires : tie.Need-answer-with-requires
-answer-with-requires c κs = search needs
+refuse-requires : tie.Need-refuse-requires
+refuse-requires c κs = search needs
 
 same-length : tie.Need-same-length
 same-length c = search needs
@@ -44,12 +44,12 @@ returns-2 c =
     let k = n .before .before in
     let s = k .before .before .before in
     let d = sym (sym (k .check-source .ensures) ∙ n .rule .given .1) in (
-      c .answer-with .ensures ∙ ap (λ x. translatedBy x (now (s .args .table)) (now (s .args .out)) .answer) d,
+      c .refuse .ensures ∙ ap (λ x. translatedBy x (now (s .args .table)) (now (s .args .out)) .answer) d,
       ap (λ x. translatedBy x (now (s .args .table)) (now (s .args .out)) .out) d,
     )
 
 pub recorder-translate-spec : {M : Type 1} → statement M
 recorder-translate-spec =
     tie.close
-    (tie.spec check-source-requires enum-told translate-accepted-requires enum-known-rule answer-with-requires same-length
+    (tie.spec check-source-requires enum-told translate-accepted-requires enum-known-rule refuse-requires same-length
     returns returns-2)

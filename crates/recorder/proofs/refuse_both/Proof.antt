@@ -5,14 +5,14 @@ use Rattle.recorder.specs.BothRuns.{both}
 use Rattle.recorder.proofs.refuse_both.Statement.{statement}
 use Rattle.recorder.proofs.refuse_both.Tie as tie
 
-answer-with-requires : tie.Need-answer-with-requires
-answer-with-requires c κs = search needs
+refuse-requires : tie.Need-refuse-requires
+refuse-requires c κs = search needs
 
-answer-with-requires-2 : tie.Need-answer-with-requires-2
-answer-with-requires-2 c κs = search needs
+refuse-requires-2 : tie.Need-refuse-requires-2
+refuse-requires-2 c κs = search needs
 
 returns : tie.Need-returns
-returns c = ap₂ both (c .before .answer-with .ensures) (c .answer-with2 .ensures)
+returns c = ap₂ both (c .before .refuse .ensures) (c .refuse2 .ensures)
 
 pub refuse-both-spec : {M : Type 1} → statement M
-refuse-both-spec = tie.close (tie.spec answer-with-requires answer-with-requires-2 returns)
+refuse-both-spec = tie.close (tie.spec refuse-requires refuse-requires-2 returns)

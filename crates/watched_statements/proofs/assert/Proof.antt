@@ -7,7 +7,7 @@ use Rattle.rules.specs.Watched.{heldIn}
 use Rattle.rules.proofs.StatementArms.{statement-within}
 use Rattle.rules.proofs.TargetFields.{assert-on-fields}
 use Rattle.temporaries.specs.Bytes.{temporariesOf}
-use Rattle.statements.specs.Ending.{assertNumber}
+use Rattle.endings.specs.Ending.{assertNumber}
 use borrow.Author.Needs.{needs}
 use Rattle.watched_statements.proofs.assert.Statement.{statement}
 use Rattle.watched_statements.proofs.assert.Tie as tie

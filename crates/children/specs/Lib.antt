@@ -1,0 +1,2 @@
+-- What a statement finds in its children.
+pub mod Children

@@ -1,0 +1,78 @@
+// A statement's place, values and condition, which are its children.
+ghost use mathlib.Core.Path.{_≡_};
+ghost use Rattle.rules.specs.Records.{childA, childB};
+ghost use Rattle.rules.specs.Kinds.{target, sortNumber, expression, place};
+ghost use Rattle.rules.specs.Nodes.{sortOfNode, nodeAt};
+ghost use Rattle.rules.specs.Evaluation.{condition};
+ghost use Rattle.tables.specs.Within.{Within};
+ghost use Rattle.children.specs.Children.{foundIn, valueIn};
+use rules::Evaluated;
+use rules::Found;
+use rules::Test;
+
+// The place that is child A of statement n.
+pub fn find_a(
+    table: &[u8; 65536],
+    n: usize,
+    variables: &[u16; 64],
+    temporaries: &[u8; 1024],
+    mem: &[u8; 18424],
+) -> Found
+    requires { ⌜ Within (now table) n
+        × (sortOfNode target (nodeAt target (now table) (childA (now table) n)) ≡ sortNumber place) ⌝ }
+    ensures { λ r. ⌜ r ≡ foundIn (now (table .entry)) (childA (now (table .entry)) n)
+        (now (variables .entry)) (now (temporaries .entry)) (now (mem .entry)) ⌝ }
+{
+    let place = tables::child_a(&table[..], n);
+    evaluation::find_place(table, place, variables, temporaries, mem)
+}
+
+// The value of child A, and of child B.
+pub fn evaluate_a(
+    table: &[u8; 65536],
+    n: usize,
+    variables: &[u16; 64],
+    temporaries: &[u8; 1024],
+    mem: &[u8; 18424],
+) -> Evaluated
+    requires { ⌜ Within (now table) n
+        × (sortOfNode target (nodeAt target (now table) (childA (now table) n)) ≡ sortNumber expression) ⌝ }
+    ensures { λ r. ⌜ r ≡ valueIn (now (table .entry)) (childA (now (table .entry)) n)
+        (now (variables .entry)) (now (temporaries .entry)) (now (mem .entry)) ⌝ }
+{
+    let first = tables::child_a(&table[..], n);
+    evaluation::evaluate(table, first, variables, temporaries, mem)
+}
+
+pub fn evaluate_b(
+    table: &[u8; 65536],
+    n: usize,
+    variables: &[u16; 64],
+    temporaries: &[u8; 1024],
+    mem: &[u8; 18424],
+) -> Evaluated
+    requires { ⌜ Within (now table) n
+        × (sortOfNode target (nodeAt target (now table) (childB (now table) n)) ≡ sortNumber expression) ⌝ }
+    ensures { λ r. ⌜ r ≡ valueIn (now (table .entry)) (childB (now (table .entry)) n)
+        (now (variables .entry)) (now (temporaries .entry)) (now (mem .entry)) ⌝ }
+{
+    let second = tables::child_b(&table[..], n);
+    evaluation::evaluate(table, second, variables, temporaries, mem)
+}
+
+// What condition A says.
+pub fn test_a(
+    table: &[u8; 65536],
+    n: usize,
+    variables: &[u16; 64],
+    temporaries: &[u8; 1024],
+    mem: &[u8; 18424],
+) -> Test
+    requires { ⌜ Within (now table) n
+        × (sortOfNode target (nodeAt target (now table) (childA (now table) n)) ≡ sortNumber expression) ⌝ }
+    ensures { λ r. ⌜ r ≡ condition (valueIn (now (table .entry)) (childA (now (table .entry)) n)
+        (now (variables .entry)) (now (temporaries .entry)) (now (mem .entry))) ⌝ }
+{
+    let e = evaluate_a(table, n, variables, temporaries, mem);
+    values::test(e)
+}

@@ -1,0 +1,2 @@
+-- What the numbers of an ending are held to.
+pub mod Ending
