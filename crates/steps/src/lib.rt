@@ -52,11 +52,11 @@ fn query(obs: &[u8; 3064], k: u8, v: Value) -> Evaluated
     ensures { λ r. ⌜ r ≡ queryObservation (queryOf k) (observationOf (now (obs .entry))) v ⌝ }
 {
     match k {
-        1 => observation::is_valid(obs, v),
-        2 => observation::is_initialised(obs, v),
-        3 => observation::base_address(obs, v),
-        4 => observation::offset(obs, v),
-        _ => observation::block_length(obs, v),
+        1 => observed_marks::is_valid(obs, v),
+        2 => observed_marks::is_initialised(obs, v),
+        3 => observed_blocks::base_address(obs, v),
+        4 => observed_blocks::offset(obs, v),
+        _ => observed_blocks::block_length(obs, v),
     }
 }
 
@@ -114,7 +114,7 @@ pub fn record_block(temporaries: &[u8; 1024], obs: &mut [u8; 3064], n: usize) ->
 {
     match temporaries::read_temporary(temporaries, n) {
         Evaluated::Value(v) => match temporaries::read_temporary(temporaries, n + 1) {
-            Evaluated::Value(w) => number(observation::store_block(obs, v, w)),
+            Evaluated::Value(w) => number(stored_blocks::store_block(obs, v, w)),
             Evaluated::Stopped(c) => c,
         },
         Evaluated::Stopped(c) => c,
@@ -174,7 +174,7 @@ fn record_marked(obs: &mut [u8; 3064], name: u16, count: usize)
     ensures { λ _. ⌜ ObservationBecomes (now (obs .entry)) (now (obs .exit))
         (markAll (recordBlock (observationOf (now (obs .entry))) name count) name count) ⌝ }
 {
-    observation::store_block(
+    stored_blocks::store_block(
         obs,
         Value::Pointer(Pointer { name, offset: 0 }),
         Value::Integer(count as i64),
