@@ -144,7 +144,7 @@ pub fn mark_cell(temporaries: &[u8; 1024], obs: &mut [u8; 3064], n: usize) -> u3
 {
     let cell = temporaries::read_temporary(temporaries, n);
     match cell {
-        Evaluated::Value(v) => number(observation::initialise(obs, v)),
+        Evaluated::Value(v) => number(initialised_marks::initialise(obs, v)),
         Evaluated::Stopped(c) => c,
     }
 }
@@ -157,7 +157,7 @@ fn mark_cells(obs: &mut [u8; 3064], name: u16, count: usize)
 {
     let mut i: usize = 0;
     while i < count {
-        observation::initialise(
+        initialised_marks::initialise(
             obs,
             Value::Pointer(Pointer {
                 name,

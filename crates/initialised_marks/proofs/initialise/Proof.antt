@@ -1,12 +1,12 @@
--- `observation::initialise` meets its contract. Assumes nothing.
+-- `initialised_marks::initialise` meets its contract. Assumes nothing.
 use borrow.Author.Needs.{needs}
-use Rattle.observation.proofs.initialise.Statement.{statement}
-use Rattle.observation.proofs.initialise.Tie as tie
+use Rattle.initialised_marks.proofs.initialise.Statement.{statement}
+use Rattle.initialised_marks.proofs.initialise.Tie as tie
 use mathlib.Core.Path.{sym, ap, _∙_}
 use denote.Ref.{now}
 use Rattle.rules.specs.Layout.{observationOf}
 use Rattle.rules.specs.Observation.{markAt, initialise}
 use Rattle.observation.proofs.ArmLaws.{answers-refused, answers-same}
 
 enum-known-v : tie.Need-enum-known-v
 enum-known-v c = search needs

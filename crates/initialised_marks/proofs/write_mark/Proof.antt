@@ -1,7 +1,7 @@
--- `observation::write_mark` meets its contract. Assumes nothing.
+-- `initialised_marks::write_mark` meets its contract. Assumes nothing.
 use borrow.Author.Needs.{needs}
-use Rattle.observation.proofs.write_mark.Statement.{statement}
-use Rattle.observation.proofs.write_mark.Tie as tie
+use Rattle.initialised_marks.proofs.write_mark.Statement.{statement}
+use Rattle.initialised_marks.proofs.write_mark.Tie as tie
 use native.Mathlib.Omega.{arith}
 use mathlib.Core.Path.{_≡_}
 use denote.Ref.{now}

@@ -1,12 +1,12 @@
--- `observation::mark_place` meets its contract. Assumes nothing.
+-- `initialised_marks::mark_place` meets its contract. Assumes nothing.
 use borrow.Author.Needs.{needs}
-use Rattle.observation.proofs.mark_place.Statement.{statement}
-use Rattle.observation.proofs.mark_place.Tie as tie
+use Rattle.initialised_marks.proofs.mark_place.Statement.{statement}
+use Rattle.initialised_marks.proofs.mark_place.Tie as tie
 use mathlib.Core.Path.{ap}
 use denote.Ref.{now}
 use Rattle.rules.specs.Layout.{observationOf}
 use Rattle.rules.specs.Observation.{markAt}
 use Rattle.observation.proofs.ArmLaws.{answers-refused, answers-noted}
 
 enum-known-at : tie.Need-enum-known-at
 enum-known-at c = search needs
