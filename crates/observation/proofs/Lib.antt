@@ -1,3 +1,3 @@
 pub mod ArmLaws
-pub mod StoreLaws
+pub mod DeleteLaws
 pub mod Becoming

@@ -8,7 +8,7 @@ use mir.Syntax.{w64}
 use mir.Val.{SFits}
 use Rattle.rules.specs.Layout.{observationOf}
 use Rattle.rules.specs.Observation.{deleteBlock}
-use Rattle.observation.proofs.StoreLaws.{delete-offset, delete-start}
+use Rattle.observation.proofs.DeleteLaws.{delete-offset, delete-start}
 use Rattle.observation.proofs.ArmLaws.{answers-refused, answers-same}
 
 enum-known-v : tie.Need-enum-known-v

@@ -6,7 +6,7 @@ use mathlib.Core.Path.{refl, sym, ap, _∙_}
 use denote.Ref.{now}
 use Rattle.rules.specs.Layout.{observationOf}
 use Rattle.rules.specs.Observation.{deleteAt}
-use Rattle.marks.proofs.ObservationLaws.{alive-named}
+use Rattle.observation_records.proofs.ObservationLaws.{alive-named}
 use Rattle.observation.proofs.ArmLaws.{answers-refused, answers-noted}
 
 record-of-requires : tie.Need-record-of-requires

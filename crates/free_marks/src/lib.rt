@@ -1,0 +1,68 @@
+// The search for free marks in the observation memory.
+ghost use mathlib.Core.Path.{_≡_};
+ghost use Prim.Native.Nat.{_<_};
+ghost use lib.Dec.{eqb};
+ghost use lib.ListN.{getD};
+ghost use Rattle.rules.specs.Memory.{lowestRun};
+ghost use Rattle.rules.specs.Observation.{markRun};
+ghost use Rattle.rules.specs.Layout.{observationOf};
+ghost use Rattle.free_marks.specs.Occupied.{occupy, occupyAll};
+use rules::Recorded;
+use rules::Search;
+
+// The places of a live block are occupied.
+fn cover(places: &mut [u8; 1024], b: Recorded)
+    ensures { λ _. ⌜ now (places .exit) ≡ occupy (now (places .entry)) b ⌝ }
+{
+    match b {
+        Recorded::Live(first, n) => fills::fill_bytes(
+            &mut places[..],
+            first as usize,
+            n as usize,
+            1,
+        ),
+        Recorded::Unused => {}
+        Recorded::Dead => {}
+    }
+}
+
+fn cover_all(obs: &[u8; 3064], places: &mut [u8; 1024])
+    ensures { λ _. ⌜ now (places .exit) ≡ occupyAll (now (places .entry)) (observationOf (now (obs .entry)) .blocks) ⌝ }
+{
+    let mut name = 255;
+    while 0 < name {
+        cover(places, observation_records::record_of(obs, name));
+        name -= 1;
+    }
+}
+
+// The lowest run of n places that are 0.
+fn find_run(places: &[u8; 1024], n: usize) -> Search
+    requires { ⌜ 0 < n ⌝ }
+    ensures { λ r. ⌜ r ≡ lowestRun (λ i. eqb (getD (now (places .entry)) i 0) 0) n ⌝ }
+{
+    let mut run: usize = 0;
+    let mut i = 0;
+    while i < 1024 {
+        if places[i] == 0 {
+            run += 1;
+            if run == n {
+                return Search::At(i + 1 - n);
+            }
+        } else {
+            run = 0;
+        }
+        i += 1;
+    }
+    Search::Nothing
+}
+
+// The lowest run of n marks that lie in no live block.
+pub fn find_marks(obs: &[u8; 3064], n: usize) -> Search
+    requires { ⌜ 0 < n ⌝ }
+    ensures { λ r. ⌜ r ≡ markRun (observationOf (now (obs .entry))) n ⌝ }
+{
+    let mut places: [u8; 1024] = [0; 1024];
+    cover_all(obs, &mut places);
+    find_run(&places, n)
+}

@@ -1,4 +1,0 @@
-pub mod ObservationLaws
-pub mod BecomesLaws
-pub mod PlaceLaws
-pub mod FillLoop

@@ -1,0 +1,25 @@
+-- `observation_blocks::clear_marks` meets its contract. Assumes nothing.
+use borrow.Author.Needs.{needs}
+use Rattle.observation_blocks.proofs.clear_marks.Statement.{statement}
+use Rattle.observation_blocks.proofs.clear_marks.Tie as tie
+use mathlib.Core.Path.{_≡_}
+use denote.Ref.{now}
+use lib.ListN.{length}
+use mathlib.Core.Bool.{false}
+use Rattle.observation_blocks.proofs.BecomesLaws.{becomes-fill, becomes-as}
+
+add-fill-bytes : tie.Need-add-fill-bytes
+add-fill-bytes c = search needs
+
+fill-bytes-requires : tie.Need-fill-bytes-requires
+fill-bytes-requires c κs = search needs
+
+returns : tie.Need-returns
+returns c =
+    let s = c .before .before in
+    let l = now (s .args .obs) in
+    let long : length l ≡ 3064 = search needs in
+    becomes-as (c .fill-bytes .ensures) (becomes-fill l long (s .args .first) (s .args .n) false)
+
+pub clear-marks-spec : {M : Type 1} → statement M
+clear-marks-spec = tie.close (tie.spec add-fill-bytes fill-bytes-requires returns)

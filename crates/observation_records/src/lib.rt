@@ -1,0 +1,36 @@
+// The observation memory's block records, read: 255 of 8 bytes, in front of 1,024 marks.
+ghost use mathlib.Core.Path.{_≡_};
+ghost use Prim.Native.Nat.{_<_};
+ghost use Rattle.rules.specs.Observation.{recordOf};
+ghost use Rattle.rules.specs.Layout.{recordedAt, observationOf};
+use rules::Recorded;
+
+// Block record k, counted from 0.
+fn read_record(obs: &[u8; 3064], k: usize) -> Recorded
+    requires { ⌜ k < 255 ⌝ }
+    ensures { λ r. ⌜ r ≡ recordedAt (now (obs .entry)) k ⌝ }
+{
+    let at = k * 8;
+    let first = words::read_word(&obs[..], at + 2, 2) as u16;
+    let n = words::read_word(&obs[..], at + 4, 2) as u16;
+    let state = obs[at];
+    match state {
+        0 => Recorded::Unused,
+        1 => Recorded::Live(first, n),
+        _ => Recorded::Dead,
+    }
+}
+
+// The record of a name; a name that has none is as a dead one's.
+pub fn record_of(obs: &[u8; 3064], name: u16) -> Recorded
+    ensures { λ r. ⌜ r ≡ recordOf (observationOf (now (obs .entry))) name ⌝ }
+{
+    let k = name as usize;
+    if k == 0 {
+        return Recorded::Dead;
+    }
+    if 255 < k {
+        return Recorded::Dead;
+    }
+    read_record(obs, k - 1)
+}
