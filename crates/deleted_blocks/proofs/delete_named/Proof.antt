@@ -1,13 +1,13 @@
 -- `observation::delete_named` meets its contract. Assumes nothing.
 use borrow.Author.Needs.{needs}
-use Rattle.observation.proofs.delete_named.Statement.{statement}
-use Rattle.observation.proofs.delete_named.Tie as tie
+use Rattle.deleted_blocks.proofs.delete_named.Statement.{statement}
+use Rattle.deleted_blocks.proofs.delete_named.Tie as tie
 use mathlib.Core.Path.{refl, sym, ap, _∙_}
 use denote.Ref.{now}
 use Rattle.rules.specs.Layout.{observationOf}
 use Rattle.rules.specs.Observation.{deleteAt}
 use Rattle.observation_records.proofs.ObservationLaws.{alive-named}
-use Rattle.observation.proofs.ArmLaws.{answers-refused, answers-noted}
+use Rattle.deleted_blocks.proofs.ArmLaws.{answers-refused, answers-noted}
 
 record-of-requires : tie.Need-record-of-requires
 record-of-requires c κs = search needs

@@ -1,15 +1,15 @@
 -- `observation::delete_block` meets its contract. Assumes nothing.
 use borrow.Author.Needs.{needs}
-use Rattle.observation.proofs.delete_block.Statement.{statement}
-use Rattle.observation.proofs.delete_block.Tie as tie
+use Rattle.deleted_blocks.proofs.delete_block.Statement.{statement}
+use Rattle.deleted_blocks.proofs.delete_block.Tie as tie
 use mathlib.Core.Path.{ap, _∙_}
 use denote.Ref.{now}
 use mir.Syntax.{w64}
 use mir.Val.{SFits}
 use Rattle.rules.specs.Layout.{observationOf}
 use Rattle.rules.specs.Observation.{deleteBlock}
-use Rattle.observation.proofs.DeleteLaws.{delete-offset, delete-start}
-use Rattle.observation.proofs.ArmLaws.{answers-refused, answers-same}
+use Rattle.deleted_blocks.proofs.DeleteLaws.{delete-offset, delete-start}
+use Rattle.deleted_blocks.proofs.ArmLaws.{answers-refused, answers-same}
 
 enum-known-v : tie.Need-enum-known-v
 enum-known-v c = search needs

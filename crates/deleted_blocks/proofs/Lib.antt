@@ -1,0 +1,3 @@
+pub mod ArmLaws
+pub mod DeleteLaws
+pub mod Becoming
