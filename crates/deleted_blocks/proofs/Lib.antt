@@ -1,3 +1,1 @@
-pub mod ArmLaws
-pub mod DeleteLaws
-pub mod Becoming
+mod DeleteLaws

@@ -1,16 +1,12 @@
-// The observation memory cleared, its delete block, and what a change of it answers.
+// The observation memory cleared, and its delete block.
 ghost use mathlib.Core.Path.{_≡_};
 ghost use Rattle.rules.specs.Observation.{deleteBlock, emptyObservation};
 ghost use Rattle.rules.specs.Layout.{observationOf, observationImage};
-ghost use Rattle.deleted_blocks.specs.Calls.{Answers, deleteNamed};
+ghost use Rattle.observation_answers.specs.Calls.{Answers};
+ghost use Rattle.deleted_blocks.specs.Deleting.{deleteNamed};
+use observation_answers::Noting;
 use rules::Recorded;
 use rules::Value;
-
-// What a changing call answers.
-pub enum Noting {
-    Noted,
-    Refused(u32),
-}
 
 pub fn clear(obs: &mut [u8; 3064])
     ensures { λ _. ⌜ now (obs .exit) ≡ observationImage emptyObservation ⌝ }

@@ -5,8 +5,8 @@ ghost use lib.ListN.{length, set};
 ghost use Rattle.rules.specs.Observation.{markAt, initialise};
 ghost use Rattle.rules.specs.Layout.{observationOf};
 ghost use Rattle.observation_blocks.specs.Changes.{ObservationBecomes, withMark};
-ghost use Rattle.deleted_blocks.specs.Calls.{Answers};
-use deleted_blocks::Noting;
+ghost use Rattle.observation_answers.specs.Calls.{Answers};
+use observation_answers::Noting;
 use rules::Located;
 use rules::Value;
 

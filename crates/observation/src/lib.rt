@@ -1,7 +1,6 @@
 // The observation memory: its eight calls, and clearing it. What stands above it uses these promises only.
 pub use deleted_blocks::clear;
 pub use deleted_blocks::delete_block;
-pub use deleted_blocks::Noting;
 pub use initialised_marks::initialise;
 pub use observed_blocks::base_address;
 pub use observed_blocks::block_length;

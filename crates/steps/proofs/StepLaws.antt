@@ -9,7 +9,7 @@ use Rattle.rules.specs.Observation.{Noted, refused}
 use Rattle.rules.specs.Watched.{Temporaries, heldIn}
 use Rattle.rules.specs.declared.Evaluated.{Evaluated}
 use Rattle.rules.specs.declared.Evaluated.the-variants as evaluated
-use Rattle.observation.specs.declared.Noting.{Noting}
+use Rattle.observation_answers.specs.declared.Noting.{Noting}
 use Rattle.observation.specs.Calls.{Answers}
 use Rattle.observation.proofs.Becoming.{becomes-same}
 use Rattle.steps.specs.Steps.{Takes, Observes, notingNumber}

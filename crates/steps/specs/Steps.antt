@@ -11,8 +11,8 @@ use Rattle.rules.specs.declared.Evaluated.the-variants as evaluated
 use Rattle.rules.specs.declared.Temporary.the-variants as temporary
 use Rattle.temporaries.specs.Bytes.{temporariesOf}
 use Rattle.observation.specs.Calls.{ObservationBecomes}
-use Rattle.observation.specs.declared.Noting.{Noting}
-use Rattle.observation.specs.declared.Noting.the-variants as noting
+use Rattle.observation_answers.specs.declared.Noting.{Noting}
+use Rattle.observation_answers.specs.declared.Noting.the-variants as noting
 use Rattle.observation.specs.Calls.{notingOf}
 
 -- the number of a stop, 0 where there is a value, and the temporaries after temporary n took it

@@ -11,7 +11,7 @@ ghost use Rattle.rules.specs.declared.Evaluated.the-variants as evaluated;
 ghost use Rattle.temporaries.specs.Bytes.{temporariesOf};
 ghost use Rattle.observation.specs.Calls.{ObservationBecomes};
 ghost use Rattle.steps.specs.Steps.{Takes, Observes, notingNumber};
-use observation::Noting;
+use observation_answers::Noting;
 use rules::Evaluated;
 use rules::Pointer;
 use rules::Test;

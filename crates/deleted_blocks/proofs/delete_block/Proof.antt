@@ -9,7 +9,7 @@ use mir.Val.{SFits}
 use Rattle.rules.specs.Layout.{observationOf}
 use Rattle.rules.specs.Observation.{deleteBlock}
 use Rattle.deleted_blocks.proofs.DeleteLaws.{delete-offset, delete-start}
-use Rattle.deleted_blocks.proofs.ArmLaws.{answers-refused, answers-same}
+use Rattle.observation_answers.proofs.ArmLaws.{answers-refused, answers-same}
 
 enum-known-v : tie.Need-enum-known-v
 enum-known-v c = search needs

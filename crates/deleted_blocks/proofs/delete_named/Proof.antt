@@ -7,7 +7,7 @@ use denote.Ref.{now}
 use Rattle.rules.specs.Layout.{observationOf}
 use Rattle.rules.specs.Observation.{deleteAt}
 use Rattle.observation_records.proofs.ObservationLaws.{alive-named}
-use Rattle.deleted_blocks.proofs.ArmLaws.{answers-refused, answers-noted}
+use Rattle.observation_answers.proofs.ArmLaws.{answers-refused, answers-noted}
 
 record-of-requires : tie.Need-record-of-requires
 record-of-requires c κs = search needs

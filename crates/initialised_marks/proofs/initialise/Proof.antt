@@ -6,7 +6,7 @@ use mathlib.Core.Path.{sym, ap, _∙_}
 use denote.Ref.{now}
 use Rattle.rules.specs.Layout.{observationOf}
 use Rattle.rules.specs.Observation.{markAt, initialise}
-use Rattle.deleted_blocks.proofs.ArmLaws.{answers-refused, answers-same}
+use Rattle.observation_answers.proofs.ArmLaws.{answers-refused, answers-same}
 
 enum-known-v : tie.Need-enum-known-v
 enum-known-v c = search needs

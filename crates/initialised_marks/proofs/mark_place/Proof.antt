@@ -6,7 +6,7 @@ use mathlib.Core.Path.{ap}
 use denote.Ref.{now}
 use Rattle.rules.specs.Layout.{observationOf}
 use Rattle.rules.specs.Observation.{markAt}
-use Rattle.deleted_blocks.proofs.ArmLaws.{answers-refused, answers-noted}
+use Rattle.observation_answers.proofs.ArmLaws.{answers-refused, answers-noted}
 
 enum-known-at : tie.Need-enum-known-at
 enum-known-at c = search needs

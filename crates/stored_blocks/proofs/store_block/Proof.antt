@@ -10,7 +10,7 @@ use mir.Facts.{toZ-ofZ}
 use Rattle.rules.specs.Layout.{observationOf}
 use Rattle.rules.specs.Observation.{storeBlock}
 use Rattle.rules.specs.declared.Value.{Value}
-use Rattle.deleted_blocks.proofs.ArmLaws.{answers-refused, answers-same}
+use Rattle.observation_answers.proofs.ArmLaws.{answers-refused, answers-same}
 
 enum-known-v : tie.Need-enum-known-v
 enum-known-v c = search needs

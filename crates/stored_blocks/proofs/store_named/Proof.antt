@@ -8,7 +8,7 @@ use Rattle.rules.specs.Layout.{observationOf}
 use Rattle.rules.specs.Observation.{markRun, storeAt}
 use Rattle.rules.specs.declared.Recorded.{Recorded}
 use Rattle.observation_records.proofs.ObservationLaws.{alive-named}
-use Rattle.deleted_blocks.proofs.ArmLaws.{answers-refused, answers-same}
+use Rattle.observation_answers.proofs.ArmLaws.{answers-refused, answers-same}
 
 record-of-requires : tie.Need-record-of-requires
 record-of-requires c κs = search needs

@@ -11,7 +11,7 @@ use Rattle.rules.specs.Observation.{markRun, storeAt}
 use Rattle.rules.proofs.RunLaws.{run-bound}
 use Rattle.rules.specs.declared.Recorded.the-variants as recorded
 use Rattle.rules.specs.declared.Search.the-variants as search
-use Rattle.deleted_blocks.proofs.ArmLaws.{answers-refused, answers-noted}
+use Rattle.observation_answers.proofs.ArmLaws.{answers-refused, answers-noted}
 
 run-is : (c : tie.After-first) → markRun (observationOf (now (c .before .before .before .before .args .obs)))
     (c .before .before .before .before .args .n) ≡ search.At (c .first .given .0 .0)

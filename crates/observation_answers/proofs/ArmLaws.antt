@@ -5,9 +5,9 @@ use mathlib.Core.List.{List}
 use Rattle.rules.specs.Observation.{Observation, Noted, noted, refused}
 use Rattle.observation_blocks.specs.Changes.{ObservationBecomes}
 use Rattle.observation_blocks.proofs.BecomesLaws.{becomes-same}
-use Rattle.deleted_blocks.specs.declared.Noting.{Noting}
-use Rattle.deleted_blocks.specs.declared.Noting.the-variants as noting
-use Rattle.deleted_blocks.specs.Calls.{Answers}
+use Rattle.observation_answers.specs.declared.Noting.{Noting}
+use Rattle.observation_answers.specs.declared.Noting.the-variants as noting
+use Rattle.observation_answers.specs.Calls.{Answers}
 
 pub answers-refused : (l : List ℕ) (k : ℕ) {n : Noted} → n ≡ refused k → Answers l l (noting.Refused k) n
 answers-refused l k e = subst (Answers l l (noting.Refused k)) (sym e) (record { answer = refl; memory = becomes-same l })

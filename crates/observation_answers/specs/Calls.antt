@@ -2,11 +2,11 @@
 use Prim.Native.Nat.{ℕ}
 use mathlib.Core.Path.{_≡_}
 use mathlib.Core.List.{List}
-use Rattle.rules.specs.Observation.{Observation, Noted, noted, refused, kept, recordOf, deleteAt}
+use Rattle.rules.specs.Observation.{Observation, Noted, noted, refused, kept}
 use Rattle.rules.specs.Layout.{observationOf}
 pub use Rattle.observation_blocks.specs.Changes.{ObservationBecomes}
-use Rattle.deleted_blocks.specs.declared.Noting.{Noting}
-use Rattle.deleted_blocks.specs.declared.Noting.the-variants as noting
+use Rattle.observation_answers.specs.declared.Noting.{Noting}
+use Rattle.observation_answers.specs.declared.Noting.the-variants as noting
 
 -- what a changing call answers, and the memory after it
 abbrev pub notingOf : Noted → Noting
@@ -19,7 +19,3 @@ notedObservation o n = kept o n
 pub record Answers (entry exit : List ℕ) (r : Noting) (n : Noted) : Type 0 where
   pub answer : r ≡ notingOf n
   pub memory : ObservationBecomes entry exit (notedObservation (observationOf entry) n)
-
--- delete block by a name alone
-abbrev pub deleteNamed : Observation → ℕ → Noted
-deleteNamed o k = deleteAt o k (recordOf o k)
