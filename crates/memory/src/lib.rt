@@ -1,49 +1,13 @@
-// Where pointers lead in the execution memory: reading and storing.
+// The cells that pointers into the execution memory lead to, read and stored.
 ghost use mathlib.Core.Path.{_≡_};
-ghost use Rattle.rules.specs.Memory.{recordedOf, locatedIn, locate, defined, readCell, storeCell};
+ghost use Rattle.rules.specs.Memory.{defined, readCell, storeCell};
 ghost use Rattle.rules.specs.Layout.{memoryOf};
-ghost use Rattle.rules.specs.declared.Recorded.the-variants as recorded;
 ghost use Rattle.cells.specs.Changes.{Becomes, changeNumber, changeMemory, NamesFit, EvaluatedFits, CellFits};
-use rules::Block;
 use rules::Cell;
 use rules::Evaluated;
 use rules::Located;
 use rules::Pointer;
 use rules::Value;
-
-// The cell of an offset in a live block.
-fn inside(first: u16, n: u16, offset: i64) -> Located
-    ensures { λ r. ⌜ r ≡ locatedIn (recorded.Live first n) offset ⌝ }
-{
-    if offset < 0 {
-        return Located::Outside;
-    }
-    let o = offset as usize;
-    if o < n as usize {
-        Located::At(first as usize + o)
-    } else {
-        Located::Outside
-    }
-}
-
-// Where an offset leads in a block.
-fn within(b: Block, offset: i64) -> Located
-    ensures { λ r. ⌜ r ≡ locatedIn (recordedOf b) offset ⌝ }
-{
-    match b {
-        Block::Unused => Located::Dead,
-        Block::Fixed(first, n) => inside(first, n, offset),
-        Block::Freeable(first, n) => inside(first, n, offset),
-        Block::Dead => Located::Dead,
-    }
-}
-
-// Where a pointer leads.
-pub fn locate(mem: &[u8; 18424], p: Pointer) -> Located
-    ensures { λ r. ⌜ r ≡ locate (memoryOf (now (mem .entry))) p ⌝ }
-{
-    within(cells::block(mem, p.name), p.offset)
-}
 
 // What a cell gives to a reader: 41 where it is undefined.
 fn define(c: Cell) -> Evaluated
@@ -65,7 +29,7 @@ pub fn read(mem: &[u8; 18424], p: Pointer) -> Evaluated
     ensures value { λ r. ⌜ r ≡ readCell (memoryOf (now (mem .entry))) p ⌝ }
     ensures names { λ r. ⌜ EvaluatedFits r ⌝ }
 {
-    match locate(mem, p) {
+    match pointers::locate(mem, p) {
         Located::At(i) => define(cells::cell(mem, i)),
         Located::Dead => Evaluated::Stopped(42),
         Located::Outside => Evaluated::Stopped(42),
@@ -79,7 +43,7 @@ pub fn store(mem: &mut [u8; 18424], p: Pointer, v: Value) -> u32
     ensures memory { λ _. ⌜ Becomes (now (mem .entry)) (now (mem .exit))
         (changeMemory (storeCell (memoryOf (now (mem .entry))) p v)) ⌝ }
 {
-    match locate(&*mem, p) {
+    match pointers::locate(&*mem, p) {
         Located::At(i) => {
             cell_changes::put_cell(mem, i, Cell::Holds(p.name, v));
             0

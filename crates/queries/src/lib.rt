@@ -85,8 +85,8 @@ pub fn query(mem: &[u8; 18424], q: u8, p: Pointer) -> Evaluated
     ensures names { λ r. ⌜ EvaluatedFits r ⌝ }
 {
     match q {
-        1 => values::truth(is_valid(memory::locate(mem, p))),
-        2 => values::truth(is_initialised(mem, memory::locate(mem, p))),
+        1 => values::truth(is_valid(pointers::locate(mem, p))),
+        2 => values::truth(is_initialised(mem, pointers::locate(mem, p))),
         _ => query_block(mem, q, p),
     }
 }

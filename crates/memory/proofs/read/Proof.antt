@@ -9,7 +9,7 @@ use Rattle.memory.proofs.read.Reads as reads
 use Rattle.memory.proofs.read.Lts as lts
 use Rattle.cells.proofs.cell.Reads as cell-reads
 use Rattle.memory.proofs.define.Reads as define-reads
-use Rattle.memory.proofs.locate.Reads as locate-reads
+use Rattle.pointers.proofs.locate.Reads as locate-reads
 
 locate-requires : tie.Need-locate-requires
 locate-requires c κs = search needs

@@ -11,7 +11,7 @@ use Rattle.memory.proofs.store.Statement.{statement}
 use Rattle.memory.proofs.store.Tie as tie
 use Rattle.memory.proofs.store.Reads as reads
 use Rattle.memory.proofs.store.Lts as lts
-use Rattle.memory.proofs.locate.Reads as locate-reads
+use Rattle.pointers.proofs.locate.Reads as locate-reads
 use Rattle.cell_changes.proofs.put_cell.Reads as put-cell-reads
 
 locate-requires : tie.Need-locate-requires

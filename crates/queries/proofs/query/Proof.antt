@@ -14,7 +14,7 @@ use Rattle.queries.proofs.query.Reads as reads
 use Rattle.queries.proofs.query.Lts as lts
 use Rattle.queries.proofs.is_initialised.Reads as is-initialised-reads
 use Rattle.queries.proofs.is_valid.Reads as is-valid-reads
-use Rattle.memory.proofs.locate.Reads as locate-reads
+use Rattle.pointers.proofs.locate.Reads as locate-reads
 use Rattle.queries.proofs.query_block.Reads as query-block-reads
 use Rattle.values.proofs.truth.Reads as truth-reads
 

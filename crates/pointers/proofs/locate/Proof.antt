@@ -4,12 +4,12 @@ use mir.Facts.{toZ-ofZ}
 use Rattle.rules.specs.Memory.{locate}
 use mathlib.Core.Path.{_≡_, refl, sym, ap, _∙_, subst}
 use borrow.Author.Needs.{needs}
-use Rattle.memory.proofs.locate.Statement.{statement}
-use Rattle.memory.proofs.locate.Tie as tie
-use Rattle.memory.proofs.locate.Reads as reads
-use Rattle.memory.proofs.locate.Lts as lts
+use Rattle.pointers.proofs.locate.Statement.{statement}
+use Rattle.pointers.proofs.locate.Tie as tie
+use Rattle.pointers.proofs.locate.Reads as reads
+use Rattle.pointers.proofs.locate.Lts as lts
 use Rattle.cells.proofs.block.Reads as block-reads
-use Rattle.memory.proofs.within.Reads as within-reads
+use Rattle.pointers.proofs.within.Reads as within-reads
 
 block-requires : tie.Need-block-requires
 block-requires c κs = search needs

@@ -1,11 +1,11 @@
 use mir.Facts.{toZ-ofZ}
 use mathlib.Core.Path.{_≡_, refl, sym, ap, _∙_, subst}
 use borrow.Author.Needs.{needs}
-use Rattle.memory.proofs.within.Statement.{statement}
-use Rattle.memory.proofs.within.Tie as tie
-use Rattle.memory.proofs.within.Reads as reads
-use Rattle.memory.proofs.within.Lts as lts
-use Rattle.memory.proofs.inside.Reads as inside-reads
+use Rattle.pointers.proofs.within.Statement.{statement}
+use Rattle.pointers.proofs.within.Tie as tie
+use Rattle.pointers.proofs.within.Reads as reads
+use Rattle.pointers.proofs.within.Lts as lts
+use Rattle.pointers.proofs.inside.Reads as inside-reads
 
 enum-told : tie.Need-enum-told
 enum-told c = search needs

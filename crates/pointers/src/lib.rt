@@ -1,0 +1,42 @@
+// Where pointers lead in the execution memory.
+ghost use mathlib.Core.Path.{_≡_};
+ghost use Rattle.rules.specs.Memory.{recordedOf, locatedIn, locate};
+ghost use Rattle.rules.specs.Layout.{memoryOf};
+ghost use Rattle.rules.specs.declared.Recorded.the-variants as recorded;
+use rules::Block;
+use rules::Located;
+use rules::Pointer;
+
+// The cell of an offset in a live block.
+fn inside(first: u16, n: u16, offset: i64) -> Located
+    ensures { λ r. ⌜ r ≡ locatedIn (recorded.Live first n) offset ⌝ }
+{
+    if offset < 0 {
+        return Located::Outside;
+    }
+    let o = offset as usize;
+    if o < n as usize {
+        Located::At(first as usize + o)
+    } else {
+        Located::Outside
+    }
+}
+
+// Where an offset leads in a block.
+fn within(b: Block, offset: i64) -> Located
+    ensures { λ r. ⌜ r ≡ locatedIn (recordedOf b) offset ⌝ }
+{
+    match b {
+        Block::Unused => Located::Dead,
+        Block::Fixed(first, n) => inside(first, n, offset),
+        Block::Freeable(first, n) => inside(first, n, offset),
+        Block::Dead => Located::Dead,
+    }
+}
+
+// Where a pointer leads.
+pub fn locate(mem: &[u8; 18424], p: Pointer) -> Located
+    ensures { λ r. ⌜ r ≡ locate (memoryOf (now (mem .entry))) p ⌝ }
+{
+    within(cells::block(mem, p.name), p.offset)
+}
