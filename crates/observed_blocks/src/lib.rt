@@ -42,10 +42,8 @@ pub fn base_address(obs: &[u8; 3064], v: Value) -> Evaluated
                 name: p.name,
                 offset: 0,
             };
-            if_live(
-                observation_records::record_of(obs, p.name),
-                Value::Pointer(start),
-            )
+            let block = observation_records::record_of(obs, p.name);
+            if_live(block, Value::Pointer(start))
         }
         Value::Undefined => Evaluated::Stopped(40),
         Value::Integer(_) => Evaluated::Stopped(40),
