@@ -85,7 +85,7 @@ fn print_block(mem: &[u8; 18424], name: u16) {
 fn print_empty(mem: &mut [u8; 18424]) {
     let place = Found::Place(Pointer { name: 3, offset: 0 });
     let size = Evaluated::Value(Value::Integer(0));
-    print_natural(statements::new_at(mem, place, size) as u64);
+    print_natural(allocation::new_at(mem, place, size) as u64);
 }
 
 fn print_p8() {

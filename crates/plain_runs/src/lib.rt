@@ -80,7 +80,7 @@ fn allocate(
 {
     let f = children::find_a(table, n, variables, temporaries, &*mem);
     let e = children::evaluate_b(table, n, variables, temporaries, &*mem);
-    endings::conclude(statements::new_at(mem, f, e), n as u32, fuel)
+    endings::conclude(allocation::new_at(mem, f, e), n as u32, fuel)
 }
 
 // What A points to is freed.

@@ -71,7 +71,7 @@ fn allocate(
 {
     let f = children::find_a(table, n, variables, temporaries, &*mem);
     let e = children::evaluate_b(table, n, variables, temporaries, &*mem);
-    statements::new_at(mem, f, e)
+    allocation::new_at(mem, f, e)
 }
 
 // 43: what A points to is freed.

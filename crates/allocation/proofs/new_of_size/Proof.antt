@@ -1,9 +1,9 @@
 use mir.Facts.{toZ-ofZ}
 use Rattle.rules.specs.Layout.{memoryOf}
 use Rattle.numbers.proofs.Integers.{magnitude-fits}
 use Rattle.statements.proofs.ChangeLaws.{does-is, does-stop, size-below, size-from-one, size-natural}
-use Rattle.statements.proofs.new_of_size.Statement.{statement}
-use Rattle.statements.proofs.new_of_size.Tie as tie
+use Rattle.allocation.proofs.new_of_size.Statement.{statement}
+use Rattle.allocation.proofs.new_of_size.Tie as tie
 
 returns : tie.Need-returns
 returns c =

@@ -1,10 +1,10 @@
 use mathlib.Core.Path.{sym, _∙_}
 use Rattle.rules.specs.Memory.{freeable, makeBlock}
 use Rattle.rules.specs.Layout.{memoryOf}
 use Rattle.statements.proofs.ChangeLaws.{name-fits, does-new, does-unmade}
 use borrow.Author.Needs.{needs}
-use Rattle.statements.proofs.store_new.Statement.{statement}
-use Rattle.statements.proofs.store_new.Tie as tie
+use Rattle.allocation.proofs.store_new.Statement.{statement}
+use Rattle.allocation.proofs.store_new.Tie as tie
 
 make-requires : tie.Need-make-requires
 make-requires c κs = tt

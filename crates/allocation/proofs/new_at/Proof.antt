@@ -6,10 +6,10 @@ use Rattle.rules.specs.Memory.{allocated}
 use Rattle.rules.specs.Layout.{memoryOf}
 use Rattle.rules.specs.declared.Found.{Found}
 use Rattle.rules.specs.declared.Evaluated.the-variants as evaluated
 use Rattle.statements.proofs.ChangeLaws.{does-is, does-stop}
 use borrow.Author.Needs.{needs}
-use Rattle.statements.proofs.new_at.Statement.{statement}
-use Rattle.statements.proofs.new_at.Tie as tie
+use Rattle.allocation.proofs.new_at.Statement.{statement}
+use Rattle.allocation.proofs.new_at.Tie as tie
 
 enum-known-f : tie.Need-enum-known-f
 enum-known-f c = search needs
