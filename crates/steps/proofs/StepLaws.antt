@@ -5,14 +5,10 @@ use mathlib.Core.Logic.{_≢_}
 use mathlib.Core.Path.{_≡_, refl, sym, ap, _∙_, subst}
 use Rattle.rules.specs.Trees.{blockLength}
 use Rattle.rules.specs.Nodes.{queryOf}
-use Rattle.rules.specs.Observation.{Noted, refused}
 use Rattle.rules.specs.Watched.{Temporaries, heldIn}
 use Rattle.rules.specs.declared.Evaluated.{Evaluated}
 use Rattle.rules.specs.declared.Evaluated.the-variants as evaluated
-use Rattle.observation.specs.declared.Noting.{Noting}
-use Rattle.observation.specs.Calls.{Answers}
-use Rattle.observation.proofs.Becoming.{becomes-same}
-use Rattle.steps.specs.Steps.{Takes, Observes, notingNumber}
+use Rattle.steps.specs.Steps.{Takes}
 
 -- ---- a temporary takes a value
 pub takes-is : {l l′ : List ℕ} {r n : ℕ} {x y : Evaluated} → x ≡ y → Takes l l′ r n y → Takes l l′ r n x
@@ -24,17 +20,6 @@ takes-stop l k n e = takes-is e (record { number = refl; temporaries = refl })
 -- ---- what a temporary holds, by what was read of it
 pub holds-at : (τ : Temporaries) (i j : ℕ) {e x : Evaluated} → i ≡ j → e ≡ heldIn τ i → e ≡ x → heldIn τ j ≡ x
 holds-at τ i j h a b = sym (a ∙ ap (heldIn τ) h) ∙ b
-
--- ---- a call of the observation memory
-pub observes-is : {l l′ : List ℕ} {r : ℕ} {x y : Noted} → x ≡ y → Observes l l′ r y → Observes l l′ r x
-observes-is {l} {l′} {r} e h = subst (λ (z : Noted). Observes l l′ r z) (sym e) h
-
-pub observes-stop : (l : List ℕ) (k : ℕ) {x : Noted} → x ≡ refused k → Observes l l k x
-observes-stop l k e = observes-is e (record { number = refl; memory = becomes-same l })
-
-pub observes-call : {l l′ : List ℕ} {r : ℕ} {a : Noting} {x y : Noted} → x ≡ y → Answers l l′ a y → r ≡ notingNumber a
-    → Observes l l′ r x
-observes-call e h f = observes-is e (record { number = f ∙ ap notingNumber (h .answer); memory = h .memory })
 
 -- ---- a query that no other number names is the length
 pub other-query : (k : ℕ) → k ≢ 1 → k ≢ 2 → k ≢ 3 → k ≢ 4 → queryOf k ≡ blockLength

@@ -3,17 +3,11 @@ use Prim.Native.Nat.{ℕ}
 use mathlib.Core.List.{List}
 use mathlib.Core.Path.{_≡_}
 use lib.ListN.{set}
-use Rattle.rules.specs.Observation.{Noted, kept}
-use Rattle.rules.specs.Layout.{observationOf}
 use Rattle.rules.specs.Watched.{Temporaries}
 use Rattle.rules.specs.declared.Evaluated.{Evaluated}
 use Rattle.rules.specs.declared.Evaluated.the-variants as evaluated
 use Rattle.rules.specs.declared.Temporary.the-variants as temporary
 use Rattle.temporaries.specs.Bytes.{temporariesOf}
-use Rattle.observation.specs.Calls.{ObservationBecomes}
-use Rattle.observation.specs.declared.Noting.{Noting}
-use Rattle.observation.specs.declared.Noting.the-variants as noting
-use Rattle.observation.specs.Calls.{notingOf}
 
 -- the number of a stop, 0 where there is a value, and the temporaries after temporary n took it
 abbrev pub stopNumber : Evaluated → ℕ
@@ -27,12 +21,3 @@ takenInto τ n (evaluated.Stopped c) = τ
 pub record Takes (entry exit : List ℕ) (r n : ℕ) (e : Evaluated) : Type 0 where
   pub number : r ≡ stopNumber e
   pub temporaries : temporariesOf exit ≡ takenInto (temporariesOf entry) n e
-
--- the number of a call's answer, 0 where it is noted, and the observation memory after it
-abbrev pub notingNumber : Noting → ℕ
-notingNumber noting.Noted = 0
-notingNumber (noting.Refused c) = c
-
-pub record Observes (entry exit : List ℕ) (r : ℕ) (n : Noted) : Type 0 where
-  pub number : r ≡ notingNumber (notingOf n)
-  pub memory : ObservationBecomes entry exit (kept (observationOf entry) n)

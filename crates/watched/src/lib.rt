@@ -64,7 +64,7 @@ fn run_memories(
         (now (mem .exit)) (now (obs .exit)) ⌝ }
 {
     memory::start(mem, inputs);
-    steps::start_observation(obs, inputs.len() / 8);
+    noting::start_observation(obs, inputs.len() / 8);
     let r = run_table(table, mem, obs, fuel);
     let free_cells = blocks::count_free(&*mem);
     Answer {

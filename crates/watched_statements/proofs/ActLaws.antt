@@ -23,7 +23,8 @@ use Rattle.rules.proofs.TargetFields.{HasSort, statement-kinds}
 use Rattle.temporaries.specs.Bytes.{temporariesOf}
 use Rattle.statements.specs.Ending.{result, concluded, assertNumber, Does}
 use Rattle.statements.proofs.ChangeLaws.{becomes-same}
-use Rattle.steps.specs.Steps.{Takes, Observes}
+use Rattle.steps.specs.Steps.{Takes}
+use Rattle.noting.specs.Calls.{Observes}
 use Rattle.watched_statements.specs.Watching.{lent, goFrom, watchFrom, IsAct, Ran}
 use Rattle.watched_statements.proofs.Laws.{observation-same, ran-is, ends-above}
 

@@ -16,7 +16,8 @@ ghost use Rattle.evaluation.specs.State.{variablesOf};
 ghost use Rattle.temporaries.specs.Bytes.{temporariesOf};
 ghost use Rattle.statements.specs.Children.{foundIn, valueIn};
 ghost use Rattle.statements.specs.Ending.{assertNumber, Does};
-ghost use Rattle.steps.specs.Steps.{Takes, Observes};
+ghost use Rattle.steps.specs.Steps.{Takes};
+ghost use Rattle.noting.specs.Calls.{Observes};
 ghost use Rattle.watched_statements.specs.Watching.{lent, Ready, IsAct, IsBranch, choice, Runs, Acts};
 use rules::Test;
 use statements::Ended;
@@ -184,7 +185,7 @@ fn record_block(
         (heldIn (temporariesOf (now (temporaries .entry))) (suc (markOf (now (table .entry)) n)))
         (storeBlock (observationOf (now (obs .entry))))) ⌝ }
 {
-    steps::record_block(temporaries, obs, tables::mark(&table[..], n) as usize)
+    noting::record_block(temporaries, obs, tables::mark(&table[..], n) as usize)
 }
 
 // 69: the block that the temporary points to is deleted.
@@ -199,7 +200,7 @@ fn delete_block(
         (calledOn (heldIn (temporariesOf (now (temporaries .entry))) (markOf (now (table .entry)) n))
         (deleteBlock (observationOf (now (obs .entry))))) ⌝ }
 {
-    steps::delete_block(temporaries, obs, tables::mark(&table[..], n) as usize)
+    noting::delete_block(temporaries, obs, tables::mark(&table[..], n) as usize)
 }
 
 // 70: the cell that the temporary points to is marked.
@@ -209,7 +210,7 @@ fn mark_cell(table: &[u8; 65536], n: usize, temporaries: &[u8; 1024], obs: &mut 
         (calledOn (heldIn (temporariesOf (now (temporaries .entry))) (markOf (now (table .entry)) n))
         (initialise (observationOf (now (obs .entry))))) ⌝ }
 {
-    steps::mark_cell(temporaries, obs, tables::mark(&table[..], n) as usize)
+    noting::mark_cell(temporaries, obs, tables::mark(&table[..], n) as usize)
 }
 
 // A statement that runs no other: the number that it ends with, 0 where it finished.
