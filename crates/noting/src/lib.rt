@@ -1,12 +1,15 @@
 // The statements of the target language that change the observation memory, and its start.
 ghost use mathlib.Core.Path.{_≡_};
 ghost use Prim.Native.Nat.{suc, _+_, _<_, _≤_};
+ghost use Rattle.rules.specs.Kinds.{statement};
+ghost use Rattle.rules.specs.Records.{kindOf, markOf};
 ghost use Rattle.rules.specs.Observation.{storeBlock, deleteBlock, initialise, recordBlock, markAll, startObservation};
 ghost use Rattle.rules.specs.Watched.{heldIn, calledOn, calledOnTwo};
 ghost use Rattle.rules.specs.Layout.{observationOf, observationImage};
+ghost use Rattle.rules.proofs.TargetFields.{HasSort};
 ghost use Rattle.temporaries.specs.Bytes.{temporariesOf};
 ghost use Rattle.observation.specs.Calls.{ObservationBecomes};
-ghost use Rattle.noting.specs.Calls.{Observes, notingNumber};
+ghost use Rattle.noting.specs.Calls.{Observes, notingNumber, IsNote, noteOf};
 use observation::Noting;
 use rules::Evaluated;
 use rules::Pointer;
@@ -23,7 +26,7 @@ fn number(answer: Noting) -> u32
 }
 
 // 68: a block is recorded, temporary n pointing to it and the next being its length.
-pub fn record_block(temporaries: &[u8; 1024], obs: &mut [u8; 3064], n: usize) -> u32
+fn record_block(temporaries: &[u8; 1024], obs: &mut [u8; 3064], n: usize) -> u32
     requires { ⌜ n + 1 < 64 ⌝ }
     ensures { λ r. ⌜ Observes (now (obs .entry)) (now (obs .exit)) r
         (calledOnTwo (heldIn (temporariesOf (now (temporaries .entry))) n)
@@ -39,7 +42,7 @@ pub fn record_block(temporaries: &[u8; 1024], obs: &mut [u8; 3064], n: usize) ->
 }
 
 // 69: the block that temporary n points to is deleted.
-pub fn delete_block(temporaries: &[u8; 1024], obs: &mut [u8; 3064], n: usize) -> u32
+fn delete_block(temporaries: &[u8; 1024], obs: &mut [u8; 3064], n: usize) -> u32
     requires { ⌜ n < 64 ⌝ }
     ensures { λ r. ⌜ Observes (now (obs .entry)) (now (obs .exit)) r
         (calledOn (heldIn (temporariesOf (now (temporaries .entry))) n)
@@ -53,7 +56,7 @@ pub fn delete_block(temporaries: &[u8; 1024], obs: &mut [u8; 3064], n: usize) ->
 }
 
 // 70: the cell that temporary n points to is marked.
-pub fn mark_cell(temporaries: &[u8; 1024], obs: &mut [u8; 3064], n: usize) -> u32
+fn mark_cell(temporaries: &[u8; 1024], obs: &mut [u8; 3064], n: usize) -> u32
     requires { ⌜ n < 64 ⌝ }
     ensures { λ r. ⌜ Observes (now (obs .entry)) (now (obs .exit)) r
         (calledOn (heldIn (temporariesOf (now (temporaries .entry))) n)
@@ -63,6 +66,22 @@ pub fn mark_cell(temporaries: &[u8; 1024], obs: &mut [u8; 3064], n: usize) -> u3
     match cell {
         Evaluated::Value(v) => number(observation::initialise(obs, v)),
         Evaluated::Stopped(c) => c,
+    }
+}
+
+// 68 to 70: what record n says of its temporary is noted.
+pub fn note(table: &[u8; 65536], n: usize, temporaries: &[u8; 1024], obs: &mut [u8; 3064]) -> u32
+    requires { ⌜ HasSort statement (now table) n × IsNote (kindOf (now table) n) ⌝ }
+    ensures { λ r. ⌜ Observes (now (obs .entry)) (now (obs .exit)) r
+        (noteOf (kindOf (now (table .entry)) n) (temporariesOf (now (temporaries .entry)))
+        (markOf (now (table .entry)) n) (observationOf (now (obs .entry)))) ⌝ }
+{
+    let kind = tables::kind(&table[..], n);
+    let first = tables::mark(&table[..], n) as usize;
+    match kind {
+        68 => record_block(temporaries, obs, first),
+        69 => delete_block(temporaries, obs, first),
+        _ => mark_cell(temporaries, obs, first),
     }
 }
 

@@ -1,6 +1,8 @@
 // The statements of the target language that give a temporary a value or test it. The number 0 says that one is done, any other is its ending's.
 ghost use mathlib.Core.Path.{_≡_};
 ghost use Prim.Native.Nat.{suc, _+_, _<_};
+ghost use Rattle.rules.specs.Kinds.{statement};
+ghost use Rattle.rules.specs.Records.{kindOf, markOf, childC};
 ghost use Rattle.rules.specs.Nodes.{operatorOf, queryOf};
 ghost use Rattle.rules.specs.Memory.{onValue};
 ghost use Rattle.rules.specs.Evaluation.{operated, opposite, condition};
@@ -8,8 +10,9 @@ ghost use Rattle.rules.specs.Observation.{queryObservation};
 ghost use Rattle.rules.specs.Watched.{heldIn};
 ghost use Rattle.rules.specs.Layout.{observationOf};
 ghost use Rattle.rules.specs.declared.Evaluated.the-variants as evaluated;
+ghost use Rattle.rules.proofs.TargetFields.{HasSort};
 ghost use Rattle.temporaries.specs.Bytes.{temporariesOf};
-ghost use Rattle.steps.specs.Steps.{Takes};
+ghost use Rattle.steps.specs.Steps.{Takes, IsTake, takenOf};
 use rules::Evaluated;
 use rules::Test;
 use rules::Value;
@@ -29,7 +32,7 @@ pub fn take_evaluated(temporaries: &mut [u8; 1024], n: usize, e: Evaluated) -> u
 }
 
 // 63: temporary n takes operator k of the two after it.
-pub fn take_operation(temporaries: &mut [u8; 1024], n: usize, k: u8) -> u32
+fn take_operation(temporaries: &mut [u8; 1024], n: usize, k: u8) -> u32
     requires { ⌜ n + 2 < 64 ⌝ }
     ensures { λ r. ⌜ Takes (now (temporaries .entry)) (now (temporaries .exit)) r n
         (operated (operatorOf k) (heldIn (temporariesOf (now (temporaries .entry))) (suc n))
@@ -58,7 +61,7 @@ fn query(obs: &[u8; 3064], k: u8, v: Value) -> Evaluated
 }
 
 // 64: temporary n takes query k of the one after it.
-pub fn take_query(temporaries: &mut [u8; 1024], obs: &[u8; 3064], n: usize, k: u8) -> u32
+fn take_query(temporaries: &mut [u8; 1024], obs: &[u8; 3064], n: usize, k: u8) -> u32
     requires { ⌜ n + 1 < 64 ⌝ }
     ensures { λ r. ⌜ Takes (now (temporaries .entry)) (now (temporaries .exit)) r n
         (onValue (heldIn (temporariesOf (now (temporaries .entry))) (suc n)) evaluated.Stopped
@@ -72,7 +75,7 @@ pub fn take_query(temporaries: &mut [u8; 1024], obs: &[u8; 3064], n: usize, k: u
 }
 
 // 65: temporary n takes 1 where the one after it is 0, else 0.
-pub fn take_not(temporaries: &mut [u8; 1024], n: usize) -> u32
+fn take_not(temporaries: &mut [u8; 1024], n: usize) -> u32
     requires { ⌜ n + 1 < 64 ⌝ }
     ensures { λ r. ⌜ Takes (now (temporaries .entry)) (now (temporaries .exit)) r n
         (onValue (heldIn (temporariesOf (now (temporaries .entry))) (suc n)) evaluated.Stopped opposite) ⌝ }
@@ -81,6 +84,24 @@ pub fn take_not(temporaries: &mut [u8; 1024], n: usize) -> u32
     match truth {
         Evaluated::Value(v) => take_evaluated(temporaries, n, values::negate(v)),
         Evaluated::Stopped(c) => c,
+    }
+}
+
+// 63 to 65: the temporary of record n takes what those after it give.
+pub fn take(table: &[u8; 65536], n: usize, temporaries: &mut [u8; 1024], obs: &[u8; 3064]) -> u32
+    requires { ⌜ HasSort statement (now table) n × IsTake (kindOf (now table) n) ⌝ }
+    ensures { λ r. ⌜ Takes (now (temporaries .entry)) (now (temporaries .exit)) r (markOf (now (table .entry)) n)
+        (takenOf (kindOf (now (table .entry)) n) (childC (now (table .entry)) n)
+        (temporariesOf (now (temporaries .entry))) (markOf (now (table .entry)) n)
+        (observationOf (now (obs .entry)))) ⌝ }
+{
+    let kind = tables::kind(&table[..], n);
+    let first = tables::mark(&table[..], n) as usize;
+    let chosen = tables::child_c(&table[..], n) as u8;
+    match kind {
+        63 => take_operation(temporaries, first, chosen),
+        64 => take_query(temporaries, obs, first, chosen),
+        _ => take_not(temporaries, first),
     }
 }
 
