@@ -14,6 +14,7 @@ use Rattle.rules.specs.Observation.{Observation, queryObservation}
 use Rattle.rules.specs.Watched.{Temporaries, heldIn}
 use Rattle.rules.specs.declared.Evaluated.{Evaluated}
 use Rattle.rules.specs.declared.Evaluated.the-variants as evaluated
+use Rattle.temporaries.specs.Bytes.{temporariesOf}
 use Rattle.rules.proofs.StatementArms.{statement-form}
 use Rattle.rules.proofs.TargetFields.{HasSort, operation-fields, query-fields}
 use Rattle.steps.specs.Steps.{Takes, IsTake, takenOf}
@@ -55,6 +56,23 @@ module _ (c : ℕ) (τ : Temporaries) (n : ℕ) (o : Observation) {k : ℕ} wher
 
   pub take-not-is : k ≡ 65 → takenOf k c τ n o ≡ onValue (heldIn τ (suc n)) evaluated.Stopped opposite
   take-not-is e = ap (λ (j : ℕ). takenOf j c τ n o) e
+
+-- the same, n and c being what was read of the record
+module _ {l l′ : List ℕ} {r m n : ℕ} (o : Observation) (e : m ≡ n) where
+  pub takes-operation : {k x c : ℕ} → k ≡ 63 → x ≡ c
+      → Takes l l′ r m (operated (operatorOf x) (heldIn (temporariesOf l) (suc m)) (heldIn (temporariesOf l) (suc (suc m))))
+      → Takes l l′ r n (takenOf k c (temporariesOf l) n o)
+  takes-operation {k} {x} {c} q d h = takes-is (take-operation-is c (temporariesOf l) n o q) (rw (e, d) at h)
+
+  pub takes-query : {k x c : ℕ} → k ≡ 64 → x ≡ c
+      → Takes l l′ r m (onValue (heldIn (temporariesOf l) (suc m)) evaluated.Stopped (queryObservation (queryOf x) o))
+      → Takes l l′ r n (takenOf k c (temporariesOf l) n o)
+  takes-query {k} {x} {c} q d h = takes-is (take-query-is c (temporariesOf l) n o q) (rw (e, d) at h)
+
+  pub takes-not : {k : ℕ} (c : ℕ) → k ≡ 65
+      → Takes l l′ r m (onValue (heldIn (temporariesOf l) (suc m)) evaluated.Stopped opposite)
+      → Takes l l′ r n (takenOf k c (temporariesOf l) n o)
+  takes-not c q h = takes-is (take-not-is c (temporariesOf l) n o q) (rw e at h)
 
 -- ---- field C is a byte's number
 pub chosen-fits : (t : List ℕ) (n : ℕ) → HasSort statement t n → IsTake (kindOf t n) → childC t n < 256

@@ -2,12 +2,11 @@
 use native.Mathlib.Omega.{arith}
 use mathlib.Core.Path.{sym, _∙_}
 use Rattle.rules.specs.Kinds.{target}
-use Rattle.rules.specs.Records.{markOf, childC}
+use Rattle.rules.specs.Records.{childC}
 use Rattle.rules.specs.Layout.{observationOf}
 use Rattle.rules.proofs.StatementArms.{statement-within}
 use Rattle.rules.proofs.TargetFields.{operation-fields, query-fields, not-fields}
-use Rattle.temporaries.specs.Bytes.{temporariesOf}
-use Rattle.steps.proofs.StepLaws.{takes-is, take-last, take-operation-is, take-query-is, take-not-is, chosen-fits}
+use Rattle.steps.proofs.StepLaws.{take-last, takes-operation, takes-query, takes-not, chosen-fits}
 use borrow.Author.Needs.{needs}
 use Rattle.steps.proofs.take.Statement.{statement}
 use Rattle.steps.proofs.take.Tie as tie
@@ -73,10 +72,8 @@ returns c =
     let after-kind = after-mark .before .before in
     let s = after-kind .before .before in
     let q = sym (after-kind .kind .ensures) ∙ after-match .match .keys1 in
-    takes-is
-    (take-operation-is (childC (s .args .table .now) (s .args .n)) (temporariesOf (s .args .temporaries .now))
-    (markOf (s .args .table .now) (s .args .n)) (observationOf (s .args .obs .now)) q)
-    (rw (after-mark .mark .ensures, after-child-c .child-c .ensures) at (c .take-operation .ensures))
+    takes-operation (observationOf (s .args .obs .now)) (after-mark .mark .ensures) q (after-child-c .child-c .ensures)
+    (c .take-operation .ensures)
 
 returns-2 : tie.Need-returns-2
 returns-2 c =
@@ -86,10 +83,8 @@ returns-2 c =
     let after-kind = after-mark .before .before in
     let s = after-kind .before .before in
     let q = sym (after-kind .kind .ensures) ∙ after-match .match .keys2 in
-    takes-is
-    (take-query-is (childC (s .args .table .now) (s .args .n)) (temporariesOf (s .args .temporaries .now))
-    (markOf (s .args .table .now) (s .args .n)) (observationOf (s .args .obs .now)) q)
-    (rw (after-mark .mark .ensures, after-child-c .child-c .ensures) at (c .take-query .ensures))
+    takes-query (observationOf (s .args .obs .now)) (after-mark .mark .ensures) q (after-child-c .child-c .ensures)
+    (c .take-query .ensures)
 
 returns-3 : tie.Need-returns-3
 returns-3 c =
@@ -101,10 +96,8 @@ returns-3 c =
     let k = after-kind .kind .ensures in
     let r = after-match .match .rest in
     let q = take-last (s .pre .1) (λ e. r .0 .1 (k ∙ e)) (λ e. r .1 (k ∙ e)) in
-    takes-is
-    (take-not-is (childC (s .args .table .now) (s .args .n)) (temporariesOf (s .args .temporaries .now))
-    (markOf (s .args .table .now) (s .args .n)) (observationOf (s .args .obs .now)) q)
-    (rw (after-mark .mark .ensures) at (c .take-not .ensures))
+    takes-not (observationOf (s .args .obs .now)) (after-mark .mark .ensures) (childC (s .args .table .now) (s .args .n)) q
+    (c .take-not .ensures)
 
 pub take-spec : {M : Type 1} → statement M
 take-spec =
