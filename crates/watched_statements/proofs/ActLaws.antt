@@ -1,17 +1,19 @@
 -- What a statement that runs no other does, by what its parts answer.
-use Prim.Native.Nat.{ℕ}
+use Prim.Native.Nat.{ℕ, _<_, _≤_}
+use native.Mathlib.Omega.{arith}
 use mathlib.Core.Bool.{Bool, cond}
 use mathlib.Core.List.{List}
-use mathlib.Core.Logic.{_≢_}
-use mathlib.Core.Path.{_≡_, refl, ap, _∙_, subst}
+use native.Mathlib.Decide.{ℕ-discrete}
+use mathlib.Core.Logic.{_≢_, _⊎_, inl, inr}
+use mathlib.Core.Path.{_≡_, refl, sym, ap, _∙_, subst}
 use borrow.Author.Tests.{ne-eqb}
 use Rattle.rules.specs.Kinds.{statement}
-use Rattle.rules.specs.Records.{kindOf}
-use Rattle.rules.specs.Memory.{Change, changed, stopped}
+use Rattle.rules.specs.Records.{kindOf, markOf, childC}
+use Rattle.rules.specs.Memory.{Memory, Change, changed, stopped}
 use Rattle.rules.specs.Evaluation.{Variables}
-use Rattle.rules.specs.Observation.{Noted, noted, refused}
+use Rattle.rules.specs.Observation.{Observation, Noted, noted, refused}
 use Rattle.rules.specs.TargetTrees.{TargetStatement}
-use Rattle.rules.specs.Watched.{WatchedOutcome, finished, ended, Watching, after, decide, taken, observed}
+use Rattle.rules.specs.Watched.{Temporaries, WatchedOutcome, finished, ended, Watching, after, decide, taken, observed, watch}
 use Rattle.rules.specs.Layout.{memoryOf, observationOf}
 use Rattle.rules.specs.declared.Evaluated.{Evaluated}
 use Rattle.rules.specs.declared.Evaluated.the-variants as evaluated
@@ -19,12 +21,16 @@ use Rattle.rules.specs.declared.Test.{Test}
 use Rattle.rules.specs.declared.Test.the-variants as test
 use Rattle.rules.proofs.Keeping.{Ending}
 use Rattle.rules.proofs.Endings.{WatchedEnds, watch-endings}
-use Rattle.rules.proofs.TargetFields.{HasSort, statement-kinds}
+use Rattle.rules.proofs.TargetFields.{HasSort, statementAt, numberAt, statement-kinds}
+use Rattle.rules.proofs.TargetArms.{watch-operation, watch-query, watch-not, watch-store-block, watch-delete-block, watch-initialise}
 use Rattle.temporaries.specs.Bytes.{temporariesOf}
 use Rattle.endings.specs.Ending.{result, concluded, assertNumber}
 use Rattle.statements.specs.Changing.{Does}
 use Rattle.statements.proofs.ChangeLaws.{becomes-same}
-use Rattle.steps.specs.Steps.{Takes, Observes}
+use Rattle.steps.specs.Steps.{Takes, IsTake, takenOf}
+use Rattle.steps.proofs.StepLaws.{take-operation-is, take-query-is, take-not-is}
+use Rattle.noting.specs.Calls.{Observes, IsNote, noteOf}
+use Rattle.noting.proofs.CallLaws.{note-record, note-delete, note-mark}
 use Rattle.watched_statements.specs.Watching.{lent, goFrom, watchFrom, IsAct, Ran}
 use Rattle.watched_statements.proofs.Laws.{observation-same, ran-is, ends-above}
 
@@ -128,17 +134,65 @@ module _ (a : TargetStatement) (ρ : Variables) (l o τ : List ℕ) (s r : ℕ) 
       → (f : ℕ) → Ran (watchFrom a ρ (lent l o τ) f) (concluded r s f) (lent l o τ) (lent l o τ)
   acts-asserted t e w f = ran-is (e f) (ran-asserted l o τ s f r t (ends f _ (e f)) w)
 
--- the last of these kinds is what is left
+-- what takes from the temporaries after its own, and what changes the observation memory
+module _ (t : List ℕ) (n : ℕ) (h : HasSort statement t n) (ρ : Variables) (m : Memory) (o : Observation) (τ : Temporaries)
+    (f : ℕ) where
+  gives : Evaluated → WatchedOutcome
+  gives v = taken (numberAt t n) (markOf t n) v m o τ f
+
+  pub watch-take : IsTake (kindOf t n)
+      → watch (statementAt t n) ρ m o τ f
+      ≡ taken (numberAt t n) (markOf t n) (takenOf (kindOf t n) (childC t n) τ (markOf t n) o) m o τ f
+  unfolding gives
+  watch-take (inl e) =
+      watch-operation t n h ρ m o τ f e ∙ ap gives (sym (take-operation-is (childC t n) τ (markOf t n) o e))
+  watch-take (inr (inl e)) =
+      watch-query t n h ρ m o τ f e ∙ ap gives (sym (take-query-is (childC t n) τ (markOf t n) o e))
+  watch-take (inr (inr e)) =
+      watch-not t n h ρ m o τ f e ∙ ap gives (sym (take-not-is (childC t n) τ (markOf t n) o e))
+
+  calls : Noted → WatchedOutcome
+  calls z = observed (numberAt t n) z m o τ f
+
+  pub watch-note : IsNote (kindOf t n)
+      → watch (statementAt t n) ρ m o τ f ≡ observed (numberAt t n) (noteOf (kindOf t n) τ (markOf t n) o) m o τ f
+  unfolding calls
+  watch-note (inl e) = watch-store-block t n h ρ m o τ f e ∙ ap calls (sym (note-record τ (markOf t n) o e))
+  watch-note (inr (inl e)) = watch-delete-block t n h ρ m o τ f e ∙ ap calls (sym (note-delete τ (markOf t n) o e))
+  watch-note (inr (inr e)) = watch-initialise t n h ρ m o τ f e ∙ ap calls (sym (note-mark τ (markOf t n) o e))
+
+-- the kinds from 63 to 65 are those that take
+pub take-between : (k : ℕ) → 63 ≤ k → k < 66 → IsTake k
+take-between k a b = go (ℕ-discrete k 63) (ℕ-discrete k 64)
+  where
+    go : Dec (k ≡ 63) → Dec (k ≡ 64) → IsTake k
+    go (yes p) q = inl p
+    go (no p) (yes q) = inr (inl q)
+    go (no p) (no q) = inr (inr (omega arith))
+
+-- the last of these kinds are what is left
 pub last-act : {X : Type 0} (t : List ℕ) (n : ℕ) → HasSort statement t n → IsAct (kindOf t n) → {k : ℕ}
     → k ≡ kindOf t n
-    → ((((((((((((X × (k ≢ 40)) × (k ≢ 41)) × (k ≢ 42)) × (k ≢ 43)) × (k ≢ 60)) × (k ≢ 61)) × (k ≢ 63)) × (k ≢ 64))
-    × (k ≢ 65)) × (k ≢ 67)) × (k ≢ 68)) × (k ≢ 69))
-    → kindOf t n ≡ 70
-last-act t n h a e r =
-    statement-kinds t n h
-    (λ d. r .0 .0 .0 .0 .0 .0 .0 .0 .0 .0 .0 .1 (e ∙ d)) (λ d. r .0 .0 .0 .0 .0 .0 .0 .0 .0 .0 .1 (e ∙ d))
-    (λ d. r .0 .0 .0 .0 .0 .0 .0 .0 .0 .1 (e ∙ d)) (λ d. r .0 .0 .0 .0 .0 .0 .0 .0 .1 (e ∙ d))
-    (a .0) (a .1) (a .2) (a .3)
-    (λ d. r .0 .0 .0 .0 .0 .0 .0 .1 (e ∙ d)) (λ d. r .0 .0 .0 .0 .0 .0 .1 (e ∙ d))
-    (λ d. r .0 .0 .0 .0 .0 .1 (e ∙ d)) (λ d. r .0 .0 .0 .0 .1 (e ∙ d)) (λ d. r .0 .0 .0 .1 (e ∙ d))
-    (a .4) (λ d. r .0 .0 .1 (e ∙ d)) (λ d. r .0 .1 (e ∙ d)) (λ d. r .1 (e ∙ d))
+    → (((((((X × (k ≢ 40)) × (k ≢ 41)) × (k ≢ 42)) × (k ≢ 43)) × (k ≢ 60)) × (k ≢ 61)) × (k ≢ 67))
+    → ((k < 63) ⊎ (66 ≤ k))
+    → IsNote (kindOf t n)
+last-act t n h a {k} e r b = go (ℕ-discrete (kindOf t n) 68) (ℕ-discrete (kindOf t n) 69)
+  where
+    outside : (k < 63) ⊎ (66 ≤ k) → (j : ℕ) → 63 ≤ j → j < 66 → k ≢ j
+    outside (inl p) j x y q = omega arith
+    outside (inr p) j x y q = omega arith
+
+    go : Dec (kindOf t n ≡ 68) → Dec (kindOf t n ≡ 69) → IsNote (kindOf t n)
+    go (yes p) q = inl p
+    go (no p) (yes q) = inr (inl q)
+    go (no p) (no q) =
+        inr
+        (inr
+        (statement-kinds t n h
+        (λ d. r .0 .0 .0 .0 .0 .0 .1 (e ∙ d)) (λ d. r .0 .0 .0 .0 .0 .1 (e ∙ d))
+        (λ d. r .0 .0 .0 .0 .1 (e ∙ d)) (λ d. r .0 .0 .0 .1 (e ∙ d))
+        (a .0) (a .1) (a .2) (a .3)
+        (λ d. r .0 .0 .1 (e ∙ d)) (λ d. r .0 .1 (e ∙ d))
+        (λ d. outside b 63 (omega arith) (omega arith) (e ∙ d)) (λ d. outside b 64 (omega arith) (omega arith) (e ∙ d))
+        (λ d. outside b 65 (omega arith) (omega arith) (e ∙ d))
+        (a .4) (λ d. r .1 (e ∙ d)) p q))

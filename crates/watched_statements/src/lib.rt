@@ -1,15 +1,11 @@
 // The statements that run no other, and what the others test.
 ghost use mathlib.Core.Path.{_≡_};
-ghost use Prim.Native.Nat.{suc};
 ghost use Rattle.rules.specs.Kinds.{statement};
-ghost use Rattle.rules.specs.Records.{kindOf, markOf, childA, childB, childC};
-ghost use Rattle.rules.specs.Nodes.{operatorOf, queryOf};
-ghost use Rattle.rules.specs.Memory.{assigned, allocated, freed, onValue};
-ghost use Rattle.rules.specs.Evaluation.{addressOf, operated, opposite, condition};
-ghost use Rattle.rules.specs.Observation.{storeBlock, deleteBlock, initialise, queryObservation};
-ghost use Rattle.rules.specs.Watched.{heldIn, calledOn, calledOnTwo};
-ghost use Rattle.rules.specs.Layout.{memoryOf, observationOf};
-ghost use Rattle.rules.specs.declared.Evaluated.the-variants as evaluated;
+ghost use Rattle.rules.specs.Records.{kindOf, markOf, childA, childB};
+ghost use Rattle.rules.specs.Memory.{assigned, allocated, freed};
+ghost use Rattle.rules.specs.Evaluation.{addressOf, condition};
+ghost use Rattle.rules.specs.Watched.{heldIn};
+ghost use Rattle.rules.specs.Layout.{memoryOf};
 ghost use Rattle.rules.proofs.TargetFields.{HasSort, numberAt};
 ghost use Rattle.cells.specs.Changes.{EvaluatedFits};
 ghost use Rattle.evaluation.specs.State.{variablesOf};
@@ -17,10 +13,10 @@ ghost use Rattle.temporaries.specs.Bytes.{temporariesOf};
 ghost use Rattle.children.specs.Children.{foundIn, valueIn};
 ghost use Rattle.endings.specs.Ending.{assertNumber};
 ghost use Rattle.statements.specs.Changing.{Does};
-ghost use Rattle.steps.specs.Steps.{Takes, Observes};
+ghost use Rattle.steps.specs.Steps.{Takes};
 ghost use Rattle.watched_statements.specs.Watching.{lent, Ready, IsAct, IsBranch, choice, Runs, Acts};
-use endings::Ended;
 use rules::Test;
+use endings::Ended;
 
 // The source statement that record n came from.
 pub fn statement_of(table: &[u8; 65536], n: usize) -> u32
@@ -127,41 +123,6 @@ fn take_value(
     steps::take_evaluated(temporaries, tables::mark(&table[..], n) as usize, e)
 }
 
-// 63: the temporary takes an operator of the two after it.
-fn take_operation(table: &[u8; 65536], n: usize, temporaries: &mut [u8; 1024]) -> u32
-    requires { ⌜ HasSort statement (now table) n × (kindOf (now table) n ≡ 63) ⌝ }
-    ensures { λ r. ⌜ Takes (now (temporaries .entry)) (now (temporaries .exit)) r (markOf (now (table .entry)) n)
-        (operated (operatorOf (childC (now (table .entry)) n))
-        (heldIn (temporariesOf (now (temporaries .entry))) (suc (markOf (now (table .entry)) n)))
-        (heldIn (temporariesOf (now (temporaries .entry))) (suc (suc (markOf (now (table .entry)) n))))) ⌝ }
-{
-    let operator = tables::child_c(&table[..], n) as u8;
-    steps::take_operation(temporaries, tables::mark(&table[..], n) as usize, operator)
-}
-
-// 64: the temporary takes a query of the one after it.
-fn take_query(table: &[u8; 65536], n: usize, temporaries: &mut [u8; 1024], obs: &[u8; 3064]) -> u32
-    requires { ⌜ HasSort statement (now table) n × (kindOf (now table) n ≡ 64) ⌝ }
-    ensures { λ r. ⌜ Takes (now (temporaries .entry)) (now (temporaries .exit)) r (markOf (now (table .entry)) n)
-        (onValue (heldIn (temporariesOf (now (temporaries .entry))) (suc (markOf (now (table .entry)) n)))
-        evaluated.Stopped (queryObservation (queryOf (childC (now (table .entry)) n))
-        (observationOf (now (obs .entry))))) ⌝ }
-{
-    let query = tables::child_c(&table[..], n) as u8;
-    let first = tables::mark(&table[..], n) as usize;
-    steps::take_query(temporaries, obs, first, query)
-}
-
-// 65: the temporary takes 1 where the one after it is 0, else 0.
-fn take_not(table: &[u8; 65536], n: usize, temporaries: &mut [u8; 1024]) -> u32
-    requires { ⌜ HasSort statement (now table) n × (kindOf (now table) n ≡ 65) ⌝ }
-    ensures { λ r. ⌜ Takes (now (temporaries .entry)) (now (temporaries .exit)) r (markOf (now (table .entry)) n)
-        (onValue (heldIn (temporariesOf (now (temporaries .entry))) (suc (markOf (now (table .entry)) n)))
-        evaluated.Stopped opposite) ⌝ }
-{
-    steps::take_not(temporaries, tables::mark(&table[..], n) as usize)
-}
-
 // 67: the temporary is asserted.
 fn assert(table: &[u8; 65536], n: usize, temporaries: &[u8; 1024]) -> u32
     requires { ⌜ HasSort statement (now table) n × (kindOf (now table) n ≡ 67) ⌝ }
@@ -170,47 +131,6 @@ fn assert(table: &[u8; 65536], n: usize, temporaries: &[u8; 1024]) -> u32
 {
     let t = steps::test_temporary(temporaries, tables::mark(&table[..], n) as usize);
     endings::assert_number(t)
-}
-
-// 68: the block that the temporary points to is recorded, the next being its length.
-fn record_block(
-    table: &[u8; 65536],
-    n: usize,
-    temporaries: &[u8; 1024],
-    obs: &mut [u8; 3064],
-) -> u32
-    requires { ⌜ HasSort statement (now table) n × (kindOf (now table) n ≡ 68) ⌝ }
-    ensures { λ r. ⌜ Observes (now (obs .entry)) (now (obs .exit)) r
-        (calledOnTwo (heldIn (temporariesOf (now (temporaries .entry))) (markOf (now (table .entry)) n))
-        (heldIn (temporariesOf (now (temporaries .entry))) (suc (markOf (now (table .entry)) n)))
-        (storeBlock (observationOf (now (obs .entry))))) ⌝ }
-{
-    steps::record_block(temporaries, obs, tables::mark(&table[..], n) as usize)
-}
-
-// 69: the block that the temporary points to is deleted.
-fn delete_block(
-    table: &[u8; 65536],
-    n: usize,
-    temporaries: &[u8; 1024],
-    obs: &mut [u8; 3064],
-) -> u32
-    requires { ⌜ HasSort statement (now table) n × (kindOf (now table) n ≡ 69) ⌝ }
-    ensures { λ r. ⌜ Observes (now (obs .entry)) (now (obs .exit)) r
-        (calledOn (heldIn (temporariesOf (now (temporaries .entry))) (markOf (now (table .entry)) n))
-        (deleteBlock (observationOf (now (obs .entry))))) ⌝ }
-{
-    steps::delete_block(temporaries, obs, tables::mark(&table[..], n) as usize)
-}
-
-// 70: the cell that the temporary points to is marked.
-fn mark_cell(table: &[u8; 65536], n: usize, temporaries: &[u8; 1024], obs: &mut [u8; 3064]) -> u32
-    requires { ⌜ HasSort statement (now table) n × (kindOf (now table) n ≡ 70) ⌝ }
-    ensures { λ r. ⌜ Observes (now (obs .entry)) (now (obs .exit)) r
-        (calledOn (heldIn (temporariesOf (now (temporaries .entry))) (markOf (now (table .entry)) n))
-        (initialise (observationOf (now (obs .entry))))) ⌝ }
-{
-    steps::mark_cell(temporaries, obs, tables::mark(&table[..], n) as usize)
 }
 
 // A statement that runs no other: the number that it ends with, 0 where it finished.
@@ -235,13 +155,9 @@ fn act(
         43 => release(table, n, variables, &*temporaries, mem),
         60 => take_address(table, n, variables, temporaries, &*mem),
         61 => take_value(table, n, variables, temporaries, &*mem),
-        63 => take_operation(table, n, temporaries),
-        64 => take_query(table, n, temporaries, &*obs),
-        65 => take_not(table, n, temporaries),
+        63..=65 => steps::take(table, n, temporaries, &*obs),
         67 => assert(table, n, &*temporaries),
-        68 => record_block(table, n, &*temporaries, obs),
-        69 => delete_block(table, n, &*temporaries, obs),
-        _ => mark_cell(table, n, &*temporaries, obs),
+        _ => noting::note(table, n, &*temporaries, obs),
     }
 }
 

@@ -1,15 +1,17 @@
+use Prim.Native.Nat.{_<_, _≤_}
+use mathlib.Core.Logic.{_⊎_, inl, inr, ⊎-elim}
 use mathlib.Core.Path.{sym, _∙_}
 use Rattle.rules.specs.Records.{markOf}
 use Rattle.rules.specs.Evaluation.{condition}
 use Rattle.rules.specs.Watched.{heldIn}
 use Rattle.rules.specs.Layout.{memoryOf, observationOf}
 use Rattle.rules.proofs.TargetFields.{statementAt, numberAt}
-use Rattle.rules.proofs.TargetArms.{watch-skip, watch-assign, watch-new, watch-free, watch-address, watch-value, watch-operation, watch-query, watch-not, watch-assert-on, watch-store-block, watch-delete-block, watch-initialise}
+use Rattle.rules.proofs.TargetArms.{watch-skip, watch-assign, watch-new, watch-free, watch-address, watch-value, watch-assert-on}
 use Rattle.evaluation.specs.State.{variablesOf}
 use Rattle.temporaries.specs.Bytes.{temporariesOf}
 use Rattle.watched_statements.specs.Watching.{lent}
 use Rattle.watched_statements.proofs.Laws.{ran-is, ran-finished}
-use Rattle.watched_statements.proofs.ActLaws.{last-act, acts-change, acts-taken, acts-observed, acts-asserted}
+use Rattle.watched_statements.proofs.ActLaws.{watch-take, watch-note, take-between, last-act, acts-change, acts-taken, acts-observed, acts-asserted}
 use Rattle.watched_statements.proofs.ReadyLaws.{ready-within, assign-fits}
 use Rattle.watched_statements.proofs.act.Statement.{statement}
 use Rattle.watched_statements.proofs.act.Tie as tie
@@ -51,46 +53,28 @@ take-value-requires c κs =
     let after-kind = after-match .before in
     (after-kind .before .before .pre .0 .is, sym (after-kind .kind .ensures) ∙ after-match .match .keys6)
 
-take-operation-requires : tie.Need-take-operation-requires
-take-operation-requires c κs =
-    let after-kind = c .before .before in
-    (after-kind .before .before .pre .0 .is, sym (after-kind .kind .ensures) ∙ c .before .match .keys7)
-
-take-query-requires : tie.Need-take-query-requires
-take-query-requires c κs =
-    let after-match = c .before .before in
-    let after-kind = after-match .before in
-    (after-kind .before .before .pre .0 .is, sym (after-kind .kind .ensures) ∙ after-match .match .keys8)
-
-take-not-requires : tie.Need-take-not-requires
-take-not-requires c κs =
-    let after-kind = c .before .before in
-    (after-kind .before .before .pre .0 .is, sym (after-kind .kind .ensures) ∙ c .before .match .keys9)
-
 assert-requires : tie.Need-assert-requires
 assert-requires c κs =
     let after-kind = c .before .before in
-    (after-kind .before .before .pre .0 .is, sym (after-kind .kind .ensures) ∙ c .before .match .keys10)
+    (after-kind .before .before .pre .0 .is, sym (after-kind .kind .ensures) ∙ c .before .match .keys7)
 
-record-block-requires : tie.Need-record-block-requires
-record-block-requires c κs =
-    let after-match = c .before .before in
-    let after-kind = after-match .before in
-    (after-kind .before .before .pre .0 .is, sym (after-kind .kind .ensures) ∙ after-match .match .keys11)
+take-requires : tie.Need-take-requires
+take-requires c κs =
+    let after-if2 = c .before .before in
+    let after-if1 = after-if2 .before in
+    let after-kind = after-if1 .before .before in
+    (after-kind .before .before .pre .0 .is, rw (after-kind .kind .ensures) at (take-between _ (after-if1 .if1 .left) (after-if2 .if2 .taken)))
 
-delete-block-requires : tie.Need-delete-block-requires
-delete-block-requires c κs =
-    let after-match = c .before .before in
-    let after-kind = after-match .before in
-    (after-kind .before .before .pre .0 .is, sym (after-kind .kind .ensures) ∙ after-match .match .keys12)
-
-mark-cell-requires : tie.Need-mark-cell-requires
-mark-cell-requires c κs =
-    let after-match = c .before .before in
+note-requires : tie.Need-note-requires
+note-requires c κs =
+    let after-if1 = c .before .before in
+    let after-match = after-if1 .before in
     let after-kind = after-match .before in
     let s = after-kind .before .before in
     let h = s .pre .0 .is in
-    (h, last-act (s .args .table .now) (s .args .n) h (s .pre .1) (after-kind .kind .ensures) (after-match .match .rest))
+    let k = after-kind .kind .result in
+    let out : (k < 63) ⊎ (66 ≤ k) = ⊎-elim (λ w. inl (w .taken)) (λ w. inr (w .1 .left)) (after-if1 .if1 .came) in
+    (h, last-act (s .args .table .now) (s .args .n) h (s .pre .1) (after-kind .kind .ensures) (after-match .match .rest) out)
 
 returns : tie.Need-returns
 returns c =
@@ -199,62 +183,15 @@ returns-7 c =
     let τ = s .args .temporaries .now in
     let h = s .pre .0 .is in
     let q = sym (after-kind .kind .ensures) ∙ after-match .match .keys7 in
-    acts-taken (statementAt T n) ρ l o τ (numberAt T n) (c .take-operation .result) _ _ _
-    (λ f. watch-operation T n h ρ (memoryOf l) (observationOf o) (temporariesOf τ) f q) (c .take-operation .ensures)
-
-returns-8 : tie.Need-returns-8
-returns-8 c =
-    let after-match = c .before .before .before in
-    let after-kind = after-match .before in
-    let s = after-kind .before .before in
-    let T = s .args .table .now in
-    let n = s .args .n in
-    let ρ = variablesOf (s .args .variables .now) in
-    let l = s .args .mem .now in
-    let o = s .args .obs .now in
-    let τ = s .args .temporaries .now in
-    let h = s .pre .0 .is in
-    let q = sym (after-kind .kind .ensures) ∙ after-match .match .keys8 in
-    acts-taken (statementAt T n) ρ l o τ (numberAt T n) (c .take-query .result) _ _ _
-    (λ f. watch-query T n h ρ (memoryOf l) (observationOf o) (temporariesOf τ) f q) (c .take-query .ensures)
-
-returns-9 : tie.Need-returns-9
-returns-9 c =
-    let after-match = c .before .before in
-    let after-kind = after-match .before in
-    let s = after-kind .before .before in
-    let T = s .args .table .now in
-    let n = s .args .n in
-    let ρ = variablesOf (s .args .variables .now) in
-    let l = s .args .mem .now in
-    let o = s .args .obs .now in
-    let τ = s .args .temporaries .now in
-    let h = s .pre .0 .is in
-    let q = sym (after-kind .kind .ensures) ∙ after-match .match .keys9 in
-    acts-taken (statementAt T n) ρ l o τ (numberAt T n) (c .take-not .result) _ _ _
-    (λ f. watch-not T n h ρ (memoryOf l) (observationOf o) (temporariesOf τ) f q) (c .take-not .ensures)
-
-returns-10 : tie.Need-returns-10
-returns-10 c =
-    let after-match = c .before .before in
-    let after-kind = after-match .before in
-    let s = after-kind .before .before in
-    let T = s .args .table .now in
-    let n = s .args .n in
-    let ρ = variablesOf (s .args .variables .now) in
-    let l = s .args .mem .now in
-    let o = s .args .obs .now in
-    let τ = s .args .temporaries .now in
-    let h = s .pre .0 .is in
-    let q = sym (after-kind .kind .ensures) ∙ after-match .match .keys10 in
     acts-asserted (statementAt T n) ρ l o τ (numberAt T n) (c .assert .result)
     (condition (heldIn (temporariesOf τ) (markOf T n)))
     (λ f. watch-assert-on T n h ρ (memoryOf l) (observationOf o) (temporariesOf τ) f q) (c .assert .ensures)
 
-returns-11 : tie.Need-returns-11
-returns-11 c =
-    let after-match = c .before .before .before in
-    let after-kind = after-match .before in
+returns-8 : tie.Need-returns-8
+returns-8 c =
+    let after-if2 = c .before .before .before in
+    let after-if1 = after-if2 .before in
+    let after-kind = after-if1 .before .before in
     let s = after-kind .before .before in
     let T = s .args .table .now in
     let n = s .args .n in
@@ -263,13 +200,14 @@ returns-11 c =
     let o = s .args .obs .now in
     let τ = s .args .temporaries .now in
     let h = s .pre .0 .is in
-    let q = sym (after-kind .kind .ensures) ∙ after-match .match .keys11 in
-    acts-observed (statementAt T n) ρ l o τ (numberAt T n) (c .record-block .result) _ _
-    (λ f. watch-store-block T n h ρ (memoryOf l) (observationOf o) (temporariesOf τ) f q) (c .record-block .ensures)
+    let q = rw (after-kind .kind .ensures) at (take-between _ (after-if1 .if1 .left) (after-if2 .if2 .taken)) in
+    acts-taken (statementAt T n) ρ l o τ (numberAt T n) (c .take .result) _ _ _
+    (λ f. watch-take T n h ρ (memoryOf l) (observationOf o) (temporariesOf τ) f q) (c .take .ensures)
 
-returns-12 : tie.Need-returns-12
-returns-12 c =
-    let after-match = c .before .before .before in
+returns-9 : tie.Need-returns-9
+returns-9 c =
+    let after-if1 = c .before .before .before in
+    let after-match = after-if1 .before in
     let after-kind = after-match .before in
     let s = after-kind .before .before in
     let T = s .args .table .now in
@@ -279,25 +217,11 @@ returns-12 c =
     let o = s .args .obs .now in
     let τ = s .args .temporaries .now in
     let h = s .pre .0 .is in
-    let q = sym (after-kind .kind .ensures) ∙ after-match .match .keys12 in
-    acts-observed (statementAt T n) ρ l o τ (numberAt T n) (c .delete-block .result) _ _
-    (λ f. watch-delete-block T n h ρ (memoryOf l) (observationOf o) (temporariesOf τ) f q) (c .delete-block .ensures)
-
-returns-13 : tie.Need-returns-13
-returns-13 c =
-    let after-match = c .before .before .before in
-    let after-kind = after-match .before in
-    let s = after-kind .before .before in
-    let T = s .args .table .now in
-    let n = s .args .n in
-    let ρ = variablesOf (s .args .variables .now) in
-    let l = s .args .mem .now in
-    let o = s .args .obs .now in
-    let τ = s .args .temporaries .now in
-    let h = s .pre .0 .is in
-    let q = last-act T n h (s .pre .1) (after-kind .kind .ensures) (after-match .match .rest) in
-    acts-observed (statementAt T n) ρ l o τ (numberAt T n) (c .mark-cell .result) _ _
-    (λ f. watch-initialise T n h ρ (memoryOf l) (observationOf o) (temporariesOf τ) f q) (c .mark-cell .ensures)
+    let k = after-kind .kind .result in
+    let out : (k < 63) ⊎ (66 ≤ k) = ⊎-elim (λ w. inl (w .taken)) (λ w. inr (w .1 .left)) (after-if1 .if1 .came) in
+    let q = last-act T n h (s .pre .1) (after-kind .kind .ensures) (after-match .match .rest) out in
+    acts-observed (statementAt T n) ρ l o τ (numberAt T n) (c .note .result) _ _
+    (λ f. watch-note T n h ρ (memoryOf l) (observationOf o) (temporariesOf τ) f q) (c .note .ensures)
 
 pub act-spec : {M : Type 1} → statement M
 act-spec =
@@ -309,13 +233,9 @@ act-spec =
     release-requires
     take-address-requires
     take-value-requires
-    take-operation-requires
-    take-query-requires
-    take-not-requires
     assert-requires
-    record-block-requires
-    delete-block-requires
-    mark-cell-requires
+    take-requires
+    note-requires
     returns
     returns-2
     returns-3
@@ -324,8 +244,4 @@ act-spec =
     returns-6
     returns-7
     returns-8
-    returns-9
-    returns-10
-    returns-11
-    returns-12
-    returns-13)
+    returns-9)

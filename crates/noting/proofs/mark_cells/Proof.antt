@@ -1,4 +1,4 @@
--- `steps::mark_cells` meets its contract. Assumes nothing.
+-- `noting::mark_cells` meets its contract. Assumes nothing.
 use Prim.Native.Nat.{_-_, _≤_}
 use native.Mathlib.Omega.{arith}
 use mathlib.Core.Path.{_≡_, ap}
@@ -10,9 +10,9 @@ use lib.IntN.{pos}
 use Rattle.rules.specs.Observation.{markAll}
 use Rattle.rules.specs.Layout.{observationOf}
 use Rattle.observation.specs.Calls.{ObservationBecomes}
-use Rattle.steps.proofs.StartLaws.{becomes-is, mark-none, mark-more}
-use Rattle.steps.proofs.mark_cells.Statement.{statement}
-use Rattle.steps.proofs.mark_cells.Tie as tie
+use Rattle.noting.proofs.StartLaws.{becomes-is, mark-none, mark-more}
+use Rattle.noting.proofs.mark_cells.Statement.{statement}
+use Rattle.noting.proofs.mark_cells.Tie as tie
 
 abbrev Inv-loop : tie.InvT-loop
 Inv-loop obs₀ name count i₀ obs i =

@@ -1,14 +1,14 @@
--- `steps::mark_cell` meets its contract. Assumes nothing.
+-- `noting::mark_cell` meets its contract. Assumes nothing.
 use mathlib.Core.Path.{sym, ap, _∙_}
 use denote.Ref.{now}
 use Rattle.rules.specs.Watched.{calledOn}
 use Rattle.rules.specs.Layout.{observationOf}
 use Rattle.rules.specs.declared.Evaluated.{Evaluated}
 use Rattle.rules.specs.Observation.{initialise}
-use Rattle.steps.proofs.StepLaws.{observes-stop, observes-call}
+use Rattle.noting.proofs.CallLaws.{observes-stop, observes-call}
 use borrow.Author.Needs.{needs}
-use Rattle.steps.proofs.mark_cell.Statement.{statement}
-use Rattle.steps.proofs.mark_cell.Tie as tie
+use Rattle.noting.proofs.mark_cell.Statement.{statement}
+use Rattle.noting.proofs.mark_cell.Tie as tie
 
 read-temporary-requires : tie.Need-read-temporary-requires
 read-temporary-requires c κs = search needs

@@ -1,4 +1,4 @@
--- `steps::record_block` meets its contract. Assumes nothing.
+-- `noting::record_block` meets its contract. Assumes nothing.
 use Prim.Native.Nat.{suc, _+_}
 use native.Mathlib.Omega.{arith}
 use mathlib.Core.Path.{sym, ap, ap₂, _∙_}
@@ -8,10 +8,10 @@ use Rattle.rules.specs.Watched.{heldIn, calledOnTwo}
 use Rattle.rules.specs.Layout.{observationOf}
 use Rattle.rules.specs.declared.Evaluated.{Evaluated}
 use Rattle.temporaries.specs.Bytes.{temporariesOf}
-use Rattle.steps.proofs.StepLaws.{holds-at, observes-stop, observes-call}
+use Rattle.noting.proofs.CallLaws.{holds-at, observes-stop, observes-call}
 use borrow.Author.Needs.{needs}
-use Rattle.steps.proofs.record_block.Statement.{statement}
-use Rattle.steps.proofs.record_block.Tie as tie
+use Rattle.noting.proofs.record_block.Statement.{statement}
+use Rattle.noting.proofs.record_block.Tie as tie
 
 read-temporary-requires : tie.Need-read-temporary-requires
 read-temporary-requires c κs = search needs

@@ -1,4 +1,4 @@
--- `steps::record_marked` meets its contract. Assumes nothing.
+-- `noting::record_marked` meets its contract. Assumes nothing.
 use native.Mathlib.Omega.{arith}
 use mir.Syntax.{w64}
 use mir.Val.{SFits}
@@ -7,8 +7,8 @@ use lib.IntN.{pos}
 use Rattle.rules.specs.Observation.{Observation, markAll}
 use Rattle.observation.proofs.Becoming.{becomes-then}
 use borrow.Author.Needs.{needs}
-use Rattle.steps.proofs.record_marked.Statement.{statement}
-use Rattle.steps.proofs.record_marked.Tie as tie
+use Rattle.noting.proofs.record_marked.Statement.{statement}
+use Rattle.noting.proofs.record_marked.Tie as tie
 
 cast-t8 : tie.Need-cast-t8
 cast-t8 c = search needs

@@ -1,8 +1,8 @@
--- `steps::start_observation` meets its contract. Assumes nothing.
-use Rattle.steps.proofs.StartLaws.{start-image}
+-- `noting::start_observation` meets its contract. Assumes nothing.
+use Rattle.noting.proofs.StartLaws.{start-image}
 use borrow.Author.Needs.{needs}
-use Rattle.steps.proofs.start_observation.Statement.{statement}
-use Rattle.steps.proofs.start_observation.Tie as tie
+use Rattle.noting.proofs.start_observation.Statement.{statement}
+use Rattle.noting.proofs.start_observation.Tie as tie
 
 clear-requires : tie.Need-clear-requires
 clear-requires c κs = search needs
