@@ -17,7 +17,7 @@ names=$(grep -o '`[^`]*`' "$page" | tr -d '`' | sort -u)
 
 while IFS= read -r name; do
     case $name in
-    *::*) grep -qE "fn ${name##*::}\(" "crates/${name%%::*}/src/"*.rt 2>/dev/null || miss "$name" ;;
+    *::*) grep -qE "(fn ${name##*::}\(|pub use [a-z_:]+::${name##*::};)" "crates/${name%%::*}/src/"*.rt 2>/dev/null || miss "$name" ;;
     crates/* | tests/*) [ -e "$name" ] || miss "$name" ;;
     rules/*) [ -e "crates/$name" ] || miss "$name" ;;
     reference/* | compare/*) [ -e "tests/$name" ] || miss "$name" ;;
