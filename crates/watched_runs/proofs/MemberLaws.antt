@@ -22,8 +22,9 @@ use Rattle.temporaries.specs.Bytes.{temporariesOf}
 use Rattle.endings.specs.declared.Ended.{Ended}
 use Rattle.endings.specs.Ending.{result}
 use Rattle.statements.proofs.ChangeLaws.{becomes-is, made-by, unmade-by}
-use Rattle.watched_statements.specs.Watching.{Lent, lent, goFrom, watchFrom, LentFits, Ready, enclosed, IsBranch, choice, resultOf, Ran}
-use Rattle.watched_statements.proofs.Choices.{choice-on, choice-of}
+use Rattle.watched_statements.specs.Watching.{Lent, lent, goFrom, watchFrom, LentFits, Ready, enclosed, resultOf, Ran}
+use Rattle.choices.specs.Branches.{IsBranch, choice}
+use Rattle.choices.proofs.Choices.{choice-on, choice-of}
 use Rattle.watched_statements.proofs.Laws.{observation-same, Kept, kept-then, ran-kept, ran-is, ran-from, watch-finished, next-goes, next-stays}
 use Rattle.watched_statements.proofs.ReadyLaws.{run-kept}
 

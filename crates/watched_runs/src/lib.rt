@@ -3,7 +3,8 @@ ghost use mathlib.Core.Logic.{_≢_};
 ghost use mathlib.Core.Path.{_≡_};
 ghost use Rattle.rules.specs.Records.{kindOf};
 ghost use Rattle.evaluation.specs.State.{variablesOf};
-ghost use Rattle.watched_statements.specs.Watching.{lent, Ready, Inside, enclosed, IsBranch, Ran, Runs};
+ghost use Rattle.choices.specs.Branches.{IsBranch};
+ghost use Rattle.watched_statements.specs.Watching.{lent, Ready, Inside, enclosed, Ran, Runs};
 use blocks::Making;
 use rules::Test;
 use endings::Ended;
@@ -79,12 +80,12 @@ fn branch(
 {
     let then = tables::child_b(&table[..], n);
     let other = tables::child_c(&table[..], n);
-    match watched_statements::test(table, n, variables, &*temporaries, &*mem) {
+    match choices::test(table, n, variables, &*temporaries, &*mem) {
         Test::Yes => run(table, then, variables, temporaries, mem, obs, fuel),
         Test::No => run(table, other, variables, temporaries, mem, obs, fuel),
         Test::Stopped(k) => Ended {
             number: k,
-            statement: watched_statements::statement_of(table, n),
+            statement: choices::statement_of(table, n),
             fuel,
         },
     }
@@ -128,7 +129,7 @@ fn repeat(
             Test::Stopped(k) => {
                 return Ended {
                     number: k,
-                    statement: watched_statements::statement_of(table, n),
+                    statement: choices::statement_of(table, n),
                     fuel: left,
                 };
             }
@@ -136,7 +137,7 @@ fn repeat(
     }
     Ended {
         number: 32,
-        statement: watched_statements::statement_of(table, n),
+        statement: choices::statement_of(table, n),
         fuel: 0,
     }
 }
@@ -161,7 +162,7 @@ fn enclose(
         Making::Name(k) => run_inside(table, n, variables, temporaries, mem, obs, fuel, k),
         Making::Stopped(c) => Ended {
             number: c,
-            statement: watched_statements::statement_of(table, n),
+            statement: choices::statement_of(table, n),
             fuel,
         },
     }

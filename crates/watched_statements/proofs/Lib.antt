@@ -2,4 +2,3 @@
 pub mod Laws
 pub mod ReadyLaws
 pub mod ActLaws
-pub mod Choices

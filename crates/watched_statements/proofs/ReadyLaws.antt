@@ -28,7 +28,8 @@ use Rattle.blocks.specs.declared.Making.the-variants as making
 use Rattle.temporaries.specs.Bytes.{temporariesOf}
 use Rattle.endings.specs.declared.Ended.{Ended}
 use Rattle.statements.proofs.ChangeLaws.{names-fit, made-by, name-fits}
-use Rattle.watched_statements.specs.Watching.{Lent, lent, watchFrom, LentFits, Ready, Inside, IsBranch, Ran}
+use Rattle.choices.specs.Branches.{IsBranch}
+use Rattle.watched_statements.specs.Watching.{Lent, lent, watchFrom, LentFits, Ready, Inside, Ran}
 
 -- what a run leaves fits where its outcome does
 lent-fits : (w : WatchedOutcome) (r : Ended) (x y : Lent)

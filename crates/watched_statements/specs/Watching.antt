@@ -1,25 +1,22 @@
 -- What a watched run's code asks, and what it answers, by the outcome of the rules.
 use Prim.Native.Nat.{ℕ, _<_}
-use mathlib.Core.Bool.{cond}
 use mathlib.Core.List.{List}
-use mathlib.Core.Logic.{_≢_, _⊎_}
+use mathlib.Core.Logic.{_≢_}
 use mathlib.Core.Path.{_≡_}
-use lib.Dec.{eqb}
-use Rattle.rules.specs.Records.{kindOf, markOf, childA}
+use Rattle.rules.specs.Records.{markOf, childA}
 use Rattle.rules.specs.Kinds.{statement}
-use Rattle.rules.specs.Memory.{Memory, endBlock}
-use Rattle.rules.specs.Evaluation.{Variables, evaluate, condition, extend}
+use Rattle.rules.specs.Memory.{endBlock}
+use Rattle.rules.specs.Evaluation.{Variables, extend}
 use Rattle.rules.specs.TargetTrees.{TargetStatement}
-use Rattle.rules.specs.Watched.{Temporaries, temporaryOf, heldIn, WatchedOutcome, finished, ended, Watching, next, watch}
+use Rattle.rules.specs.Watched.{Temporaries, WatchedOutcome, finished, ended, Watching, next, watch}
 use Rattle.rules.specs.Layout.{memoryOf, observationOf}
 use Rattle.rules.specs.Answers.{watchedMemoryAfter, observationAfter, WatchedRun}
 use Rattle.rules.specs.declared.Answer.{Answer}
-use Rattle.rules.specs.declared.Test.{Test}
 use Rattle.rules.proofs.Lists.{All}
 use Rattle.rules.proofs.Sound.{Scope, SoundTarget}
 use Rattle.rules.proofs.Fits.{FitsTemporary, FitsMemory, FitsObservation}
 use Rattle.rules.proofs.Reachable.{NamesFit}
-use Rattle.rules.proofs.TargetFields.{HasSort, expressionAt, statementAt, numberAt}
+use Rattle.rules.proofs.TargetFields.{HasSort, statementAt, numberAt}
 use Rattle.tables.specs.Within.{Within}
 use Rattle.cells.specs.Changes.{Becomes}
 use Rattle.observation.specs.Calls.{ObservationBecomes}
@@ -93,15 +90,6 @@ Runs t n ρ f r x y = Ran (watchFrom (statementAt t n) ρ x f) r x y
 -- the kinds without a statement for a child
 abbrev pub IsAct : ℕ → Type 0
 IsAct k = (k ≢ 44) × (k ≢ 45) × (k ≢ 46) × (k ≢ 47) × (k ≢ 66)
-
--- what decides between B and C: condition A of 45, temporary n of 66
-abbrev pub IsBranch : ℕ → Type 0
-IsBranch k = (k ≡ 45) ⊎ (k ≡ 66)
-
-abbrev pub choice : List ℕ → ℕ → Temporaries → Variables → Memory → Test
-choice t n τ ρ m =
-    condition
-    (cond (eqb (kindOf t n) 66) (heldIn τ (markOf t n)) (evaluate (expressionAt t (childA t n)) (temporaryOf τ) ρ m))
 
 -- statement n, which runs no other, answered the number r; its fuel stays
 abbrev pub Acts : List ℕ → ℕ → Variables → ℕ → Lent → Lent → Type 0

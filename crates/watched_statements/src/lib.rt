@@ -1,4 +1,4 @@
-// The statements that run no other, and what the others test.
+// The statements of the target language that run no other.
 ghost use mathlib.Core.Path.{_≡_};
 ghost use Rattle.rules.specs.Kinds.{statement};
 ghost use Rattle.rules.specs.Records.{kindOf, markOf, childA, childB};
@@ -14,18 +14,8 @@ ghost use Rattle.children.specs.Children.{foundIn, valueIn};
 ghost use Rattle.endings.specs.Ending.{assertNumber};
 ghost use Rattle.statements.specs.Changing.{Does};
 ghost use Rattle.steps.specs.Steps.{Takes};
-ghost use Rattle.watched_statements.specs.Watching.{lent, Ready, IsAct, IsBranch, choice, Runs, Acts};
-use rules::Test;
+ghost use Rattle.watched_statements.specs.Watching.{lent, Ready, IsAct, Runs, Acts};
 use endings::Ended;
-
-// The source statement that record n came from.
-pub fn statement_of(table: &[u8; 65536], n: usize) -> u32
-    requires { ⌜ HasSort statement (now table) n ⌝ }
-    ensures { λ r. ⌜ r ≡ numberAt (now (table .entry)) n ⌝ }
-{
-    let literal = tables::literal(&table[..], n);
-    literal as u32
-}
 
 // 41: place A takes expression B.
 fn assign(
@@ -178,23 +168,5 @@ pub fn step(
         (lent (now (mem .exit)) (now (obs .exit)) (now (temporaries .exit))) ⌝ }
 {
     let number = act(table, n, variables, temporaries, mem, obs);
-    endings::conclude(number, statement_of(table, n), fuel)
-}
-
-// What decides between B and C: condition A of 45, the temporary of 66.
-pub fn test(
-    table: &[u8; 65536],
-    n: usize,
-    variables: &[u16; 64],
-    temporaries: &[u8; 1024],
-    mem: &[u8; 18424],
-) -> Test
-    requires { ⌜ HasSort statement (now table) n × IsBranch (kindOf (now table) n) ⌝ }
-    ensures { λ r. ⌜ r ≡ choice (now (table .entry)) n (temporariesOf (now (temporaries .entry)))
-        (variablesOf (now (variables .entry))) (memoryOf (now (mem .entry))) ⌝ }
-{
-    if tables::kind(&table[..], n) == 66 {
-        return steps::test_temporary(temporaries, tables::mark(&table[..], n) as usize);
-    }
-    children::test_a(table, n, variables, temporaries, mem)
+    endings::conclude(number, choices::statement_of(table, n), fuel)
 }

@@ -49,9 +49,9 @@ use Rattle.tables.proofs.child_b.Reads as child-b-reads
 use Rattle.tables.proofs.child_c.Reads as child-c-reads
 use Rattle.tables.proofs.kind.Reads as kind-reads
 use Rattle.tables.proofs.mark.Reads as mark-reads
-use Rattle.watched_statements.proofs.statement_of.Reads as statement-of-reads
+use Rattle.choices.proofs.statement_of.Reads as statement-of-reads
 use Rattle.watched_statements.proofs.step.Reads as step-reads
-use Rattle.watched_statements.proofs.test.Reads as test-reads
+use Rattle.choices.proofs.test.Reads as test-reads
 use Rattle.watched_runs.proofs.+branch+enclose+repeat+run+run_inside+run_single.{statement}
 use Rattle.watched_runs.proofs.+branch+enclose+repeat+run+run_inside+run_single.Tie.{close}
 

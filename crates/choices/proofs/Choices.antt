@@ -11,7 +11,7 @@ use Rattle.rules.specs.Evaluation.{Variables, evaluate, condition}
 use Rattle.rules.specs.Watched.{Temporaries, temporaryOf, heldIn}
 use Rattle.rules.specs.declared.Test.{Test}
 use Rattle.rules.proofs.TargetFields.{expressionAt}
-use Rattle.watched_statements.specs.Watching.{IsBranch, choice}
+use Rattle.choices.specs.Branches.{IsBranch, choice}
 
 pub not-on : {k : ℕ} → IsBranch k → k ≢ 66 → k ≡ 45
 not-on (inl e) d = e

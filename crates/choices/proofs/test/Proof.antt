@@ -9,10 +9,10 @@ use Rattle.rules.proofs.StatementArms.{statement-within, branch-children}
 use Rattle.rules.proofs.TargetFields.{branch-on-fields}
 use Rattle.evaluation.specs.State.{variablesOf}
 use Rattle.temporaries.specs.Bytes.{temporariesOf}
-use Rattle.watched_statements.proofs.Choices.{not-on, choice-on, choice-of}
+use Rattle.choices.proofs.Choices.{not-on, choice-on, choice-of}
 use borrow.Author.Needs.{needs}
-use Rattle.watched_statements.proofs.test.Statement.{statement}
-use Rattle.watched_statements.proofs.test.Tie as tie
+use Rattle.choices.proofs.test.Statement.{statement}
+use Rattle.choices.proofs.test.Tie as tie
 
 kind-requires : tie.Need-kind-requires
 kind-requires c κs =

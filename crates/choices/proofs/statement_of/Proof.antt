@@ -8,8 +8,8 @@ use mir.Val.{Fits, SFits}
 use Rattle.rules.specs.Kinds.{target}
 use Rattle.rules.proofs.StatementArms.{statement-within}
 use Rattle.rules.proofs.TargetFields.{literal-natural, number-fits}
-use Rattle.watched_statements.proofs.statement_of.Statement.{statement}
-use Rattle.watched_statements.proofs.statement_of.Tie as tie
+use Rattle.choices.proofs.statement_of.Statement.{statement}
+use Rattle.choices.proofs.statement_of.Tie as tie
 
 literal-requires : tie.Need-literal-requires
 literal-requires c κs =

@@ -1,0 +1,37 @@
+// The source statement that a target record came from, and what a branch tests.
+ghost use mathlib.Core.Path.{_≡_};
+ghost use Rattle.rules.specs.Kinds.{statement};
+ghost use Rattle.rules.specs.Records.{kindOf};
+ghost use Rattle.rules.specs.Layout.{memoryOf};
+ghost use Rattle.rules.proofs.TargetFields.{HasSort, numberAt};
+ghost use Rattle.evaluation.specs.State.{variablesOf};
+ghost use Rattle.temporaries.specs.Bytes.{temporariesOf};
+ghost use Rattle.choices.specs.Branches.{IsBranch, choice};
+use rules::Test;
+
+// The source statement that record n came from.
+pub fn statement_of(table: &[u8; 65536], n: usize) -> u32
+    requires { ⌜ HasSort statement (now table) n ⌝ }
+    ensures { λ r. ⌜ r ≡ numberAt (now (table .entry)) n ⌝ }
+{
+    let literal = tables::literal(&table[..], n);
+    literal as u32
+}
+
+// What decides between B and C: condition A of 45, the temporary of 66.
+pub fn test(
+    table: &[u8; 65536],
+    n: usize,
+    variables: &[u16; 64],
+    temporaries: &[u8; 1024],
+    mem: &[u8; 18424],
+) -> Test
+    requires { ⌜ HasSort statement (now table) n × IsBranch (kindOf (now table) n) ⌝ }
+    ensures { λ r. ⌜ r ≡ choice (now (table .entry)) n (temporariesOf (now (temporaries .entry)))
+        (variablesOf (now (variables .entry))) (memoryOf (now (mem .entry))) ⌝ }
+{
+    if tables::kind(&table[..], n) == 66 {
+        return steps::test_temporary(temporaries, tables::mark(&table[..], n) as usize);
+    }
+    children::test_a(table, n, variables, temporaries, mem)
+}
