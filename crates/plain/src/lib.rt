@@ -12,9 +12,9 @@ ghost use Rattle.rules.specs.Layout.{memoryOf};
 ghost use Rattle.rules.proofs.PlainArms.{statementAt};
 ghost use Rattle.plain_runs.specs.Running.{Ready, Ran};
 ghost use Rattle.plain.specs.Answering.{AnsweredBy};
+use endings::Ended;
 use rules::Answer;
 use rules::Checked;
-use endings::Ended;
 
 // Runs statement n with the variables and temporaries of the start.
 fn run_from_start(table: &[u8; 65536], n: usize, mem: &mut [u8; 18424], fuel: u32) -> Ended

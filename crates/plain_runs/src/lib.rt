@@ -11,8 +11,8 @@ ghost use Rattle.tables.specs.Within.{Within};
 ghost use Rattle.evaluation.specs.State.{variablesOf};
 ghost use Rattle.plain_runs.specs.Running.{Ready, Inside, enclosed, Ran};
 use blocks::Making;
-use rules::Test;
 use endings::Ended;
+use rules::Test;
 
 // What condition A says.
 fn test_a(

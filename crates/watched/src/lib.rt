@@ -13,9 +13,9 @@ ghost use Rattle.rules.specs.declared.Checked.the-variants as checked;
 ghost use Rattle.rules.proofs.Fits.{FitsMemory, FitsObservation};
 ghost use Rattle.rules.proofs.TargetFields.{statementAt};
 ghost use Rattle.watched_statements.specs.Watching.{lent, Ready, Leaves, AnsweredBy};
+use endings::Ended;
 use rules::Answer;
 use rules::Checked;
-use endings::Ended;
 
 // Runs statement n with the variables and temporaries of the start.
 fn run_from_start(

@@ -6,8 +6,8 @@ ghost use Rattle.evaluation.specs.State.{variablesOf};
 ghost use Rattle.choices.specs.Branches.{IsBranch};
 ghost use Rattle.watched_statements.specs.Watching.{lent, Ready, Inside, enclosed, Ran, Runs};
 use blocks::Making;
-use rules::Test;
 use endings::Ended;
+use rules::Test;
 
 // Runs statement n. Of a sequence A runs, and B where A finished; as B may be one again, they are a loop.
 pub fn run(
