@@ -7,28 +7,11 @@ use rules::Located;
 use rules::Pointer;
 use rules::Recorded;
 
-// The mark that an offset leads to in a live block.
-fn locate_inside(first: u16, n: u16, offset: i64) -> Located
-    ensures { λ r. ⌜ r ≡ locatedIn (Recorded.Live first n) offset ⌝ }
-{
-    if offset < 0 {
-        return Located::Outside;
-    }
-    let o = offset as usize;
-    let count = n as usize;
-    let start = first as usize;
-    if o < count {
-        Located::At(start + o)
-    } else {
-        Located::Outside
-    }
-}
-
 fn locate_in(b: Recorded, offset: i64) -> Located
     ensures { λ r. ⌜ r ≡ locatedIn b offset ⌝ }
 {
     match b {
-        Recorded::Live(first, n) => locate_inside(first, n, offset),
+        Recorded::Live(first, n) => offsets::inside(first, n, offset),
         Recorded::Unused => Located::Dead,
         Recorded::Dead => Located::Dead,
     }

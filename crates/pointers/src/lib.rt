@@ -2,25 +2,9 @@
 ghost use mathlib.Core.Path.{_≡_};
 ghost use Rattle.rules.specs.Memory.{recordedOf, locatedIn, locate};
 ghost use Rattle.rules.specs.Layout.{memoryOf};
-ghost use Rattle.rules.specs.declared.Recorded.the-variants as recorded;
 use rules::Block;
 use rules::Located;
 use rules::Pointer;
-
-// The cell of an offset in a live block.
-fn inside(first: u16, n: u16, offset: i64) -> Located
-    ensures { λ r. ⌜ r ≡ locatedIn (recorded.Live first n) offset ⌝ }
-{
-    if offset < 0 {
-        return Located::Outside;
-    }
-    let o = offset as usize;
-    if o < n as usize {
-        Located::At(first as usize + o)
-    } else {
-        Located::Outside
-    }
-}
 
 // Where an offset leads in a block.
 fn within(b: Block, offset: i64) -> Located
@@ -28,8 +12,8 @@ fn within(b: Block, offset: i64) -> Located
 {
     match b {
         Block::Unused => Located::Dead,
-        Block::Fixed(first, n) => inside(first, n, offset),
-        Block::Freeable(first, n) => inside(first, n, offset),
+        Block::Fixed(first, n) => offsets::inside(first, n, offset),
+        Block::Freeable(first, n) => offsets::inside(first, n, offset),
         Block::Dead => Located::Dead,
     }
 }

@@ -12,8 +12,8 @@ use mir.Val.{SFits}
 enum-known-b : tie.Need-enum-known-b
 enum-known-b c = search needs
 
-locate-inside-requires : tie.Need-locate-inside-requires
-locate-inside-requires c κs = search needs
+inside-requires : tie.Need-inside-requires
+inside-requires c κs = search needs
 
 enum-told : tie.Need-enum-told
 enum-told c = search needs
@@ -25,7 +25,7 @@ returns : tie.Need-returns
 returns c =
     let s = c .before .before .before .before in
     let f : SFits w64 (s .args .offset) = search needs in
-    (rw (toZ-ofZ f) at (c .locate-inside .ensures)) ∙ ap (λ (x : Recorded). locatedIn x (s .args .offset))
+    (rw (toZ-ofZ f) at (c .inside .ensures)) ∙ ap (λ (x : Recorded). locatedIn x (s .args .offset))
     (sym (c .before .before .b .given .1))
 
 returns-2 : tie.Need-returns-2
@@ -39,7 +39,7 @@ locate-in-spec =
     tie.close
     (tie.spec
     enum-known-b
-    locate-inside-requires
+    inside-requires
     enum-told
     enum-told-2
     returns

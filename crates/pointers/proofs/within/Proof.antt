@@ -5,7 +5,7 @@ use Rattle.pointers.proofs.within.Statement.{statement}
 use Rattle.pointers.proofs.within.Tie as tie
 use Rattle.pointers.proofs.within.Reads as reads
 use Rattle.pointers.proofs.within.Lts as lts
-use Rattle.pointers.proofs.inside.Reads as inside-reads
+use Rattle.offsets.proofs.inside.Reads as inside-reads
 
 enum-told : tie.Need-enum-told
 enum-told c = search needs

@@ -1,4 +1,4 @@
--- `pointers::inside` meets its contract. Assumes nothing.
+-- `offsets::inside` meets its contract. Assumes nothing.
 use Prim.Native.Nat.{ℕ, zero, suc, _+_, _-_, _≤_, _<_}
 use native.Mathlib.Omega.{arith}
 use mathlib.Core.Path.{_≡_, refl, subst}
@@ -14,10 +14,10 @@ use Rattle.rules.specs.declared.Located.{Located}
 use Rattle.rules.specs.declared.Located.the-variants as located
 use Rattle.rules.specs.declared.Recorded.the-variants as recorded
 use borrow.Author.Needs.{needs}
-use Rattle.pointers.proofs.inside.Statement.{statement}
-use Rattle.pointers.proofs.inside.Tie as tie
-use Rattle.pointers.proofs.inside.Reads as reads
-use Rattle.pointers.proofs.inside.Lts as lts
+use Rattle.offsets.proofs.inside.Statement.{statement}
+use Rattle.offsets.proofs.inside.Tie as tie
+use Rattle.offsets.proofs.inside.Reads as reads
+use Rattle.offsets.proofs.inside.Lts as lts
 
 below : (f n : ℕ) (z : ℤ) → ltZ z (pos 0) ≡ true → located.Outside ≡ locatedIn (recorded.Live f n) z
 below f n (pos k) t = absurd (omega (arith, ltZ-true (pos k) (pos 0) t))
