@@ -9,8 +9,8 @@ use lib.ListN.{length, getD, drop, replicate, length-replicate, drop-of-length-l
 use lib.Seq.{drop-cons}
 use Rattle.rules.specs.Sizes.{nameCount, cellCount}
 use Rattle.rules.specs.Memory.{one, lowestRun}
-use Rattle.rules.specs.Observation.{recordOf, covered, covers, markRun}
-use Rattle.rules.specs.Layout.{observationOf}
+use Rattle.rules.specs.Observation.{covered, covers, markRun}
+use Rattle.rules.specs.Layout.{recordedAt, observationOf}
 use Rattle.rules.specs.declared.Recorded.{Recorded}
 use Rattle.rules.specs.declared.Recorded.the-variants as recorded
 use Rattle.rules.proofs.Rows.{getD-zero}
@@ -18,7 +18,7 @@ use Rattle.rules.proofs.Lists.{length-fill}
 use Rattle.rules.proofs.FillLaws.{getD-fill}
 use Rattle.rules.proofs.RunLaws.{run-same}
 use Rattle.free_marks.specs.Occupied.{occupy, occupyAll}
-use Rattle.observation_records.proofs.ObservationLaws.{record-count}
+use Rattle.observation_records.proofs.ObservationLaws.{record-count, record-in}
 
 length-occupy : (l : List ℕ) (b : Recorded) → length (occupy l b) ≡ length l
 length-occupy l recorded.Unused = refl
@@ -69,9 +69,9 @@ cover-start p l =
     rw (drop-of-length-le (observationOf l .blocks) h) refl
 
 pub cover-more : (p l : List ℕ) (k : ℕ) → k < nameCount
-    → occupy (occupyAll p (drop (suc k) (observationOf l .blocks))) (recordOf (observationOf l) (suc k))
+    → occupy (occupyAll p (drop (suc k) (observationOf l .blocks))) (recordedAt l k)
     ≡ occupyAll p (drop k (observationOf l .blocks))
 unfolding occupyAll
 cover-more p l k h =
     let i : k < length (observationOf l .blocks) = omega (arith, record-count l) in
-    rw (drop-cons (observationOf l .blocks) k recorded.Dead i) refl
+    rw (drop-cons (observationOf l .blocks) k recorded.Dead i, record-in l k h) refl

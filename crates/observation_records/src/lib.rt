@@ -6,7 +6,7 @@ ghost use Rattle.rules.specs.Layout.{recordedAt, observationOf};
 use rules::Recorded;
 
 // Block record k, counted from 0.
-fn read_record(obs: &[u8; 3064], k: usize) -> Recorded
+pub fn read_record(obs: &[u8; 3064], k: usize) -> Recorded
     requires { ⌜ k < 255 ⌝ }
     ensures { λ r. ⌜ r ≡ recordedAt (now (obs .entry)) k ⌝ }
 {

@@ -7,36 +7,34 @@ use native.Mathlib.Omega.{arith}
 use mathlib.Core.Path.{_≡_, ap, _∙_}
 use mathlib.Core.List.{List}
 use denote.Ref.{now}
-use Rattle.rules.specs.Layout.{observationOf}
-use Rattle.rules.specs.Observation.{recordOf}
+use Rattle.rules.specs.Layout.{recordedAt, observationOf}
 use lib.ListN.{drop}
 use Rattle.rules.specs.declared.Recorded.{Recorded}
 use Rattle.free_marks.specs.Occupied.{occupy, occupyAll}
 use Rattle.free_marks.proofs.PlaceLaws.{cover-start, cover-more}
 
 covered : (p l d : List ℕ) (k : ℕ) (b : Recorded) → k < 255 → d ≡ occupyAll p (drop (suc k) (observationOf l .blocks))
-    → b ≡ recordOf (observationOf l) (suc k) → occupy d b ≡ occupyAll p (drop k (observationOf l .blocks))
+    → b ≡ recordedAt l k → occupy d b ≡ occupyAll p (drop k (observationOf l .blocks))
 covered p l d k b h e f = ap (λ (t : List ℕ). occupy t b) e ∙ ap
     (occupy (occupyAll p (drop (suc k) (observationOf l .blocks)))) f ∙ cover-more p l k h
 
 abbrev Inv-loop : tie.InvT-loop
-Inv-loop obs places₀ name₀ places name = (name ≤ 255) ×
-    (places ≡ occupyAll places₀ (drop name (observationOf obs .blocks)))
+Inv-loop obs places₀ k₀ places k = (k ≤ 255) × (places ≡ occupyAll places₀ (drop k (observationOf obs .blocks)))
 
 abbrev μ-loop : tie.MeasureT-loop
-μ-loop obs places₀ name₀ places name = name
+μ-loop obs places₀ k₀ places k = k
 
 loop-holds : tie.Need-loop-holds Inv-loop μ-loop
 loop-holds c = (omega arith, cover-start (now (c .args .places)) (now (c .args .obs)))
 
-record-of-requires : tie.Need-record-of-requires Inv-loop μ-loop
-record-of-requires c κs = search needs
+sub-k : tie.Need-sub-k Inv-loop μ-loop
+sub-k c = omega arith
+
+read-record-requires : tie.Need-read-record-requires Inv-loop μ-loop
+read-record-requires c κs = omega arith
 
 cover-requires : tie.Need-cover-requires Inv-loop μ-loop
 cover-requires c κs = search needs
-
-sub-name : tie.Need-sub-name Inv-loop μ-loop
-sub-name c = omega arith
 
 loop-less : tie.Need-loop-less Inv-loop μ-loop
 loop-less c = omega arith
@@ -45,18 +43,17 @@ loop-again : tie.Need-loop-again Inv-loop μ-loop
 loop-again c =
     let s = c .before .before .before .before .before in
     let l = c .before .before .before .before .loop in
-    let next : l .name ≡ suc (l .name - 1) = omega arith in (
+    let next : l .k ≡ suc (l .k - 1) = omega arith in (
       omega arith,
-      c .cover .ensures ∙ covered (now (s .args .places)) (now (s .args .obs)) (l .places) (l .name - 1)
-          (c .before .record-of .result) (omega arith) (rw next at (l .inv .1))
-          (rw next at (c .before .record-of .ensures)),
+      c .cover .ensures ∙ covered (now (s .args .places)) (now (s .args .obs)) (l .places) (l .k - 1)
+          (c .before .read-record .result) (omega arith) ((rw next at (l .inv .1))) (c .before .read-record .ensures),
     )
 
 returns : tie.Need-returns Inv-loop μ-loop
 returns c =
     let s = c .before .before in
     let l = c .before .loop in
-    let all : l .name ≡ 0 = omega arith in
+    let all : l .k ≡ 0 = omega arith in
     rw all at (l .inv .1)
 
 pub cover-all-spec : {M : Type 1} → statement M
@@ -66,9 +63,9 @@ cover-all-spec =
     Inv-loop
     μ-loop
     loop-holds
-    record-of-requires
+    sub-k
+    read-record-requires
     cover-requires
-    sub-name
     loop-less
     loop-again
     returns)
