@@ -2,10 +2,10 @@
 use borrow.Author.Needs.{needs}
 use mathlib.Core.Path.{sym, ap, _∙_}
 use Rattle.rules.specs.declared.Checked.{Checked}
-use Rattle.recorder.specs.BothRuns.{Lent, lent, bothBy}
-use Rattle.recorder.proofs.BothLaws.{refused-both}
-use Rattle.recorder.proofs.run_both.Statement.{statement}
-use Rattle.recorder.proofs.run_both.Tie as tie
+use Rattle.both_runs.specs.BothRuns.{Lent, lent, bothBy}
+use Rattle.both_runs.proofs.BothLaws.{refused-both}
+use Rattle.both_runs.proofs.run_both.Statement.{statement}
+use Rattle.both_runs.proofs.run_both.Tie as tie
 
 check-source-requires : tie.Need-check-source-requires
 check-source-requires c κs = search needs
