@@ -82,7 +82,7 @@ pub fn evaluate_operand(
 }
 
 // The value of expression n. An operator's and a shift's operands are worked out alike: a shift's mark is 0.
-pub fn evaluate(
+fn evaluate(
     table: &[u8; 65536],
     n: usize,
     variables: &[u16; 64],
