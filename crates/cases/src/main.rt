@@ -36,20 +36,20 @@ fn end_line() {
 
 fn print_p2() {
     io::write_all(1, b"P2");
-    print_number(numbers::divide_nearest(7, 2));
-    print_number(numbers::divide_nearest(-7, 2));
-    print_number(numbers::divide_nearest(5, 2));
-    print_number(numbers::divide_nearest(1, 3));
+    print_number(division::divide_nearest(7, 2));
+    print_number(division::divide_nearest(-7, 2));
+    print_number(division::divide_nearest(5, 2));
+    print_number(division::divide_nearest(1, 3));
     end_line();
 }
 
 fn print_p3_p4() {
     io::write_all(1, b"P3");
-    print_number(numbers::divide(-7, 2));
+    print_number(division::divide(-7, 2));
     end_line();
     io::write_all(1, b"P4");
-    print_number(numbers::divide(-9223372036854775808, -1));
-    print_number(numbers::divide(-9223372036854775808, 0));
+    print_number(division::divide(-9223372036854775808, -1));
+    print_number(division::divide(-9223372036854775808, 0));
     end_line();
 }
 

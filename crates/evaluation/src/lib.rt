@@ -77,12 +77,18 @@ pub fn evaluate_operand(
 {
     match settle(table, n, variables, mem) {
         Settled::Is(e) => e,
-        Settled::Open => values::restate(evaluate(table, n, variables, temporaries, mem)),
+        Settled::Open => evaluation_answers::restate(evaluate(
+            table,
+            n,
+            variables,
+            temporaries,
+            mem,
+        )),
     }
 }
 
 // The value of expression n. An operator's and a shift's operands are worked out alike: a shift's mark is 0.
-pub fn evaluate(
+fn evaluate(
     table: &[u8; 65536],
     n: usize,
     variables: &[u16; 64],
@@ -106,7 +112,7 @@ pub fn evaluate(
                 mem,
             ),
         ),
-        3 => values::address(find_place(
+        3 => evaluation_answers::address(find_place(
             table,
             tables::child_a(&table[..], n),
             variables,
@@ -127,7 +133,7 @@ pub fn evaluate(
                 temporaries,
                 mem,
             ) {
-                Evaluated::Value(b) => values::restate(operators::operate(
+                Evaluated::Value(b) => evaluation_answers::restate(operators::operate(
                     tables::mark(&table[..], n),
                     a,
                     b,
@@ -160,14 +166,14 @@ pub fn find_place(
                 offset: 0,
             })
         }
-        11 => values::point(evaluate(
+        11 => evaluation_answers::point(evaluate(
             table,
             tables::child_a(&table[..], n),
             variables,
             temporaries,
             mem,
         )),
-        _ => values::point(temporaries::read_temporary(
+        _ => evaluation_answers::point(temporaries::read_temporary(
             temporaries,
             tables::mark(&table[..], n) as usize,
         )),

@@ -2,4 +2,4 @@
 pub mod Integers
 pub mod Answers
 pub mod Sums
-pub mod Divides
+pub mod Signs

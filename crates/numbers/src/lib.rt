@@ -1,9 +1,8 @@
-// The operators on integers, exact. No function has a `requires`; the pointer shift's offset sum is `add`.
+// Sums, differences, products and magnitudes of integers, exact; the pointer shift's offset sum is `add`.
 ghost use mathlib.Core.Path.{_≡_};
 ghost use lib.IntN.{natAbs, _+ℤ_, _-ℤ_, _*ℤ_};
-ghost use Prim.Native.Nat.{_*_, _<_};
-ghost use lib.Dec.{leb};
-ghost use Rattle.rules.specs.Numbers.{ranged, signed, divided, towardZero, toNearest};
+ghost use Prim.Native.Nat.{_*_};
+ghost use Rattle.rules.specs.Numbers.{ranged, signed};
 use rules::Number;
 
 pub fn add(a: i64, b: i64) -> Number
@@ -99,50 +98,4 @@ pub fn multiply(a: i64, b: i64) -> Number
         }
     }
     from_product((a < 0) != (b < 0), x, y)
-}
-
-// Rounded toward zero.
-pub fn divide(a: i64, b: i64) -> Number
-    ensures { λ r. ⌜ r ≡ divided towardZero a b ⌝ }
-{
-    if b == 0 {
-        return Number::ZeroDivisor;
-    }
-    if b == -1 {
-        return subtract(0, a);
-    }
-    Number::Is(a / b)
-}
-
-// Whether twice the magnitude of r is at least that of b.
-fn half_or_more(r: i64, b: i64) -> bool
-    requires { ⌜ natAbs r < natAbs b ⌝ }
-    ensures { λ t. ⌜ t ≡ leb (natAbs b) (2 * natAbs r) ⌝ }
-{
-    let m = magnitude(r);
-    let d = magnitude(b);
-    d - m <= m
-}
-
-// Rounded to the nearest, a half away from zero.
-pub fn divide_nearest(a: i64, b: i64) -> Number
-    ensures { λ r. ⌜ r ≡ divided toNearest a b ⌝ }
-{
-    if b == 0 {
-        return Number::ZeroDivisor;
-    }
-    if b == -1 {
-        return subtract(0, a);
-    }
-    let q = a / b;
-    let r = a % b;
-    if half_or_more(r, b) {
-        if (a < 0) != (b < 0) {
-            Number::Is(q - 1)
-        } else {
-            Number::Is(q + 1)
-        }
-    } else {
-        Number::Is(q)
-    }
 }

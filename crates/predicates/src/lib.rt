@@ -24,7 +24,7 @@ fn combine(k: u8, a: Evaluated, b: Evaluated) -> Evaluated
 {
     match a {
         Evaluated::Value(x) => match b {
-            Evaluated::Value(y) => values::restate(operators::operate(k, x, y)),
+            Evaluated::Value(y) => evaluation_answers::restate(operators::operate(k, x, y)),
             Evaluated::Stopped(s) => Evaluated::Stopped(s),
         },
         Evaluated::Stopped(s) => Evaluated::Stopped(s),
@@ -113,7 +113,7 @@ fn evaluate_term(
                 mem,
             ),
         ),
-        _ => values::restate(ask(
+        _ => evaluation_answers::restate(ask(
             mem,
             k - 18,
             evaluate_term(
@@ -198,7 +198,7 @@ pub fn evaluate_predicate(
             ),
         ) {
             Joint::Decided(e) => e,
-            Joint::Open => values::restate(evaluate_predicate(
+            Joint::Open => evaluation_answers::restate(evaluate_predicate(
                 table,
                 tables::child_b(&table[..], n),
                 variables,

@@ -1,10 +1,8 @@
-// Truths, tests and negation of values, and pointers as values; no memory and no table.
+// Truths, tests and negation of values; no memory and no table.
 ghost use mathlib.Core.Path.{_≡_};
-ghost use Rattle.rules.specs.Evaluation.{pointedBy, addressOf, opposite, condition};
+ghost use Rattle.rules.specs.Evaluation.{opposite, condition};
 ghost use Rattle.rules.specs.Numbers.{truthValue, tested};
 use rules::Evaluated;
-use rules::Found;
-use rules::Pointer;
 use rules::Test;
 use rules::Value;
 
@@ -47,46 +45,5 @@ pub fn negate(v: Value) -> Evaluated
         Test::Yes => Evaluated::Value(Value::Integer(0)),
         Test::No => Evaluated::Value(Value::Integer(1)),
         Test::Stopped(k) => Evaluated::Stopped(k),
-    }
-}
-
-// The same answer, made anew: a copy would move its unused bytes too, which is slow where a call has written it.
-pub fn restate(e: Evaluated) -> Evaluated
-    ensures { λ r. ⌜ r ≡ e ⌝ }
-{
-    match e {
-        Evaluated::Value(v) => match v {
-            Value::Undefined => Evaluated::Value(Value::Undefined),
-            Value::Integer(z) => Evaluated::Value(Value::Integer(z)),
-            Value::Pointer(p) => Evaluated::Value(Value::Pointer(Pointer {
-                name: p.name,
-                offset: p.offset,
-            })),
-        },
-        Evaluated::Stopped(k) => Evaluated::Stopped(k),
-    }
-}
-
-// The pointer to a place.
-pub fn address(f: Found) -> Evaluated
-    ensures { λ r. ⌜ r ≡ addressOf f ⌝ }
-{
-    match f {
-        Found::Place(p) => Evaluated::Value(Value::Pointer(p)),
-        Found::Stopped(k) => Evaluated::Stopped(k),
-    }
-}
-
-// The place that a value points to: 40 where it is no pointer.
-pub fn point(e: Evaluated) -> Found
-    ensures { λ r. ⌜ r ≡ pointedBy e ⌝ }
-{
-    match e {
-        Evaluated::Value(v) => match v {
-            Value::Undefined => Found::Stopped(40),
-            Value::Integer(_) => Found::Stopped(40),
-            Value::Pointer(p) => Found::Place(p),
-        },
-        Evaluated::Stopped(k) => Found::Stopped(k),
     }
 }

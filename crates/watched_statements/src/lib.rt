@@ -92,7 +92,7 @@ fn take_address(
         (now (temporaries .entry)) (now (mem .entry)))) ⌝ }
 {
     let f = children::find_a(table, n, variables, &*temporaries, mem);
-    let e = values::address(f);
+    let e = evaluation_answers::address(f);
     steps::take_evaluated(temporaries, tables::mark(&table[..], n) as usize, e)
 }
 

@@ -32,12 +32,12 @@ use Rattle.evaluation.proofs.+evaluate+evaluate_operand+find_place.Lts-
 use Rattle.evaluation.proofs.find_place.Reads as find-place
 use Rattle.evaluation.proofs.find_place.Kinds as find-place-kinds
 use Rattle.evaluation.proofs.+evaluate+evaluate_operand+find_place.Lts-find_place as f-lts
-use Rattle.values.proofs.address.Reads as address-reads
+use Rattle.evaluation_answers.proofs.address.Reads as address-reads
 use Rattle.evaluation.proofs.fetch.Reads as fetch-reads
 use Rattle.operators.proofs.operate.Reads as operate-reads
-use Rattle.values.proofs.point.Reads as point-reads
+use Rattle.evaluation_answers.proofs.point.Reads as point-reads
 use Rattle.temporaries.proofs.read_temporary.Reads as read-temporary-reads
-use Rattle.values.proofs.restate.Reads as restate-reads
+use Rattle.evaluation_answers.proofs.restate.Reads as restate-reads
 use Rattle.evaluation.proofs.settle.Reads as settle-reads
 use Rattle.tables.proofs.child_a.Reads as child-a-reads
 use Rattle.tables.proofs.child_b.Reads as child-b-reads

@@ -9,7 +9,7 @@ use lib.IntN.{pos}
 use Rattle.rules.specs.declared.Number.the-variants.{Is}
 use Rattle.rules.specs.Numbers.{ranged, signed}
 use Rattle.numbers.proofs.Answers.{ranged-out}
-use Rattle.numbers.proofs.Divides.{signed-out}
+use Rattle.numbers.proofs.Signs.{signed-out}
 use Rattle.numbers.proofs.from_product.Statement.{statement}
 use Rattle.numbers.proofs.from_product.Tie as tie
 

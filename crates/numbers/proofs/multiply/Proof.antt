@@ -11,7 +11,7 @@ use mir.Facts.{toZ-ofZ}
 use Rattle.rules.specs.Numbers.{ranged, signsDiffer}
 use Rattle.numbers.proofs.Integers.{negative-test}
 use Rattle.numbers.proofs.Answers.{ranged-is}
-use Rattle.numbers.proofs.Divides.{product-signed, signed-fits}
+use Rattle.numbers.proofs.Signs.{product-signed, signed-fits}
 use Rattle.numbers.proofs.multiply.Statement.{statement}
 use Rattle.numbers.proofs.multiply.Tie as tie
 

@@ -24,7 +24,7 @@ use Rattle.predicates.proofs.combine.Reads as combine-reads
 use Rattle.predicates.proofs.evaluate_term.Reads as evaluate-term-reads
 use Rattle.predicates.proofs.join.Reads as join-reads
 use Rattle.predicates.proofs.oppose.Reads as oppose-reads
-use Rattle.values.proofs.restate.Reads as restate-reads
+use Rattle.evaluation_answers.proofs.restate.Reads as restate-reads
 use Rattle.tables.proofs.child_a.Reads as child-a-reads
 use Rattle.tables.proofs.child_b.Reads as child-b-reads
 use Rattle.tables.proofs.kind.Reads as kind-reads

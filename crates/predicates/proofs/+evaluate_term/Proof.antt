@@ -21,7 +21,7 @@ use Rattle.predicates.proofs.+evaluate_term.Lts-evaluate_term as lts
 use Rattle.predicates.proofs.ask.Reads as ask-reads
 use Rattle.predicates.proofs.combine.Reads as combine-reads
 use Rattle.evaluation.proofs.evaluate_operand.Reads as evaluate-operand-reads
-use Rattle.values.proofs.restate.Reads as restate-reads
+use Rattle.evaluation_answers.proofs.restate.Reads as restate-reads
 use Rattle.tables.proofs.child_a.Reads as child-a-reads
 use Rattle.tables.proofs.child_b.Reads as child-b-reads
 use Rattle.tables.proofs.kind.Reads as kind-reads

@@ -1,4 +1,4 @@
--- `numbers::divide_nearest` meets its contract. Assumes nothing.
+-- `division::divide_nearest` meets its contract. Assumes nothing.
 use Prim.Native.Nat.{ℕ, _+_, _*_, _/_, _%_, _≤_, _<_}
 use native.Mathlib.Nat.{mod-lt}
 use native.Mathlib.Omega.{arith}
@@ -15,13 +15,14 @@ use mir.Facts.{toZ-ofZ}
 use mir.ValLaws.{sfits-le}
 use Rattle.rules.specs.declared.Number.the-variants.{Is}
 use Rattle.rules.specs.Numbers.{ranged, divided, toNearest, signed, signsDiffer}
 use Rattle.numbers.proofs.Integers.{of-bits, negative-test}
 use Rattle.numbers.proofs.Answers.{ranged-is}
-use Rattle.numbers.proofs.Divides.{by-zero, by-minus-one, quotient-fits, quotient-signed, remainder-magnitude}
-use Rattle.numbers.proofs.Divides.{divided-is, magnitude-positive, magnitude-limit, signed-fits, less-one}
-use Rattle.numbers.proofs.Divides.{nearest-one, nearest-down, nearest-up, nearest-small}
-use Rattle.numbers.proofs.divide_nearest.Statement.{statement}
-use Rattle.numbers.proofs.divide_nearest.Tie as tie
+use Rattle.numbers.proofs.Signs.{signed-fits}
+use Rattle.division.proofs.Divides.{by-zero, by-minus-one, quotient-fits, quotient-signed, remainder-magnitude}
+use Rattle.division.proofs.Divides.{divided-is, magnitude-positive, magnitude-limit, less-one}
+use Rattle.division.proofs.Divides.{nearest-one, nearest-down, nearest-up, nearest-small}
+use Rattle.division.proofs.divide_nearest.Statement.{statement}
+use Rattle.division.proofs.divide_nearest.Tie as tie
 
 -- whether the remainder is half the divisor or more
 abbrev half-test : ℤ → ℤ → Bool

@@ -1,13 +1,13 @@
--- `numbers::half_or_more` meets its contract. Assumes nothing.
+-- `division::half_or_more` meets its contract. Assumes nothing.
 use Prim.Native.Nat.{_-_, _*_}
 use native.Mathlib.Omega.{arith}
 use borrow.Author.Needs.{needs}
 use mathlib.Core.Path.{_≡_}
 use lib.IntN.{natAbs}
 use mir.Facts.{toZ-ofZ}
 use Rattle.numbers.proofs.Integers.{same-order}
-use Rattle.numbers.proofs.half_or_more.Statement.{statement}
-use Rattle.numbers.proofs.half_or_more.Tie as tie
+use Rattle.division.proofs.half_or_more.Statement.{statement}
+use Rattle.division.proofs.half_or_more.Tie as tie
 
 magnitude-requires : tie.Need-magnitude-requires
 magnitude-requires c κs = search needs

@@ -1,29 +1,23 @@
--- Products and quotients by sign and magnitude, and the laws of the two roundings.
+-- Quotients by sign and magnitude, and the laws of the two roundings.
 use Prim.Native.Nat.{ℕ, zero, suc, _+_, _*_, _/_, _%_, _^_, _≤_, _<_}
 use native.Mathlib.Nat.{div-one, div-add-mod', mod-lt, div-lt-iff-lt-mul, div-eq-of-lt-le}
 use native.Mathlib.Omega.{arith}
 use mathlib.Core.Path.{_≡_, refl, sym, ap, _∙_}
 use mathlib.Core.Bool.{Bool, true, false}
 use lib.Dec.{eqb·suc-zero}
-use lib.IntN.{ℤ, pos, negsuc, negℤ, natAbs, _-ℤ_, _*ℤ_, +ℤ-idl}
-use lib.Signed.{mag, quotZ, remZ}
+use lib.IntN.{ℤ, pos, negsuc, negℤ, natAbs, _-ℤ_, +ℤ-idl}
+use lib.Signed.{quotZ, remZ}
 use mir.Syntax.{w64}
 use mir.Val.{SFits}
 use Rattle.rules.specs.declared.Number.the-variants.{ZeroDivisor}
 use Rattle.rules.specs.Numbers.{ranged, signed, signsDiffer, divided, toNearest}
-use Rattle.numbers.proofs.Integers.{negated-parts, parts-sfits}
+use Rattle.numbers.proofs.Signs.{signed-fits}
 
 pub quotient-signed : (a b : ℤ) → quotZ a b ≡ signed (signsDiffer a b) (natAbs a / natAbs b)
 quotient-signed (pos a) (pos b) = refl
 quotient-signed (pos a) (negsuc b) = refl
 quotient-signed (negsuc a) (pos b) = refl
 quotient-signed (negsuc a) (negsuc b) = refl
-
-pub product-signed : (a b : ℤ) → a *ℤ b ≡ signed (signsDiffer a b) (natAbs a * natAbs b)
-product-signed (pos a) (pos b) = refl
-product-signed (pos a) (negsuc b) = refl
-product-signed (negsuc a) (pos b) = refl
-product-signed (negsuc a) (negsuc b) = refl
 
 magnitude-negated : (r : ℕ) → natAbs (negℤ (pos r)) ≡ r
 magnitude-negated zero = refl
@@ -36,15 +30,6 @@ remainder-magnitude (negsuc a) b = magnitude-negated (suc a % natAbs b)
 pub magnitude-limit : {z : ℤ} → SFits w64 z → natAbs z ≤ 2 ^ 63
 magnitude-limit {z = pos n} h = omega (arith, h .sfits)
 magnitude-limit {z = negsuc n} h = omega (arith, h .sfits)
-
-pub signed-fits : (s : Bool) (m : ℕ) → m < 2 ^ 63 → SFits w64 (signed s m)
-signed-fits true m h = parts-sfits (omega (arith, negated-parts (pos m))) (omega (arith, negated-parts (pos m)))
-signed-fits false m h = record { sfits = h }
-
-pub signed-out : (s : Bool) (m : ℕ) → 2 ^ 63 < m → 2 ^ 63 ≤ mag (signed s m)
-signed-out true zero h = absurd (omega arith)
-signed-out true (suc m) h = omega arith
-signed-out false m h = omega arith
 
 pub less-one : (m : ℕ) → signed true m -ℤ pos 1 ≡ signed true (m + 1)
 less-one zero = refl

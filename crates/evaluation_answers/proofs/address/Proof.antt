@@ -1,9 +1,9 @@
--- `values::address` meets its contract. Assumes nothing.
+-- `evaluation_answers::address` meets its contract. Assumes nothing.
 use mathlib.Core.Path.{sym, ap, _∙_}
 use Rattle.rules.specs.Evaluation.{addressOf}
 use borrow.Author.Needs.{needs}
-use Rattle.values.proofs.address.Statement.{statement}
-use Rattle.values.proofs.address.Tie as tie
+use Rattle.evaluation_answers.proofs.address.Statement.{statement}
+use Rattle.evaluation_answers.proofs.address.Tie as tie
 
 enum-known-f : tie.Need-enum-known-f
 enum-known-f c = search needs

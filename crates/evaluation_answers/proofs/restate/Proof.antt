@@ -1,4 +1,4 @@
--- `values::restate` meets its contract. Assumes nothing.
+-- `evaluation_answers::restate` meets its contract. Assumes nothing.
 use lib.IntN.{ℤ}
 use mathlib.Core.Path.{sym, ap, _∙_}
 use mir.Syntax.{w64}
@@ -7,8 +7,8 @@ use mir.Facts.{toZ-ofZ}
 use Rattle.rules.specs.declared.Value.the-variants as value
 use Rattle.rules.specs.declared.Evaluated.the-variants as evaluated
 use borrow.Author.Needs.{needs}
-use Rattle.values.proofs.restate.Statement.{statement}
-use Rattle.values.proofs.restate.Tie as tie
+use Rattle.evaluation_answers.proofs.restate.Statement.{statement}
+use Rattle.evaluation_answers.proofs.restate.Tie as tie
 
 enum-known-e : tie.Need-enum-known-e
 enum-known-e c = search needs

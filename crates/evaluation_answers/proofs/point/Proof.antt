@@ -1,12 +1,12 @@
--- `values::point` meets its contract. Assumes nothing.
+-- `evaluation_answers::point` meets its contract. Assumes nothing.
 use mathlib.Core.Path.{sym, ap, _∙_}
 use Rattle.rules.specs.Memory.{onPointer}
 use Rattle.rules.specs.Evaluation.{pointedBy}
 use Rattle.rules.specs.declared.Value.{Value}
 use Rattle.rules.specs.declared.Found.the-variants as found
 use borrow.Author.Needs.{needs}
-use Rattle.values.proofs.point.Statement.{statement}
-use Rattle.values.proofs.point.Tie as tie
+use Rattle.evaluation_answers.proofs.point.Statement.{statement}
+use Rattle.evaluation_answers.proofs.point.Tie as tie
 
 enum-known-e : tie.Need-enum-known-e
 enum-known-e c = search needs

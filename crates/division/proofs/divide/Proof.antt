@@ -1,4 +1,4 @@
--- `numbers::divide` meets its contract. Assumes nothing.
+-- `division::divide` meets its contract. Assumes nothing.
 use native.Mathlib.Nat.{div-one}
 use native.Mathlib.Omega.{arith}
 use borrow.Author.Needs.{needs}
@@ -9,11 +9,11 @@ use mir.Syntax.{w64}
 use mir.Val.{SFits, ofZ}
 use mir.Facts.{toZ-ofZ}
 use Rattle.rules.specs.Numbers.{ranged, towardZero}
 use Rattle.numbers.proofs.Integers.{of-bits}
 use Rattle.numbers.proofs.Answers.{ranged-is}
-use Rattle.numbers.proofs.Divides.{by-zero, by-minus-one, quotient-fits, quotient-signed, divided-is}
-use Rattle.numbers.proofs.divide.Statement.{statement}
-use Rattle.numbers.proofs.divide.Tie as tie
+use Rattle.division.proofs.Divides.{by-zero, by-minus-one, quotient-fits, quotient-signed, divided-is}
+use Rattle.division.proofs.divide.Statement.{statement}
+use Rattle.division.proofs.divide.Tie as tie
 
 returns : tie.Need-returns
 returns c = by-zero towardZero (c .before .args .a) _ (of-bits 0 (c .before .fits .b) (c .if1 .taken))

@@ -1,0 +1,2 @@
+-- Laws of the two divisions.
+mod Divides
