@@ -41,7 +41,7 @@ pub fn evaluate_a(
         (now (variables .entry)) (now (temporaries .entry)) (now (mem .entry)) ⌝ }
 {
     let first = tables::child_a(&table[..], n);
-    evaluation::evaluate_operand(table, first, variables, temporaries, mem)
+    evaluation::evaluate(table, first, variables, temporaries, mem)
 }
 
 pub fn evaluate_b(
@@ -57,7 +57,7 @@ pub fn evaluate_b(
         (now (variables .entry)) (now (temporaries .entry)) (now (mem .entry)) ⌝ }
 {
     let second = tables::child_b(&table[..], n);
-    evaluation::evaluate_operand(table, second, variables, temporaries, mem)
+    evaluation::evaluate(table, second, variables, temporaries, mem)
 }
 
 // What condition A says.

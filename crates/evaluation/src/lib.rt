@@ -88,7 +88,7 @@ pub fn evaluate_operand(
 }
 
 // The value of expression n. An operator's and a shift's operands are worked out alike: a shift's mark is 0.
-fn evaluate(
+pub fn evaluate(
     table: &[u8; 65536],
     n: usize,
     variables: &[u16; 64],
