@@ -14,6 +14,8 @@ mkdir -p build
 cargo test --release --offline --manifest-path tests/reference/Cargo.toml >build/reference.log 2>&1 &
 reference=$!
 
+# rt waits for a whole batch before the next: four at a time keep two processors busy beside the longest of them.
+export RT_JOBS="${RT_JOBS:-4}"
 rt ci 2>&1 | tee build/ci.log
 verdict=$(tail -n 1 build/ci.log)
 grep -qxE '[1-9][0-9]* passed, 0 failed' <<<"$verdict"

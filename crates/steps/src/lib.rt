@@ -1,4 +1,5 @@
-// The statements of the target language that give a temporary a value or test it. The number 0 says that one is done, any other is its ending's.
+// The statements of the target language that give a temporary a value or test it. Each answers a number: 0 where it is
+// done, else its ending's.
 ghost use mathlib.Core.Path.{_≡_};
 ghost use Prim.Native.Nat.{suc, _+_, _<_};
 ghost use Rattle.rules.specs.Kinds.{statement};
