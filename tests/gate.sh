@@ -3,9 +3,17 @@
 # The last line is that of `rt ci`; any failure ends with another one and a status that is not 0.
 set -euo pipefail
 cd "$(dirname "$0")/.."
-trap '[ $? -eq 0 ] || echo "the gate failed"' EXIT
+room=
+trap '[ $? -eq 0 ] || echo "the gate failed"; [ -z "$room" ] || rm -rf "$room"' EXIT
 
 tests/documents.sh
+
+# Each check copies the crates below into a temporary folder, up to half a gigabyte: one in memory, where there is
+# room for it and a program may run, saves a quarter of the gate's time.
+if [ -z "${TMPDIR:-}" ] && [ "$(df --output=avail /dev/shm 2>/dev/null | tail -n 1)" -ge 4000000 ] 2>/dev/null &&
+    room=$(mktemp -d /dev/shm/gate.XXXXXX) && chmod 711 "$room" && cp /bin/true "$room" && "$room/true"; then
+    export TMPDIR=$room
+fi
 
 # Cargo's folder lies outside target/, which `rt ci` removes. The second implementation's own tests need no proof, and
 # the first crates to be proved leave a processor idle.
