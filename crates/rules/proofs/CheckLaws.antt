@@ -1,14 +1,16 @@
--- A table is accepted just when it keeps every rule.
+-- A table is accepted just when it keeps every rule, and just then the checker's answer is 0.
 use Prim.Native.Nat.{ℕ, _≤_}
 use native.Mathlib.Omega.{arith}
 use mathlib.Core.Path.{_≡_, refl, sym, _∙_, subst}
 use mathlib.Core.Bool.{Bool, true, false}
 use mathlib.Core.List.{List}
 use lib.Dec.{ltb}
-use borrow.Author.Tests.{ltb-false, le-ltb}
+use borrow.Author.Tests.{ltb-true, ltb-false, le-ltb}
 use Rattle.rules.specs.Records.{recordCount}
-use Rattle.rules.specs.Kinds.{Language}
-use Rattle.rules.specs.Checker.{lowestRecord, lengthFault, countFault, recordFault, shapeFault, scopeFault, lastRule, check}
+use Rattle.rules.specs.Kinds.{Language, source, target}
+use Rattle.rules.specs.Checker.{lengthFault, countFault, recordFault, shapeFault, scopeFault, levelFault}
+use Rattle.rules.specs.Checker.{lowestRecord, refuseAt, lastRule, check}
+use Rattle.rules.specs.Answers.{checkedAnswer}
 use Rattle.rules.specs.declared.Search.{Search}
 use Rattle.rules.specs.declared.Search.the-variants as search
 use Rattle.rules.specs.declared.Checked.{Checked}
@@ -126,3 +128,42 @@ accepted-keeps l t e =
 
 pub accepted-last : (l : Language) (t : List ℕ) → check l t ≡ checked.Accepted → lastRule l t ≡ checked.Accepted
 accepted-last l t e = accepted-found l t e .last-is
+
+-- a refusal's number is not 0
+abbrev Numbered : Checked → Type 0
+Numbered checked.Accepted = Unit {0}
+Numbered (checked.Refused k n) = 1 ≤ k
+
+last-numbered : (l : Language) (t : List ℕ) → Numbered (lastRule l t)
+last-numbered source t = go (lowestRecord t (levelFault t))
+  where
+    go : (s : Search) → Numbered (refuseAt 8 s)
+    go (search.At n) = omega arith
+    go search.Nothing = tt
+last-numbered target t = tt
+
+order-numbered : (p q : Bool) (s : Search) (f : ℕ → ℕ) (u v : Search) (r : Checked)
+    → ((n : ℕ) → s ≡ search.At n → 1 ≤ f n) → Numbered r → Numbered (inOrder p q s f u v r)
+order-numbered true q s f u v r g h = omega arith
+order-numbered false true s f u v r g h = omega arith
+order-numbered false false (search.At n) f u v r g h = g n refl
+order-numbered false false search.Nothing f (search.At n) v r g h = omega arith
+order-numbered false false search.Nothing f search.Nothing (search.At n) r g h = omega arith
+order-numbered false false search.Nothing f search.Nothing search.Nothing r g h = h
+
+check-numbered : (l : Language) (t : List ℕ) → Numbered (check l t)
+check-numbered l t =
+    let p : ℕ → Bool = λ n. ltb 0 (recordFault l t n) in
+    let found-at : (n : ℕ) → recordSearch l t ≡ search.At n → 1 ≤ recordFault l t n =
+    λ n e. ltb-true 0 (recordFault l t n)
+    (subst (Outcome p 1 (recordCount t)) e (lowest-outcome p 1 (recordCount t)) .2) in
+    subst Numbered (sym (check-in-order l t))
+    (order-numbered (lengthFault t) (countFault l t) (recordSearch l t) (recordFault l t)
+    (lowestRecord t (shapeFault l t)) (lowestRecord t (scopeFault l t)) (lastRule l t) found-at (last-numbered l t))
+
+pub zero-accepts : (l : Language) (t : List ℕ) → checkedAnswer (check l t) .number ≡ 0 → check l t ≡ checked.Accepted
+zero-accepts l t e = go (check l t) (check-numbered l t) e
+  where
+    go : (c : Checked) → Numbered c → checkedAnswer c .number ≡ 0 → c ≡ checked.Accepted
+    go checked.Accepted h e₁ = refl
+    go (checked.Refused k n) h e₁ = absurd (omega (arith, h, e₁))

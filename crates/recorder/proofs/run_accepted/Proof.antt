@@ -3,10 +3,10 @@ use borrow.Author.Needs.{needs}
 use mathlib.Core.Bool.{true, false, _||_}
 use mathlib.Core.Path.{_≡_, refl, sym, _∙_}
 use Rattle.rules.specs.Checker.{inputsFault, memoryFault, observationFault}
-use Rattle.both_runs.specs.BothRuns.{Lent, lent}
-use Rattle.both_runs.proofs.BothLaws.{right-length, wrong-length, accepted-runs, refused-both}
-use Rattle.both_runs.proofs.run_accepted.Statement.{statement}
-use Rattle.both_runs.proofs.run_accepted.Tie as tie
+use Rattle.recorder.specs.BothRuns.{Lent, lent}
+use Rattle.recorder.proofs.BothLaws.{right-length, wrong-length, accepted-runs, refused-both}
+use Rattle.recorder.proofs.run_accepted.Statement.{statement}
+use Rattle.recorder.proofs.run_accepted.Tie as tie
 
 has-inputs-fault-requires : tie.Need-has-inputs-fault-requires
 has-inputs-fault-requires c κs = search needs

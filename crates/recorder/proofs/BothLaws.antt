@@ -1,4 +1,4 @@
--- From what the checker, the translator and the two runs answer to what running a table both ways is held to.
+-- From what the entry points answer to what running a table both ways is held to.
 use Prim.Native.Nat.{ℕ, _+_, _*_, _≤_}
 use native.Mathlib.Omega.{arith}
 use mathlib.Core.Bool.{Bool, true, false, not, _||_}
@@ -14,15 +14,17 @@ use Rattle.rules.specs.Records.{recordCount}
 use Rattle.rules.specs.Kinds.{source, target}
 use Rattle.rules.specs.Checker.{check, inputsFault, memoryFault, observationFault}
 use Rattle.rules.specs.Translation.{translation}
-use Rattle.rules.specs.Answers.{answer, Translated, translatedInto, WatchedRun, runPlain, runWatched}
+use Rattle.rules.specs.Answers.{answer, checkedAnswer, checkSource, WatchedRun, runPlain, runWatched}
+use Rattle.rules.specs.Answers.{Translated, translatedBy, translateSource}
 use Rattle.rules.specs.Demand3.{Agreement}
 use Rattle.rules.specs.declared.Answer.{Answer}
 use Rattle.rules.specs.declared.Checked.{Checked}
 use Rattle.rules.specs.declared.Checked.the-variants as checked
 use Rattle.rules.proofs.AcceptedPrograms.{accepted-program}
 use Rattle.rules.proofs.Claim.{demand-3}
-use Rattle.both_runs.specs.declared.Both.{Both}
-use Rattle.both_runs.specs.BothRuns.{Lent, lent, both, BothRuns, bothRefused, bothRan, bothTested, bothBy, runBoth, Ready, plainShown, watchedShown, AnsweredBoth}
+use Rattle.recorder.specs.declared.Both.{Both}
+use Rattle.recorder.specs.BothRuns.{Lent, lent, both, BothRuns, bothRefused, bothRan, bothTested, bothBy, runBoth}
+use Rattle.recorder.specs.BothRuns.{Ready, plainShown, watchedShown, AnsweredBoth}
 
 -- a buffer of the right length is not refused, and one of another is
 pub right-length : (l : List ℕ) (n : ℕ) → length l ≡ n → not (eqb (length l) n) ≡ false
@@ -75,9 +77,19 @@ module _ (t i : List ℕ) (f : ℕ) (x : Lent) where
       answered-both (bothRefused k n x) (r .plain) (r .watched) x e (ap (λ (z : Both). z .plain) a)
       (ap (λ (z : Both). z .watched) a) refl
 
+  -- the checker's answer, where it is a refusal
+  pub checked-refused : (a : Answer) (r : Both) → a ≡ checkSource t → a .number ≢ 0
+      → r ≡ both (answer (a .number) (a .«record») 0 0) (answer (a .number) (a .«record») 0 0)
+      → AnsweredBoth t i f x (r .plain) (r .watched) x
+  checked-refused a r e d g = refused-both (a .number) (a .«record») r (go (check source t) e) g
+    where
+      go : (c : Checked) → a ≡ checkedAnswer c → bothBy c t i f x ≡ bothRefused (a .number) (a .«record») x
+      go checked.Accepted e₁ = absurd (d (ap (λ (z : Answer). z .number) e₁))
+      go (checked.Refused k n) e₁ = λ j. bothRefused (sym e₁ j .number) (sym e₁ j .«record») x
+
 -- ---- the translation, which answered a and left y
 module _ (t i : List ℕ) (f : ℕ) (x : Lent) (h : Ready t i x) (a : Answer) (y : List ℕ)
-    (p : a ≡ translatedInto (translation t) (x .out) .answer) (q : y ≡ translatedInto (translation t) (x .out) .out) where
+    (p : a ≡ translateSource t (x .out) .answer) (q : y ≡ translateSource t (x .out) .out) where
   abbrev tooShort : Bool
   tooShort = ltb (length (x .out)) (length (translation t))
 
@@ -90,8 +102,8 @@ module _ (t i : List ℕ) (f : ℕ) (x : Lent) (h : Ready t i x) (a : Answer) (y
             record { answer = answer 0 (recordCount (translation t)) 0 0; out = put (x .out) 0 (translation t) }
       ]
 
-  translated : (b : Bool) → tooShort ≡ b → translatedInto (translation t) (x .out) ≡ into b
-  translated b s = λ j. into (s j)
+  translated : (b : Bool) → tooShort ≡ b → translateSource t (x .out) ≡ into b
+  translated b s = ap (λ (k : Checked). translatedBy k t (x .out)) (h .accepted) ∙ (λ j. into (s j))
 
   number-is : (b : Bool) → tooShort ≡ b → a .number ≡ into b .answer .number
   number-is b s = ap (λ (z : Answer). z .number) (p ∙ ap (λ (w : Translated). w .answer) (translated b s))

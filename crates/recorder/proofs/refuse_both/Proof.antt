@@ -1,9 +1,9 @@
 -- The same refusal twice.
 use borrow.Author.Needs.{needs}
 use mathlib.Core.Path.{ap₂}
-use Rattle.both_runs.specs.BothRuns.{both}
-use Rattle.both_runs.proofs.refuse_both.Statement.{statement}
-use Rattle.both_runs.proofs.refuse_both.Tie as tie
+use Rattle.recorder.specs.BothRuns.{both}
+use Rattle.recorder.proofs.refuse_both.Statement.{statement}
+use Rattle.recorder.proofs.refuse_both.Tie as tie
 
 refuse-requires : tie.Need-refuse-requires
 refuse-requires c κs = search needs

@@ -15,7 +15,7 @@ use Rattle.rules.specs.Demand3.{Agreement}
 use Rattle.rules.specs.declared.Answer.{Answer}
 use Rattle.rules.specs.declared.Checked.{Checked}
 use Rattle.rules.specs.declared.Checked.the-variants as checked
-use Rattle.both_runs.specs.declared.Both.{Both}
+use Rattle.recorder.specs.declared.Both.{Both}
 
 abbrev pub both : Answer → Answer → Both
 both p w = record { plain = p; watched = w }

@@ -3,13 +3,13 @@ use borrow.Author.Needs.{needs}
 use Prim.Native.Nat.{_*_}
 use mathlib.Core.Path.{sym}
 use lib.Seq.{length-take-le}
-use Rattle.both_runs.specs.BothRuns.{Lent, lent}
-use Rattle.both_runs.proofs.BothLaws.{too-short, target-fits, ran-both}
-use Rattle.both_runs.proofs.run_translated.Statement.{statement}
-use Rattle.both_runs.proofs.run_translated.Tie as tie
+use Rattle.recorder.specs.BothRuns.{Lent, lent}
+use Rattle.recorder.proofs.BothLaws.{too-short, target-fits, ran-both}
+use Rattle.recorder.proofs.run_translated.Statement.{statement}
+use Rattle.recorder.proofs.run_translated.Tie as tie
 
-translate-accepted-requires : tie.Need-translate-accepted-requires
-translate-accepted-requires c κs = c .before .before .before .before .before .before .before .pre .accepted
+recorder-translate-requires : tie.Need-recorder-translate-requires
+recorder-translate-requires c κs = search needs
 
 refuse-both-requires : tie.Need-refuse-both-requires
 refuse-both-requires c κs = search needs
@@ -19,7 +19,7 @@ same-length c = search needs
 
 returns : tie.Need-returns
 returns c =
-    let m = c .before .before .before .before .before .translate-accepted in
+    let m = c .before .before .before .before .before .recorder-translate in
     let s = c .before .before .before .before .before .before .before .before .before .before .before .before .before in
     too-short (s .args .table .now) (s .args .inputs .now) (s .args .fuel)
     (lent (s .args .out .now) (s .args .memory .now) (s .args .second .now) (s .args .observation .now))
@@ -34,7 +34,7 @@ mul-run-pair c = search needs
 
 slice-reshare-prefix-run-pair : tie.Need-slice-reshare-prefix-run-pair
 slice-reshare-prefix-run-pair c =
-    let m = c .before .before .before .before .before .translate-accepted in
+    let m = c .before .before .before .before .before .recorder-translate in
     let s = c .before .before .before .before .before .before .before .before .before .before .before .before .before in
     target-fits (s .args .table .now) (s .args .inputs .now) (s .args .fuel)
     (lent (s .args .out .now) (s .args .memory .now) (s .args .second .now) (s .args .observation .now))
@@ -42,7 +42,7 @@ slice-reshare-prefix-run-pair c =
 
 slice-aggregate-run-pair : tie.Need-slice-aggregate-run-pair
 slice-aggregate-run-pair c =
-    let m = c .before .before .before .before .before .before .translate-accepted in
+    let m = c .before .before .before .before .before .before .recorder-translate in
     sym (length-take-le (m .result .«record» * 16) (m .last .1 .0) (slice-reshare-prefix-run-pair (c .before)))
 
 run-pair-requires : tie.Need-run-pair-requires
@@ -64,7 +64,7 @@ returns-2 : tie.Need-returns-2
 returns-2 c =
     let r = c .before .before .before .before .before .before in
     let d = r .before .before .before .before .before .before in
-    let m = d .before .before .before .before .translate-accepted in
+    let m = d .before .before .before .before .recorder-translate in
     let s = d .before .before .before .before .before .before .before .before .before .before .before .before in
     ran-both (s .args .table .now) (s .args .inputs .now) (s .args .fuel)
     (lent (s .args .out .now) (s .args .memory .now) (s .args .second .now) (s .args .observation .now))
@@ -76,6 +76,6 @@ returns-2 c =
 pub run-translated-spec : {M : Type 1} → statement M
 run-translated-spec =
     tie.close
-    (tie.spec translate-accepted-requires refuse-both-requires same-length returns cast-run-pair mul-run-pair
+    (tie.spec recorder-translate-requires refuse-both-requires same-length returns cast-run-pair mul-run-pair
     slice-reshare-prefix-run-pair slice-aggregate-run-pair run-pair-requires same-length-2 same-length-3 same-length-4
     same-length-5 returns-2)

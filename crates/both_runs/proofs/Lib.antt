@@ -1,2 +1,0 @@
--- Demand 3 of the code.
-pub mod BothLaws

@@ -1,2 +1,0 @@
--- What the code that runs a table both ways is held to.
-pub mod BothRuns
