@@ -104,7 +104,7 @@ fn place(mem: &mut [u8; 18424], freeable: bool, k: u16, first: u16, n: u16)
     ensures { λ _. ⌜ Becomes (now (mem .entry)) (now (mem .exit))
         (withBlock (memoryOf (now (mem .entry))) (useOf freeable) k first n) ⌝ }
 {
-    filling::fill(mem, first, n, Cell::Holds(k, Value::Undefined));
+    cell_fills::fill(mem, first, n, Cell::Holds(k, Value::Undefined));
     block_changes::put_block(mem, k, live(freeable, first, n));
 }
 

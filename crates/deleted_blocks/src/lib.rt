@@ -1,18 +1,12 @@
-// The observation memory cleared, and its delete block.
+// Delete block, a change of the observation memory.
 ghost use mathlib.Core.Path.{_≡_};
-ghost use Rattle.rules.specs.Observation.{deleteBlock, emptyObservation};
-ghost use Rattle.rules.specs.Layout.{observationOf, observationImage};
+ghost use Rattle.rules.specs.Observation.{deleteBlock};
+ghost use Rattle.rules.specs.Layout.{observationOf};
 ghost use Rattle.observation_answers.specs.Calls.{Answers};
 ghost use Rattle.deleted_blocks.specs.Deleting.{deleteNamed};
 use observation_answers::Noting;
 use rules::Recorded;
 use rules::Value;
-
-pub fn clear(obs: &mut [u8; 3064])
-    ensures { λ _. ⌜ now (obs .exit) ≡ observationImage emptyObservation ⌝ }
-{
-    fills::fill_bytes(&mut obs[..], 0, 3064, 0);
-}
 
 fn delete_named(obs: &mut [u8; 3064], name: u16) -> Noting
     ensures { λ r. ⌜ Answers (now (obs .entry)) (now (obs .exit)) r

@@ -15,7 +15,7 @@ fn cover(places: &mut [u8; 1024], b: Recorded)
     ensures { λ _. ⌜ now (places .exit) ≡ occupy (now (places .entry)) b ⌝ }
 {
     match b {
-        Recorded::Live(first, n) => fills::fill_bytes(
+        Recorded::Live(first, n) => byte_fills::fill_bytes(
             &mut places[..],
             first as usize,
             n as usize,

@@ -13,7 +13,7 @@ fn release(mem: &mut [u8; 18424], name: u16, first: u16, n: u16)
     ensures { λ _. ⌜ Becomes (now (mem .entry)) (now (mem .exit))
         (withoutCells (memoryOf (now (mem .entry))) name (recorded.Live first n)) ⌝ }
 {
-    filling::fill(mem, first, n, Cell::Free);
+    cell_fills::fill(mem, first, n, Cell::Free);
     block_changes::put_block(mem, name, Block::Dead);
 }
 

@@ -5,15 +5,10 @@ use mathlib.Core.Logic.{_≢_, inl, inr}
 use mathlib.Core.Path.{_≡_, refl, sym, ap, _∙_, subst}
 use Rattle.rules.specs.Observation.{Observation, Noted, refused, storeBlock, deleteBlock, initialise}
 use Rattle.rules.specs.Watched.{Temporaries, heldIn, calledOn, calledOnTwo}
-use Rattle.rules.specs.declared.Evaluated.{Evaluated}
 use Rattle.observation_answers.specs.declared.Noting.{Noting}
 use Rattle.observation.specs.Calls.{Answers}
 use Rattle.observation.proofs.Becoming.{becomes-same}
 use Rattle.noting.specs.Calls.{Observes, notingNumber, IsNote, noteOf}
-
--- ---- what a temporary holds, by what was read of it
-pub holds-at : (τ : Temporaries) (i j : ℕ) {e x : Evaluated} → i ≡ j → e ≡ heldIn τ i → e ≡ x → heldIn τ j ≡ x
-holds-at τ i j h a b = sym (a ∙ ap (heldIn τ) h) ∙ b
 
 -- ---- a call of the observation memory
 pub observes-is : {l l′ : List ℕ} {r : ℕ} {x y : Noted} → x ≡ y → Observes l l′ r y → Observes l l′ r x

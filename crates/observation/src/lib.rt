@@ -1,5 +1,7 @@
 // The observation memory: its eight calls, and clearing it. What stands above it uses these promises only.
-pub use deleted_blocks::clear;
+ghost use mathlib.Core.Path.{_≡_};
+ghost use Rattle.rules.specs.Observation.{emptyObservation};
+ghost use Rattle.rules.specs.Layout.{observationImage};
 pub use deleted_blocks::delete_block;
 pub use initialised_marks::initialise;
 pub use observed_blocks::base_address;
@@ -8,3 +10,9 @@ pub use observed_blocks::offset;
 pub use observed_marks::is_initialised;
 pub use observed_marks::is_valid;
 pub use stored_blocks::store_block;
+
+pub fn clear(obs: &mut [u8; 3064])
+    ensures { λ _. ⌜ now (obs .exit) ≡ observationImage emptyObservation ⌝ }
+{
+    byte_fills::fill_bytes(&mut obs[..], 0, 3064, 0);
+}

@@ -25,7 +25,7 @@ fn clear_marks(obs: &mut [u8; 3064], first: u16, n: u16)
 {
     let at = first as usize;
     let count = n as usize;
-    fills::fill_bytes(&mut obs[..], 2040 + at, count, 0);
+    byte_fills::fill_bytes(&mut obs[..], 2040 + at, count, 0);
 }
 
 // A name's block is live at n marks from first on, which are 0.

@@ -26,10 +26,6 @@ takes-is {l} {l′} {r} {n} e h = subst (λ (z : Evaluated). Takes l l′ r n z)
 pub takes-stop : (l : List ℕ) (k n : ℕ) {x : Evaluated} → x ≡ evaluated.Stopped k → Takes l l k n x
 takes-stop l k n e = takes-is e (record { number = refl; temporaries = refl })
 
--- ---- what a temporary holds, by what was read of it
-pub holds-at : (τ : Temporaries) (i j : ℕ) {e x : Evaluated} → i ≡ j → e ≡ heldIn τ i → e ≡ x → heldIn τ j ≡ x
-holds-at τ i j h a b = sym (a ∙ ap (heldIn τ) h) ∙ b
-
 -- ---- a query that no other number names is the length
 pub other-query : (k : ℕ) → k ≢ 1 → k ≢ 2 → k ≢ 3 → k ≢ 4 → queryOf k ≡ blockLength
 other-query zero a b c d = refl

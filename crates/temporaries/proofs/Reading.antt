@@ -1,4 +1,4 @@
--- What a temporary's sixteen bytes hold.
+-- What a temporary's sixteen bytes hold, and what was read of it.
 use Prim.Native.Nat.{ℕ, _+_, _<_}
 use native.Mathlib.Nat.{zero-add}
 use mathlib.Core.List.{List}
@@ -9,7 +9,7 @@ use lib.ListN.{getD}
 use Rattle.rules.specs.Words.{wordAt, integerAt}
 use Rattle.rules.specs.Layout.{cellFrom}
 use Rattle.rules.specs.Evaluation.{held}
-use Rattle.rules.specs.Watched.{temporaryOf, heldIn}
+use Rattle.rules.specs.Watched.{Temporaries, temporaryOf, heldIn}
 use Rattle.rules.proofs.Rows.{getD-table}
 use Rattle.cells.proofs.Reading.{other-cell}
 use Rattle.temporaries.specs.Bytes.{temporaryIn, temporaryPlace, temporaryAt, temporariesOf}
@@ -58,3 +58,7 @@ module _ (l : List ℕ) (n : ℕ) (h : n < 64) where
       ap₂ (λ (w : ℕ) (z : ℤ). evaluated.Value (value.Pointer (record { name = w; offset = z }))) w z
       ∙ ap (λ (x : Cell). held (temporaryIn x)) (other-cell kind 0 name number a b c)
       ∙ sym held-at
+
+-- what a temporary holds, by what was read of it under an equal number
+pub holds-at : (τ : Temporaries) (i j : ℕ) {e x : Evaluated} → i ≡ j → e ≡ heldIn τ i → e ≡ x → heldIn τ j ≡ x
+holds-at τ i j h a b = sym (a ∙ ap (heldIn τ) h) ∙ b

@@ -8,7 +8,7 @@ use Rattle.freeing.proofs.release.Statement.{statement}
 use Rattle.freeing.proofs.release.Tie as tie
 use Rattle.freeing.proofs.release.Reads as reads
 use Rattle.freeing.proofs.release.Lts as lts
-use Rattle.filling.proofs.fill.Reads as fill-reads
+use Rattle.cell_fills.proofs.fill.Reads as fill-reads
 use Rattle.block_changes.proofs.put_block.Reads as put-block-reads
 
 fill-requires : tie.Need-fill-requires

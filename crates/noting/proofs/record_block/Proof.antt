@@ -8,7 +8,8 @@ use Rattle.rules.specs.Watched.{heldIn, calledOnTwo}
 use Rattle.rules.specs.Layout.{observationOf}
 use Rattle.rules.specs.declared.Evaluated.{Evaluated}
 use Rattle.temporaries.specs.Bytes.{temporariesOf}
-use Rattle.noting.proofs.CallLaws.{holds-at, observes-stop, observes-call}
+use Rattle.temporaries.proofs.Reading.{holds-at}
+use Rattle.noting.proofs.CallLaws.{observes-stop, observes-call}
 use borrow.Author.Needs.{needs}
 use Rattle.noting.proofs.record_block.Statement.{statement}
 use Rattle.noting.proofs.record_block.Tie as tie

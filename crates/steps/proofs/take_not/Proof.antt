@@ -8,7 +8,8 @@ use Rattle.rules.specs.declared.Evaluated.the-variants as evaluated
 use Rattle.rules.specs.Memory.{onValue}
 use Rattle.rules.specs.Evaluation.{opposite}
 use Rattle.temporaries.specs.Bytes.{temporariesOf}
-use Rattle.steps.proofs.StepLaws.{takes-is, takes-stop, holds-at}
+use Rattle.temporaries.proofs.Reading.{holds-at}
+use Rattle.steps.proofs.StepLaws.{takes-is, takes-stop}
 use borrow.Author.Needs.{needs}
 use Rattle.steps.proofs.take_not.Statement.{statement}
 use Rattle.steps.proofs.take_not.Tie as tie

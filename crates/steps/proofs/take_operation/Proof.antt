@@ -8,7 +8,8 @@ use Rattle.rules.specs.Nodes.{operatorOf}
 use Rattle.rules.specs.Evaluation.{operated}
 use Rattle.rules.specs.Watched.{heldIn}
 use Rattle.temporaries.specs.Bytes.{temporariesOf}
-use Rattle.steps.proofs.StepLaws.{takes-is, takes-stop, holds-at}
+use Rattle.temporaries.proofs.Reading.{holds-at}
+use Rattle.steps.proofs.StepLaws.{takes-is, takes-stop}
 use borrow.Author.Needs.{needs}
 use Rattle.steps.proofs.take_operation.Statement.{statement}
 use Rattle.steps.proofs.take_operation.Tie as tie

@@ -10,7 +10,8 @@ use Rattle.rules.specs.Nodes.{queryOf}
 use Rattle.rules.specs.Observation.{queryObservation}
 use Rattle.rules.specs.Layout.{observationOf}
 use Rattle.temporaries.specs.Bytes.{temporariesOf}
-use Rattle.steps.proofs.StepLaws.{takes-is, takes-stop, holds-at}
+use Rattle.temporaries.proofs.Reading.{holds-at}
+use Rattle.steps.proofs.StepLaws.{takes-is, takes-stop}
 use borrow.Author.Needs.{needs}
 use Rattle.steps.proofs.take_query.Statement.{statement}
 use Rattle.steps.proofs.take_query.Tie as tie

@@ -1,7 +1,7 @@
 // Cells of the execution memory, one behind the other, filled with one content.
 ghost use Rattle.rules.specs.Layout.{memoryOf};
 ghost use Rattle.cells.specs.Changes.{Becomes, CellFits};
-ghost use Rattle.filling.specs.Filling.{fillCells};
+ghost use Rattle.cell_fills.specs.Filling.{fillCells};
 use rules::Cell;
 
 // The n cells from first on, as far as there are such cells, become c.

@@ -1,17 +1,17 @@
--- `filling::fill` meets its contract. Assumes nothing.
+-- `cell_fills::fill` meets its contract. Assumes nothing.
 use mathlib.Core.Path.{_≡_, refl, sym, ap, _∙_, subst}
 use Prim.Native.Nat.{ℕ, suc, _+_, _-_, _*_, _≤_, _<_}
 use native.Mathlib.Omega.{arith}
 use Rattle.rules.specs.Layout.{memoryOf}
 use Rattle.rules.specs.Memory.{Memory, setCell}
 use Rattle.cells.specs.Changes.{Becomes}
-use Rattle.filling.specs.Filling.{fillCells}
+use Rattle.cell_fills.specs.Filling.{fillCells}
 use Rattle.cell_changes.proofs.Writing.{unchanged, becomes-then, becomes-as}
-use Rattle.filling.proofs.Filling.{fill-cells-none, fill-cells-more}
-use Rattle.filling.proofs.fill.Statement.{statement}
-use Rattle.filling.proofs.fill.Tie as tie
-use Rattle.filling.proofs.fill.Reads as reads
-use Rattle.filling.proofs.fill.Lts as lts
+use Rattle.cell_fills.proofs.Filling.{fill-cells-none, fill-cells-more}
+use Rattle.cell_fills.proofs.fill.Statement.{statement}
+use Rattle.cell_fills.proofs.fill.Tie as tie
+use Rattle.cell_fills.proofs.fill.Reads as reads
+use Rattle.cell_fills.proofs.fill.Lts as lts
 use Rattle.cell_changes.proofs.put_cell.Reads as put-cell-reads
 
 abbrev Inv-loop : tie.InvT-loop

@@ -1,6 +1,6 @@
--- `fills::fill_bytes` meets its contract. Assumes nothing.
-use Rattle.fills.proofs.fill_bytes.Statement.{statement}
-use Rattle.fills.proofs.fill_bytes.Tie as tie
+-- `byte_fills::fill_bytes` meets its contract. Assumes nothing.
+use Rattle.byte_fills.proofs.fill_bytes.Statement.{statement}
+use Rattle.byte_fills.proofs.fill_bytes.Tie as tie
 use borrow.Author.Needs.{needs}
 use Prim.Native.Nat.{_+_, _-_, _≤_, _<_}
 use native.Mathlib.Omega.{arith}
@@ -8,7 +8,7 @@ use mathlib.Core.Path.{_≡_, refl}
 use denote.Ref.{now}
 use lib.ListN.{length, length-set}
 use Rattle.rules.specs.Memory.{fill}
-use Rattle.fills.proofs.FillLoop.{fill-start, fill-turn, fill-end}
+use Rattle.byte_fills.proofs.FillLoop.{fill-start, fill-turn, fill-end}
 
 abbrev Inv-loop : tie.InvT-loop
 Inv-loop d₀ first n x end i₀ d i = (first ≤ i) × (i ≤ first + n) × (length d ≡ length d₀) ×

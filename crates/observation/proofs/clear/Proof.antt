@@ -1,7 +1,7 @@
--- `observation::clear` meets its contract. Assumes nothing.
+-- Filled with 0, the bytes are the empty observation memory's.
 use borrow.Author.Needs.{needs}
-use Rattle.deleted_blocks.proofs.clear.Statement.{statement}
-use Rattle.deleted_blocks.proofs.clear.Tie as tie
+use Rattle.observation.proofs.clear.Statement.{statement}
+use Rattle.observation.proofs.clear.Tie as tie
 use Prim.Native.Nat.{ℕ}
 use native.Mathlib.Omega.{arith}
 use mathlib.Core.Path.{_≡_, sym, ap, _∙_}
