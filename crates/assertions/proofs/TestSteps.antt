@@ -12,7 +12,8 @@ use Rattle.sizes.specs.Trees.{treeAt}
 use Rattle.assertions.specs.Tests.{LevelsAt, Branched, testShapes, lastKinds, lastFields}
 use Rattle.emission.proofs.Emitting.{emitted-none, emitted-node, Some, some, root-some, field-some}
 use Rattle.emission.proofs.Parts.{emitted-sequence}
-use Rattle.assertions.proofs.Tests.{ValueTest, OneTest, TwoTest, BothTest, skipTree, TestOf, TestLaw, test-at, last-test}
+use Rattle.assertions.proofs.Tests.{ValueTest, OneTest, TwoTest, BothTest, skipTree, TestOf, TestLaw, test-at}
+use Rattle.assertions.proofs.Tests.{last-test}
 
 abbrev pub ValueAt : List ℕ → ℕ → ℕ → ℕ → ℕ → Type 0
 ValueAt t n s v a = Copied t a × (v < 64) × (treeAt t n s v ≡ partTree t s 61 v a 0 0)

@@ -11,9 +11,14 @@ use lib.IntN.{ℤ, pos}
 use lib.ListN.{getD}
 use Rattle.rules.specs.Records.{kindOf, markOf, childA, childB}
 use Rattle.rules.specs.Kinds.{source, Sort, expression, place, term, predicate, statement, between}
-use Rattle.rules.specs.Nodes.{SourceNode, expressionNode, placeNode, termNode, predicateNode, statementNode, junk, nodeSort, asTerm, asPredicate, operatorOf, nodeAt}
-use Rattle.rules.specs.Translation.{embed, translateTerm, translatePredicate, operatorNumber, RecordTree, none, node, statementTree}
-use Rattle.rules.proofs.KindViews.{and-split, formAt, SourceKind, literal, read, address, operation, shifted, variable, pointed, value, base, offset, blockLength, combined, valid, initialised, compared, negated, both, either, skip, assign, new, free, sequence, branch, while, letIn, assert}
+use Rattle.rules.specs.Nodes.{SourceNode, expressionNode, placeNode, termNode, predicateNode, statementNode, junk}
+use Rattle.rules.specs.Nodes.{nodeSort, asTerm, asPredicate, operatorOf, nodeAt}
+use Rattle.rules.specs.Translation.{embed, translateTerm, translatePredicate, operatorNumber, RecordTree, none, node}
+use Rattle.rules.specs.Translation.{statementTree}
+use Rattle.rules.proofs.KindViews.{and-split, formAt, SourceKind, literal, read, address, operation, shifted}
+use Rattle.rules.proofs.KindViews.{variable, pointed, value, base, offset, blockLength, combined, valid, initialised}
+use Rattle.rules.proofs.KindViews.{compared, negated, both, either, skip, assign, new, free, sequence, branch, while}
+use Rattle.rules.proofs.KindViews.{letIn, assert}
 use Rattle.rules.proofs.FormLaws.{FormHolds}
 use Rattle.rules.proofs.Standing.{Stands, stands, stands-at}
 use Rattle.sizes.specs.Trees.{targetTree, treeAt, copyAt, sortAt}

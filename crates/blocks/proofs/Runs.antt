@@ -11,7 +11,8 @@ use mathlib.Core.List.{List}
 use lib.Dec.{T}
 use Rattle.rules.specs.Checker.{lowest}
 use Rattle.rules.specs.Words.{table}
-use Rattle.rules.specs.Memory.{Memory, cellOf, isFree, isUnused, blockOf, allFree, lowestRun, freeRun, nextName, one, countFree}
+use Rattle.rules.specs.Memory.{Memory, cellOf, isFree, isUnused, blockOf, allFree, lowestRun, freeRun, nextName, one}
+use Rattle.rules.specs.Memory.{countFree}
 use Rattle.rules.specs.Layout.{memoryOf, cellAt}
 use Rattle.rules.specs.declared.Search.{Search}
 use Rattle.rules.specs.declared.Search.the-variants as search

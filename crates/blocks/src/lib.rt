@@ -1,7 +1,8 @@
 // New blocks of the execution memory, and the count of its free cells.
 ghost use mathlib.Core.Path.{_≡_};
 ghost use Prim.Native.Nat.{_+_, _*_, _<_};
-ghost use Rattle.rules.specs.Memory.{blockOf, cellOf, isFree, isUnused, freeRun, nextName, makeBlock, withBlock, blockFor, countFree};
+ghost use Rattle.rules.specs.Memory.{blockOf, cellOf, isFree, isUnused, freeRun, nextName, makeBlock, withBlock};
+ghost use Rattle.rules.specs.Memory.{blockFor, countFree};
 ghost use Rattle.rules.specs.Layout.{memoryOf};
 ghost use Rattle.cells.specs.Changes.{Becomes};
 ghost use Rattle.blocks.specs.Blocks.{makingOf, madeMemory, useOf};

@@ -12,8 +12,10 @@ use mir.Syntax.{w64}
 use mir.Val.{toZ}
 use Rattle.rules.specs.Words.{little, digits, part, put, wordAt, integerAt}
 use Rattle.rules.specs.Memory.{Memory, setCell, rename}
-use Rattle.rules.specs.Layout.{memoryOf, memoryImage, blockRecord, blockBytes, cellBytes, blockPlace, cellPlace, blockAt, cellAt, blockFrom, cellFrom}
-use Rattle.rules.proofs.WordLaws.{digits-value, integer-value, part-put-in, getD-put-in, getD-put-apart, word-put-apart, fits-range}
+use Rattle.rules.specs.Layout.{memoryOf, memoryImage, blockRecord, blockBytes, cellBytes, blockPlace, cellPlace}
+use Rattle.rules.specs.Layout.{blockAt, cellAt, blockFrom, cellFrom}
+use Rattle.rules.proofs.WordLaws.{digits-value, integer-value, part-put-in, getD-put-in, getD-put-apart}
+use Rattle.rules.proofs.WordLaws.{word-put-apart, fits-range}
 use Rattle.rules.proofs.Rows.{table-same, table-set}
 use Rattle.rules.proofs.Fits.{FitsBlock, FitsCell}
 use Rattle.rules.proofs.LayoutLaws.{length-blockBytes, length-cellBytes}

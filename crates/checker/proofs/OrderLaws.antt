@@ -13,7 +13,8 @@ use Rattle.rules.specs.declared.Checked.{Checked}
 use Rattle.rules.specs.declared.Checked.the-variants as checked
 use Rattle.rules.specs.Records.{recordCount}
 use Rattle.rules.specs.Kinds.{Language, source, target, recordLimit}
-use Rattle.rules.specs.Checker.{lowestRecord, lengthFault, countFault, recordFault, shapeFault, scopeFault, levelFault, refuseAt, lastRule, check}
+use Rattle.rules.specs.Checker.{lowestRecord, lengthFault, countFault, recordFault, shapeFault, scopeFault}
+use Rattle.rules.specs.Checker.{levelFault, refuseAt, lastRule, check}
 use Rattle.forms.specs.Codes.{languageOf}
 use Rattle.checker.specs.Searches.{searchOf}
 use Rattle.checker.specs.Order.{orNext, fromScopes, fromShapes, fromRecords}
@@ -65,7 +66,10 @@ check-as l t = go (lengthFault t) (countFault l t) (lowestRecord t (λ n. ltb 0 
                           elim u as (λ x. Checked) [
                             | search.At n ↦ checked.Refused 6 n
                             | search.Nothing ↦
-                                elim v as (λ x. Checked) [ search.At n ↦ checked.Refused 7 n | search.Nothing ↦ lastRule l t ]
+                                elim v as (λ x. Checked) [
+                                  | search.At n ↦ checked.Refused 7 n
+                                  | search.Nothing ↦ lastRule l t
+                                ]
                           ]
                     ]
               ]

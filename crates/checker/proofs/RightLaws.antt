@@ -9,7 +9,8 @@ use borrow.Author.Tests.{leb-true, eqb-true}
 use lib.Dec.{eqb, leb, eqb·suc-zero}
 use Rattle.rules.specs.Records.{recordCount, kindOf, markOf, childA, childB, childC, literalOf, recordAt}
 use Rattle.rules.specs.Kinds.{Language, source, target, Field, upTo, Form, lookUp, formOf}
-use Rattle.rules.specs.Checker.{fieldFits, literalFits, fieldsFit, childrenFit, faultOf, recordFault, parentOf, isLetOf, inScope, markInScope, scopeFault, levelBelow, levelOf, levelFault}
+use Rattle.rules.specs.Checker.{fieldFits, literalFits, fieldsFit, childrenFit, faultOf, recordFault, parentOf}
+use Rattle.rules.specs.Checker.{isLetOf, inScope, markInScope, scopeFault, levelBelow, levelOf, levelFault}
 use Rattle.rules.specs.declared.Search.{Search}
 use Rattle.rules.specs.declared.Search.the-variants as search
 use Rattle.rules.proofs.KindViews.{formAt}

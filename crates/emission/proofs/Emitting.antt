@@ -8,7 +8,9 @@ use lib.IntN.{ℤ, pos}
 use lib.ListN.{length, length-append}
 use Rattle.rules.specs.Words.{put, flat}
 use Rattle.rules.specs.Records.{Record, recordBytes, tableBytes}
-use Rattle.rules.specs.TargetTrees.{TargetStatement, skip, assign, new, free, sequence, branch, while, letIn, takeAddress, takeValue, takeOperation, takeQuery, takeNot, branchOn, assertOn, storeBlock, deleteBlock, initialise}
+use Rattle.rules.specs.TargetTrees.{TargetStatement, skip, assign, new, free, sequence, branch, while, letIn}
+use Rattle.rules.specs.TargetTrees.{takeAddress, takeValue, takeOperation, takeQuery, takeNot, branchOn, assertOn}
+use Rattle.rules.specs.TargetTrees.{storeBlock, deleteBlock, initialise}
 use Rattle.rules.specs.Translation.{RecordTree, none, node, statementTree, treeSize, rootNumber, fieldC, emit}
 use Rattle.rules.proofs.RecordBytes.{length-record, table-length}
 use Rattle.rules.proofs.EmissionLaws.{length-emit, ownRecord}

@@ -8,7 +8,8 @@ use lib.Dec.{eqb, ltb, leb}
 use lib.IntN.{ℤ, pos}
 use lib.ListN.{getD}
 use lib.Signed.{leZ}
-use Rattle.rules.specs.Kinds.{Sort, sortNumber, Field, unnamed, child, number, between, zeroLiteral, anyLiteral, statementLiteral}
+use Rattle.rules.specs.Kinds.{Sort, sortNumber, Field, unnamed, child, number, between, zeroLiteral, anyLiteral}
+use Rattle.rules.specs.Kinds.{statementLiteral}
 use Rattle.rules.specs.Checker.{fieldFits, literalFits}
 use Rattle.forms.specs.Codes.{sortFrom, lows, highs, testFrom, fieldFrom, literalFrom}
 

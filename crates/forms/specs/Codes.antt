@@ -6,7 +6,9 @@ use mathlib.Core.Option.{Option, none, some}
 use mathlib.Core.Path.{_≡_}
 use lib.Dec.{ltb, eqb}
 use lib.ListN.{getD}
-use Rattle.rules.specs.Kinds.{Language, source, target, Sort, expression, place, term, predicate, statement, Field, unnamed, child, number, between, Literal, zeroLiteral, anyLiteral, statementLiteral, Form, form, formOf}
+use Rattle.rules.specs.Kinds.{Language, source, target, Sort, expression, place, term, predicate, statement, Field}
+use Rattle.rules.specs.Kinds.{unnamed, child, number, between, Literal, zeroLiteral, anyLiteral, statementLiteral}
+use Rattle.rules.specs.Kinds.{Form, form, formOf}
 use Rattle.rules.specs.Checker.{fieldFits, sortOf}
 
 abbrev pub languageOf : Bool → Language

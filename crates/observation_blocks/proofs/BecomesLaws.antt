@@ -12,7 +12,8 @@ use Rattle.rules.specs.Sizes.{nameCount, cellCount, observationLength}
 use Rattle.rules.specs.Words.{little, put, wordAt, table, flat}
 use Rattle.rules.specs.Memory.{one, fill}
 use Rattle.rules.specs.Observation.{Observation, withMarks}
-use Rattle.rules.specs.Layout.{blockRecord, blockPlace, markPlace, recordedFrom, recordedAt, markAt, observationOf, observationImage, recordedBytes, markBytes}
+use Rattle.rules.specs.Layout.{blockRecord, blockPlace, markPlace, recordedFrom, recordedAt, markAt, observationOf}
+use Rattle.rules.specs.Layout.{observationImage, recordedBytes, markBytes}
 use Rattle.rules.specs.declared.Recorded.{Recorded}
 use Rattle.rules.proofs.WordLaws.{getD-put-after}
 use Rattle.rules.proofs.Rows.{length-table, getD-table, table-same, table-list, table-set}

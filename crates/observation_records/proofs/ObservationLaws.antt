@@ -10,7 +10,8 @@ use lib.ListN.{length, getD, replicate, replicate-append-replicate, List·getD-e
 use Rattle.rules.specs.Sizes.{nameCount, cellCount, observationLength}
 use Rattle.rules.specs.Words.{digits, wordAt}
 use Rattle.rules.specs.Observation.{recordOf, markOf, emptyObservation}
-use Rattle.rules.specs.Layout.{blockPlace, recordedFrom, recordedAt, markAt, observationOf, observationImage, recordedBytes, markBytes}
+use Rattle.rules.specs.Layout.{blockPlace, recordedFrom, recordedAt, markAt, observationOf, observationImage}
+use Rattle.rules.specs.Layout.{recordedBytes, markBytes}
 use Rattle.rules.specs.declared.Recorded.{Recorded}
 use Rattle.rules.specs.declared.Recorded.the-variants as recorded
 use Rattle.rules.proofs.Rows.{length-table, getD-table, flat-all}

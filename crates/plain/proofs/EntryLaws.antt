@@ -14,7 +14,8 @@ use Rattle.rules.specs.Nodes.{sourceStatement, sourceProgram}
 use Rattle.rules.specs.Memory.{Memory, countFree, startMemory}
 use Rattle.rules.specs.Plain.{Outcome, finished, ended, run, startVariables}
 use Rattle.rules.specs.Layout.{memoryOf, memoryImage}
-use Rattle.rules.specs.Answers.{answer, inputsOf, endingOf, memoryAfter, plainOutcome, plainEnded, plainRefused, plainBy, PlainRun}
+use Rattle.rules.specs.Answers.{answer, inputsOf, endingOf, memoryAfter, plainOutcome, plainEnded, plainRefused}
+use Rattle.rules.specs.Answers.{plainBy, PlainRun}
 use Rattle.rules.specs.declared.Answer.{Answer}
 use Rattle.rules.specs.declared.Checked.{Checked}
 use Rattle.rules.specs.declared.Checked.the-variants as checked

@@ -165,7 +165,8 @@ pub ready-later : (t : List ℕ) (n : ℕ) (ρ : Variables) (f : ℕ) (r : Ended
     → Ready t (childB t n) ρ (memoryOf b)
 ready-later t n ρ f r a b h q w =
     ready-second t n ρ (memoryOf a) h q (memoryOf b)
-    (subst FitsMemory (sym (w .memory .view)) (run-kept t (childA t n) ρ (memoryOf a) (ready-first t n ρ (memoryOf a) h q) f))
+    (subst FitsMemory (sym (w .memory .view))
+    (run-kept t (childA t n) ρ (memoryOf a) (ready-first t n ρ (memoryOf a) h q) f))
 
 -- a let's child may run where its block was made
 pub ready-made : (t : List ℕ) (n : ℕ) (ρ : Variables) (k : ℕ) (a b : List ℕ) → Ready t n ρ (memoryOf a)

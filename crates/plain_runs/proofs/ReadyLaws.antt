@@ -22,7 +22,8 @@ use Rattle.rules.proofs.KeptPredicates.{MadeWith, fits-invariant, makeBlock-kee
 use Rattle.rules.proofs.FittingValues.{evaluate-fits}
 use Rattle.rules.proofs.Reachable.{extend-fits}
 use Rattle.rules.proofs.ReachableRoundTrip.{run-fits}
-use Rattle.rules.proofs.StatementArms.{statement-within, sequence-children, branch-children, while-children, let-child, sound-assign, sound-sequence, sound-branch, sound-while, sound-let}
+use Rattle.rules.proofs.StatementArms.{statement-within, sequence-children, branch-children, while-children}
+use Rattle.rules.proofs.StatementArms.{let-child, sound-assign, sound-sequence, sound-branch, sound-while, sound-let}
 use Rattle.rules.proofs.PlainArms.{Under, expressionAt, statementAt}
 use Rattle.tables.specs.Within.{Within}
 use Rattle.cells.specs.Changes.{EvaluatedFits}

@@ -11,9 +11,11 @@ use Rattle.rules.specs.Kinds.{source, target, Sort, sortNumber, expression, ter
 use Rattle.rules.specs.Nodes.{operatorOf, queryOf, SourceNode, asExpression, asTerm, asPredicate, sortOfNode, nodeAt}
 use Rattle.rules.specs.Numbers.{tested}
 use Rattle.rules.specs.Memory.{Memory, onValue}
-use Rattle.rules.specs.Evaluation.{Variables, operated, evaluate, queryMemory, evaluateTerm, evaluatePredicate, opposite, andThen, orElse, onTest}
+use Rattle.rules.specs.Evaluation.{Variables, operated, evaluate, queryMemory, evaluateTerm, evaluatePredicate}
+use Rattle.rules.specs.Evaluation.{opposite, andThen, orElse, onTest}
 use Rattle.rules.specs.Watched.{Temporaries, temporaryOf}
-use Rattle.rules.proofs.KindViews.{SourceKind, value, base, offset, blockLength, combined, valid, initialised, compared, negated, both, either}
+use Rattle.rules.proofs.KindViews.{SourceKind, value, base, offset, blockLength, combined, valid, initialised}
+use Rattle.rules.proofs.KindViews.{compared, negated, both, either}
 use Rattle.rules.proofs.FormLaws.{FieldHolds}
 use Rattle.rules.proofs.Standing.{stands, stands-at}
 use Rattle.rules.proofs.SharedExpressions.{target-expression, evaluated-alike}

@@ -57,7 +57,8 @@ pub extern "C" fn recorder_run_plain(
     memory: &mut [u8],
 ) -> Answer
     ensures answer { λ r. ⌜ r ≡ runPlain (now (table .entry)) (now (inputs .entry)) fuel (now (memory .entry)) .answer ⌝ }
-    ensures memory { λ _. ⌜ now (memory .exit) ≡ runPlain (now (table .entry)) (now (inputs .entry)) fuel (now (memory .entry)) .memory ⌝ }
+    ensures memory { λ _. ⌜ now (memory .exit) ≡ runPlain (now (table .entry)) (now (inputs .entry)) fuel
+        (now (memory .entry)) .memory ⌝ }
 {
     plain::run_plain(table, inputs, fuel, memory)
 }
@@ -106,10 +107,11 @@ fn run_pair(
     second: &mut [u8],
     observation: &mut [u8],
 ) -> Both
-    ensures answers { λ r. ⌜ r ≡ both (runPlain (now (table .entry)) (now (inputs .entry)) fuel (now (memory .entry)) .answer)
-        (runWatched (now (target .entry)) (now (inputs .entry)) fuel
+    ensures answers { λ r. ⌜ r ≡ both (runPlain (now (table .entry)) (now (inputs .entry)) fuel
+        (now (memory .entry)) .answer) (runWatched (now (target .entry)) (now (inputs .entry)) fuel
         (now (second .entry)) (now (observation .entry)) .answer) ⌝ }
-    ensures memory { λ _. ⌜ now (memory .exit) ≡ runPlain (now (table .entry)) (now (inputs .entry)) fuel (now (memory .entry)) .memory ⌝ }
+    ensures memory { λ _. ⌜ now (memory .exit) ≡ runPlain (now (table .entry)) (now (inputs .entry)) fuel
+        (now (memory .entry)) .memory ⌝ }
     ensures second { λ _. ⌜ now (second .exit) ≡ runWatched (now (target .entry)) (now (inputs .entry)) fuel
         (now (second .entry)) (now (observation .entry)) .memory ⌝ }
     ensures observation { λ _. ⌜ now (observation .exit) ≡ runWatched (now (target .entry)) (now (inputs .entry)) fuel
@@ -133,7 +135,8 @@ fn run_translated(
     requires { ⌜ Ready (now table) (now inputs)
         (lent (now out) (now memory) (now second) (now observation)) ⌝ }
     ensures { λ r. ⌜ AnsweredBoth (now (table .entry)) (now (inputs .entry)) fuel
-        (lent (now (out .entry)) (now (memory .entry)) (now (second .entry)) (now (observation .entry))) (r .plain) (r .watched)
+        (lent (now (out .entry)) (now (memory .entry)) (now (second .entry)) (now (observation .entry)))
+        (r .plain) (r .watched)
         (lent (now (out .exit)) (now (memory .exit)) (now (second .exit)) (now (observation .exit))) ⌝ }
 {
     let translated = recorder_translate(table, out);
@@ -163,7 +166,8 @@ fn run_accepted(
 ) -> Both
     requires { ⌜ check source (now table) ≡ checked.Accepted ⌝ }
     ensures { λ r. ⌜ AnsweredBoth (now (table .entry)) (now (inputs .entry)) fuel
-        (lent (now (out .entry)) (now (memory .entry)) (now (second .entry)) (now (observation .entry))) (r .plain) (r .watched)
+        (lent (now (out .entry)) (now (memory .entry)) (now (second .entry)) (now (observation .entry)))
+        (r .plain) (r .watched)
         (lent (now (out .exit)) (now (memory .exit)) (now (second .exit)) (now (observation .exit))) ⌝ }
 {
     if buffers::has_inputs_fault(inputs) {
@@ -194,7 +198,8 @@ pub fn run_both(
     observation: &mut [u8],
 ) -> Both
     ensures { λ r. ⌜ AnsweredBoth (now (table .entry)) (now (inputs .entry)) fuel
-        (lent (now (out .entry)) (now (memory .entry)) (now (second .entry)) (now (observation .entry))) (r .plain) (r .watched)
+        (lent (now (out .entry)) (now (memory .entry)) (now (second .entry)) (now (observation .entry)))
+        (r .plain) (r .watched)
         (lent (now (out .exit)) (now (memory .exit)) (now (second .exit)) (now (observation .exit))) ⌝ }
 {
     let checked = recorder_check_source(table);

@@ -10,7 +10,8 @@ use lib.Dec.{eqb}
 use lib.ListN.{length}
 use Rattle.rules.specs.Records.{recordCount}
 use Rattle.rules.specs.Kinds.{Language, source, target, recordLimit}
-use Rattle.rules.specs.Checker.{lowest, lowestRecord, recordFault, shapeFault, scopeFault, levelFault, refuseAt, lastRule, check}
+use Rattle.rules.specs.Checker.{lowest, lowestRecord, recordFault, shapeFault, scopeFault, levelFault, refuseAt}
+use Rattle.rules.specs.Checker.{lastRule, check}
 use Rattle.rules.proofs.BooleanLaws.{neither}
 use Rattle.rules.proofs.SearchLaws.{lowest-found}
 use Rattle.rules.proofs.SearchLaws as search-laws

@@ -12,11 +12,15 @@ use lib.ListN.{length, getD, set, length-set, length-map}
 use lib.Seq.{getD-set-same, getD-set-other}
 use borrow.Author.Tests.{ltb-true}
 use Rattle.rules.specs.Sizes.{nameCount, cellCount}
-use Rattle.rules.specs.Memory.{Memory, recordedOf, named, rename, blockOf, cellOf, locatedIn, locate, setCell, allFree, lowestRun, isFree, freeRun, isUnused, nextName, Use, fixed, freeable, blockFor, withBlock, withoutCells, endBlock, one}
+use Rattle.rules.specs.Memory.{Memory, recordedOf, named, rename, blockOf, cellOf, locatedIn, locate, setCell}
+use Rattle.rules.specs.Memory.{allFree, lowestRun, isFree, freeRun, isUnused, nextName, Use, fixed, freeable}
+use Rattle.rules.specs.Memory.{blockFor, withBlock, withoutCells, endBlock, one}
 use Rattle.rules.specs.Observation.{covers}
 use Rattle.rules.proofs.SearchLaws.{Outcome, lowest-outcome}
 use Rattle.rules.proofs.Lists.{length-rename, length-fill}
-use Rattle.rules.proofs.MemoryLaws.{map-rename, named-map, named-rename-same, named-rename-other, named-rename, fill-inside, fill-below, fill-above, allFree-at, Covering, inside, below, above, covering, coverage, coverage-rename, coverage-named}
+use Rattle.rules.proofs.MemoryLaws.{map-rename, named-map, named-rename-same, named-rename-other, named-rename}
+use Rattle.rules.proofs.MemoryLaws.{fill-inside, fill-below, fill-above, allFree-at, Covering, inside, below}
+use Rattle.rules.proofs.MemoryLaws.{above, covering, coverage, coverage-rename, coverage-named}
 use Rattle.rules.proofs.Invariant.{occupied, at-most-one, recordsOf, Invariant, Becomes, becomes-itself, Onward}
 use Rattle.rules.specs.declared.Pointer.{Pointer}
 use Rattle.rules.specs.declared.Value.{Value}

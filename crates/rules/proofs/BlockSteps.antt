@@ -4,12 +4,14 @@ use native.Mathlib.Omega.{arith}
 use mathlib.Core.Path.{_≡_, refl, ap, _∙_}
 use lib.IntN.{pos, negsuc}
 use lib.Seq.{getD-set-same}
-use Rattle.rules.specs.Memory.{Memory, recordedOf, blockOf, locate, readCell, setCell, nextName, freeRun, fixed, freeable, withBlock, makeAt, endBlock, onPlace, storeNew, allocated}
+use Rattle.rules.specs.Memory.{Memory, recordedOf, blockOf, locate, readCell, setCell, nextName, freeRun, fixed}
+use Rattle.rules.specs.Memory.{freeable, withBlock, makeAt, endBlock, onPlace, storeNew, allocated}
 use Rattle.rules.specs.Evaluation.{pointedBy, addressOf}
 use Rattle.rules.specs.Observation.{Observation, noted, storeBlock, deleteBlock, initialise, pointerTo, mirror}
 use Rattle.rules.specs.Plain.{Outcome}
 use Rattle.rules.specs.Plain as plain
-use Rattle.rules.specs.Watched.{Temporaries, temporaryOf, heldIn, WatchedOutcome, finished, Watching, next, after, inLet, taken, observed, calledOn, calledOnTwo}
+use Rattle.rules.specs.Watched.{Temporaries, temporaryOf, heldIn, WatchedOutcome, finished, Watching, next}
+use Rattle.rules.specs.Watched.{after, inLet, taken, observed, calledOn, calledOnTwo}
 use Rattle.rules.specs.Answers.{memoryAfter}
 use Rattle.rules.proofs.Invariant.{Invariant, Onward}
 use Rattle.rules.proofs.BlockChanges.{Room, HasRoom, room, onward-make, Leads, leads}

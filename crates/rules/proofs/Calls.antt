@@ -5,7 +5,9 @@ use mathlib.Core.Path.{_≡_, refl}
 use lib.IntN.{ℤ, pos, negsuc}
 use lib.ListN.{set}
 use Rattle.rules.specs.Memory.{onValue}
-use Rattle.rules.specs.Observation.{Observation, Noted, refused, recordOf, markRun, withMarks, storeAt, storeSized, storeBlock, deleteAt, deleteFrom, deleteBlock, locateMark, markAt, initialise}
+use Rattle.rules.specs.Observation.{Observation, Noted, refused, recordOf, markRun, withMarks, storeAt}
+use Rattle.rules.specs.Observation.{storeSized, storeBlock, deleteAt, deleteFrom, deleteBlock, locateMark}
+use Rattle.rules.specs.Observation.{markAt, initialise}
 use Rattle.rules.specs.Watched.{calledOn, calledOnTwo}
 use Rattle.rules.proofs.Keeping.{AnyValue, Gives, on-value, on-integer, on-pointer}
 use Rattle.rules.proofs.Outcomes.{NotedKeeps}

@@ -8,7 +8,8 @@ use lib.ListN.{length, replicate, length-replicate, getD-replicate}
 use Rattle.rules.specs.Sizes.{memoryLength, observationLength}
 use Rattle.rules.specs.Kinds.{source}
 use Rattle.rules.specs.Translation.{translation}
-use Rattle.rules.specs.Answers.{PlainRun, WatchedRun, memoryAfter, inputsOf, plainOutcome, endingOf, plainEnded, watchedEndingOf}
+use Rattle.rules.specs.Answers.{PlainRun, WatchedRun, memoryAfter, inputsOf, plainOutcome, endingOf, plainEnded}
+use Rattle.rules.specs.Answers.{watchedEndingOf}
 use Rattle.rules.specs.Cases as cases
 use Rattle.rules.specs.TargetTrees.{TargetStatement}
 use Rattle.rules.proofs.Sound.{startScope, SoundStatement}
@@ -25,22 +26,26 @@ use Rattle.rules.specs.declared.Checked.{Checked}
 use Rattle.rules.specs.declared.Checked.the-variants as checked
 use Rattle.rules.specs.Words.{little, digits, part, wordAt, flat}
 use Rattle.rules.specs.Kinds.{lookUp, formOf}
-use Rattle.rules.specs.Checker.{lowest, recordFault, timesChildOf, timesChild, shapeFault, parentOf, inScope, scopeFault, levelOf, levelFault, check}
+use Rattle.rules.specs.Checker.{lowest, recordFault, timesChildOf, timesChild, shapeFault, parentOf, inScope}
+use Rattle.rules.specs.Checker.{scopeFault, levelOf, levelFault, check}
 use Rattle.rules.specs.Nodes.{sourceProgram, makeNode, nodes, nodeAt}
 use Rattle.rules.specs.Numbers.{onIntegers, onPointerAndInteger, onPointers, operate}
-use Rattle.rules.specs.Memory.{Memory, locate, cellOf, isFree, allFree, lowestRun, freeRun, fixed, freeable, withBlock, makeAt, storeNew, endBlock, startMemory}
+use Rattle.rules.specs.Memory.{Memory, locate, cellOf, isFree, allFree, lowestRun, freeRun, fixed, freeable}
+use Rattle.rules.specs.Memory.{withBlock, makeAt, storeNew, endBlock, startMemory}
 use Rattle.rules.specs.Evaluation.{extend, evaluate, queried, evaluateTerm, evaluatePredicate}
 use Rattle.rules.specs.Plain.{finished, next, after, inLet, turns, run, startVariables}
 use Rattle.rules.specs.Observation.{startObservation, covered, markAll}
 use Rattle.rules.specs.Watched.{WatchedOutcome, watch, startTemporaries}
-use Rattle.rules.specs.Translation.{embed, translateTerm, translatePredicate, translate, expressionTree, statementTree, emit, translatedRecords}
+use Rattle.rules.specs.Translation.{embed, translateTerm, translatePredicate, translate, expressionTree}
+use Rattle.rules.specs.Translation.{statementTree, emit, translatedRecords}
 use Rattle.rules.specs.Layout.{blockBytes, memoryImage}
 use Rattle.rules.specs.Listing.{decimalDigits, recordLines}
 use lib.IntN.{pos, negsuc}
 use Rattle.rules.specs.Records.{Record, tableBytes}
 use Rattle.rules.specs.Trees.{divide, nearest, literal, variable, new}
 use Rattle.rules.specs.Listing.{listing}
-use Rattle.rules.specs.Cases.{p1, p5, p6, p7, p8, p9, p10, inputs, listingOnPaper, plain, ending, endings, by, blockAfter, worked, onPaper}
+use Rattle.rules.specs.Cases.{p1, p5, p6, p7, p8, p9, p10, inputs, listingOnPaper, plain, ending, endings, by}
+use Rattle.rules.specs.Cases.{blockAfter, worked, onPaper}
 
 -- A run's number is worked out by itself: the lent memories are of the right length, no image is asked for, and the
 -- translation need not be emitted.

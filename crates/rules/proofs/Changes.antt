@@ -3,7 +3,9 @@ use Prim.Native.Nat.{ℕ, zero, suc}
 use mathlib.Core.Path.{_≡_, refl}
 use mathlib.Core.Bool.{false}
 use lib.IntN.{ℤ, pos, negsuc}
-use Rattle.rules.specs.Memory.{Memory, blockOf, locate, atCell, setCell, Change, changed, stopped, storeCell, isUnused, nextName, freeRun, Use, freeable, Made, made, unmade, makeAt, makeBlock, assigned, storeNew, newOfSize, allocated, freeOf, freed}
+use Rattle.rules.specs.Memory.{Memory, blockOf, locate, atCell, setCell, Change, changed, stopped, storeCell}
+use Rattle.rules.specs.Memory.{isUnused, nextName, freeRun, Use, freeable, Made, made, unmade, makeAt}
+use Rattle.rules.specs.Memory.{makeBlock, assigned, storeNew, newOfSize, allocated, freeOf, freed}
 use Rattle.rules.proofs.Keeping.{AnyNumber, ChangeKeeps, MadeKeeps}
 use Rattle.rules.proofs.Invariant.{Invariant, Onward, onward-itself, onward-then}
 use Rattle.rules.proofs.BlockChanges.{onward-store, HasRoom, room, onward-make, make-given, onward-free, Leads, leads}

@@ -22,7 +22,8 @@ use Rattle.rules.proofs.UnrefusedRuns.{plain-runs, watched-runs}
 use Rattle.rules.proofs.Sound.{startScope, SoundStatement}
 use Rattle.rules.proofs.AcceptedPrograms.{accepted-program}
 use Rattle.rules.proofs.SizeBound.{size-bound}
-use Rattle.rules.proofs.TranslatedTables.{translatedSize, translation-count, translation-accepted, translation-program}
+use Rattle.rules.proofs.TranslatedTables.{translatedSize, translation-count, translation-accepted}
+use Rattle.rules.proofs.TranslatedTables.{translation-program}
 use Rattle.rules.proofs.ReachableRoundTrip.{plain-round-trip}
 use Rattle.rules.proofs.Inputs.{inputs-length, inputs-few, inputs-some}
 use Rattle.rules.proofs.WholeRun.{Same, watchedFrom, runs-same, up-to-first-false}

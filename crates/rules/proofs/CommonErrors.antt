@@ -2,7 +2,8 @@
 use mathlib.Core.Path.{_≡_, refl}
 use Rattle.rules.specs.Words.{little, digits, wordAt, table, flat}
 use Rattle.rules.specs.Kinds.{lookUp, formOf}
-use Rattle.rules.specs.Checker.{lowest, recordFault, timesChildOf, timesChild, shapeFault, parentOf, inScope, scopeFault, levelOf, levelFault, check}
+use Rattle.rules.specs.Checker.{lowest, recordFault, timesChildOf, timesChild, shapeFault, parentOf, inScope}
+use Rattle.rules.specs.Checker.{scopeFault, levelOf, levelFault, check}
 use Rattle.rules.specs.Nodes.{makeNode, nodes, nodeAt}
 use Rattle.rules.specs.Numbers.{onIntegers, onPointerAndInteger, onPointers, operate}
 use Rattle.rules.specs.Memory.{locate, allFree, lowestRun, startMemory}
@@ -10,7 +11,8 @@ use Rattle.rules.specs.Evaluation.{evaluate, queried, evaluateTerm, eval
 use Rattle.rules.specs.Plain.{turns, run}
 use Rattle.rules.specs.Observation.{covered, markAll}
 use Rattle.rules.specs.Watched.{watch}
-use Rattle.rules.specs.Translation.{embed, translateTerm, translatePredicate, translate, expressionTree, statementTree, emit, translatedRecords}
+use Rattle.rules.specs.Translation.{embed, translateTerm, translatePredicate, translate, expressionTree}
+use Rattle.rules.specs.Translation.{statementTree, emit, translatedRecords}
 use Rattle.rules.specs.Layout.{blockBytes, recordedBytes}
 use Rattle.rules.specs.CommonErrors.{plainly, watchedly, stops, told, right}
 

@@ -5,9 +5,13 @@ use mathlib.Core.Logic.{_⊎_, inl, inr}
 use mathlib.Core.Path.{_≡_, refl}
 use Rattle.rules.specs.Trees.{Statement, Expression, Place}
 use Rattle.rules.specs.Trees as tree
-use Rattle.rules.specs.TargetTrees.{TargetStatement, skip, assign, new, free, sequence, branch, while, letIn, takeAddress, takeValue, takeOperation, takeQuery, takeNot, branchOn, assertOn, storeBlock, deleteBlock, initialise}
-use Rattle.rules.specs.Memory.{Memory, Use, fixed, freeable, makeBlock, nextName, freeRun, assigned, allocated, freed, onValue}
-use Rattle.rules.specs.Evaluation.{Variables, noTemporaries, held, evaluate, findPlace, addressOf, operated, opposite, evaluateSource, findSource, evaluatePredicate, condition, extend}
+use Rattle.rules.specs.TargetTrees.{TargetStatement, skip, assign, new, free, sequence, branch, while, letIn}
+use Rattle.rules.specs.TargetTrees.{takeAddress, takeValue, takeOperation, takeQuery, takeNot, branchOn}
+use Rattle.rules.specs.TargetTrees.{assertOn, storeBlock, deleteBlock, initialise}
+use Rattle.rules.specs.Memory.{Memory, Use, fixed, freeable, makeBlock, nextName, freeRun, assigned, allocated}
+use Rattle.rules.specs.Memory.{freed, onValue}
+use Rattle.rules.specs.Evaluation.{Variables, noTemporaries, held, evaluate, findPlace, addressOf, operated}
+use Rattle.rules.specs.Evaluation.{opposite, evaluateSource, findSource, evaluatePredicate, condition, extend}
 use Rattle.rules.specs.Observation.{Observation, Noted, recordOf, markOf, queryObservation}
 use Rattle.rules.specs.Observation as observation
 use Rattle.rules.specs.Plain.{Outcome, run}
@@ -15,9 +19,15 @@ use Rattle.rules.specs.Plain as plain
 use Rattle.rules.specs.Watched.{Temporaries, temporaryOf, heldIn, WatchedOutcome, watch, calledOn, calledOnTwo}
 use Rattle.rules.specs.Watched as watched
 use Rattle.rules.specs.Answers.{endingOf, watchedEndingOf}
-use Rattle.rules.proofs.Keeping.{AnyValue, AnyPlace, AnyMemory, AnyMade, AnyObservation, Gives, TestStops, on-value, on-pointer, Late, Ending, ChangeKeeps, MadeKeeps, assigned-keeps, makeAt-keeps, allocated-keeps, freed-keeps}
-use Rattle.rules.proofs.EvaluationEndings.{EvaluatedLate, FoundLate, evaluate-late, findPlace-late, condition-late, operated-late, addressOf-late, opposite-late, queried-late, evaluatePredicate-late}
-use Rattle.rules.proofs.Outcomes.{Outcomes, next-keeps, after-keeps, decide-keeps, turns-keeps, inLet-keeps, asserted-keeps, WatchedOutcomes, NotedKeeps, watched-next, watched-after, watched-decide, watched-turns, watched-inLet, taken-keeps, observed-keeps}
+use Rattle.rules.proofs.Keeping.{AnyValue, AnyPlace, AnyMemory, AnyMade, AnyObservation, Gives, TestStops}
+use Rattle.rules.proofs.Keeping.{on-value, on-pointer, Late, Ending, ChangeKeeps, MadeKeeps, assigned-keeps}
+use Rattle.rules.proofs.Keeping.{makeAt-keeps, allocated-keeps, freed-keeps}
+use Rattle.rules.proofs.EvaluationEndings.{EvaluatedLate, FoundLate, evaluate-late, findPlace-late}
+use Rattle.rules.proofs.EvaluationEndings.{condition-late, operated-late, addressOf-late, opposite-late}
+use Rattle.rules.proofs.EvaluationEndings.{queried-late, evaluatePredicate-late}
+use Rattle.rules.proofs.Outcomes.{Outcomes, next-keeps, after-keeps, decide-keeps, turns-keeps, inLet-keeps}
+use Rattle.rules.proofs.Outcomes.{asserted-keeps, WatchedOutcomes, NotedKeeps, watched-next, watched-after}
+use Rattle.rules.proofs.Outcomes.{watched-decide, watched-turns, watched-inLet, taken-keeps, observed-keeps}
 use Rattle.rules.proofs.Calls.{store-called, delete-called, initialise-called}
 use Rattle.rules.specs.declared.Value.{Value}
 use Rattle.rules.specs.declared.Evaluated.{Evaluated}

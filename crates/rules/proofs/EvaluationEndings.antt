@@ -3,12 +3,17 @@ use Prim.Native.Nat.{ℕ, _≤_}
 use native.Mathlib.Omega.{arith}
 use mathlib.Core.Bool.{Bool}
 use lib.IntN.{ℤ}
-use Rattle.rules.specs.Trees.{Operator, shift, Query, valid, initialised, base, offset, blockLength, Expression, literal, read, address, operation, shifted, Place, variable, pointed, temporary, Term, value, asked, combined, Predicate, holds, compared, negated, both, either}
+use Rattle.rules.specs.Trees.{Operator, shift, Query, valid, initialised, base, offset, blockLength, Expression}
+use Rattle.rules.specs.Trees.{literal, read, address, operation, shifted, Place, variable, pointed, temporary}
+use Rattle.rules.specs.Trees.{Term, value, asked, combined, Predicate, holds, compared, negated, both, either}
 use Rattle.rules.specs.Numbers.{truthValue, tested}
 use Rattle.rules.specs.Memory.{Memory, blockOf, cellOf, recordedOf, locate, locatedIn, defined, readCell, onValue}
-use Rattle.rules.specs.Evaluation.{Variables, Holding, noTemporaries, held, pointedBy, addressOf, operated, evaluate, findPlace, ofLive, queried, queryMemory, isInitialised, isValid, initialisedAt, evaluateTerm, onTest, opposite, evaluatePredicate, condition}
+use Rattle.rules.specs.Evaluation.{Variables, Holding, noTemporaries, held, pointedBy, addressOf, operated}
+use Rattle.rules.specs.Evaluation.{evaluate, findPlace, ofLive, queried, queryMemory, isInitialised, isValid}
+use Rattle.rules.specs.Evaluation.{initialisedAt, evaluateTerm, onTest, opposite, evaluatePredicate, condition}
 use Rattle.rules.proofs.Operations.{truth-gives, operated-gives, tested-stops, condition-stops, opposite-gives}
-use Rattle.rules.proofs.Keeping.{AnyValue, AnyPlace, Gives, Finds, TestStops, on-value, on-place, on-pointer, on-test, at-cell, Late}
+use Rattle.rules.proofs.Keeping.{AnyValue, AnyPlace, Gives, Finds, TestStops, on-value, on-place, on-pointer}
+use Rattle.rules.proofs.Keeping.{on-test, at-cell, Late}
 use Rattle.rules.specs.declared.Pointer.{Pointer}
 use Rattle.rules.specs.declared.Value.{Value}
 use Rattle.rules.specs.declared.Value.the-variants as values

@@ -10,11 +10,15 @@ use borrow.Author.Tests.{ltb-true}
 use lib.ListN.{length, set, replicate, length-append, length-map, length-replicate, length-set}
 use Rattle.rules.specs.Sizes.{nameCount, cellCount}
 use Rattle.rules.specs.Numbers.{inRange}
-use Rattle.rules.specs.Memory.{Memory, recordedOf, blockOf, locate, locatedIn, setCell, allFree, lowestRun, isUnused, nextName, Use, fixed, freeable, blockFor, withBlock, withoutCells, endBlock, startMemory}
+use Rattle.rules.specs.Memory.{Memory, recordedOf, blockOf, locate, locatedIn, setCell, allFree, lowestRun}
+use Rattle.rules.specs.Memory.{isUnused, nextName, Use, fixed, freeable, blockFor, withBlock, withoutCells}
+use Rattle.rules.specs.Memory.{endBlock, startMemory}
 use Rattle.rules.specs.Observation.{Observation, recordOf, locateMark, withMarks}
 use Rattle.rules.proofs.SearchLaws.{Outcome, lowest-outcome}
-use Rattle.rules.proofs.Lists.{All, also, all-set, all-fill, all-append, all-replicate, all-named, all-rename, all-map, length-fill, length-rename}
-use Rattle.rules.proofs.Fits.{FitsName, FitsPlaces, FitsBlock, FitsRecorded, FitsCell, FitsMemory, FitsObservation, InsideRecorded, InsideBlock, InsideMemory, InsideObservation}
+use Rattle.rules.proofs.Lists.{All, also, all-set, all-fill, all-append, all-replicate, all-named, all-rename}
+use Rattle.rules.proofs.Lists.{all-map, length-fill, length-rename}
+use Rattle.rules.proofs.Fits.{FitsName, FitsPlaces, FitsBlock, FitsRecorded, FitsCell, FitsMemory}
+use Rattle.rules.proofs.Fits.{FitsObservation, InsideRecorded, InsideBlock, InsideMemory, InsideObservation}
 use Rattle.rules.specs.declared.Value.the-variants as value
 use Rattle.rules.specs.declared.Pointer.{Pointer}
 use Rattle.rules.specs.declared.Located.{Located}

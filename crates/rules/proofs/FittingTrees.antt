@@ -9,7 +9,8 @@ use lib.Dec.{eqb}
 use lib.IntN.{ℤ}
 use borrow.Author.Tests.{lt-ltb, eq-eqb}
 use Rattle.rules.specs.Records.{Record, kindOf, recordAt}
-use Rattle.rules.specs.Kinds.{Language, source, target, Sort, expression, place, term, predicate, statement, sortNumber, Field, unnamed, child, number, Form, formOf, lookUp}
+use Rattle.rules.specs.Kinds.{Language, source, target, Sort, expression, place, term, predicate, statement}
+use Rattle.rules.specs.Kinds.{sortNumber, Field, unnamed, child, number, Form, formOf, lookUp}
 use Rattle.rules.specs.Checker.{fieldFits, literalFits, fieldsFit, sortOf, childFits, childrenFit, recordFault}
 use Rattle.rules.specs.Numbers.{inRange}
 use Rattle.rules.specs.Translation.{RecordTree, node, treeSize, rootNumber, fieldC}

@@ -5,16 +5,19 @@ use mathlib.Core.Bool.{Bool, true}
 use mathlib.Core.Path.{_≡_, refl}
 use lib.IntN.{ℤ}
 use borrow.Author.Tests.{lt-ltb}
-use Rattle.rules.specs.Trees.{Operator, shift, Query, valid, initialised, base, offset, blockLength, Expression, literal, read, address, operation, shifted, Place, variable, pointed, temporary}
+use Rattle.rules.specs.Trees.{Operator, shift, Query, valid, initialised, base, offset, blockLength, Expression}
+use Rattle.rules.specs.Trees.{literal, read, address, operation, shifted, Place, variable, pointed, temporary}
 use Rattle.rules.specs.Numbers.{inRange, truthValue}
 use Rattle.rules.specs.Memory.{Memory, cellOf, locate, locatedIn, defined, readCell}
-use Rattle.rules.specs.Evaluation.{Variables, Holding, held, pointedBy, addressOf, operated, evaluate, findPlace, isValid, initialisedAt, ofLive, queried, opposite}
+use Rattle.rules.specs.Evaluation.{Variables, Holding, held, pointedBy, addressOf, operated, evaluate}
+use Rattle.rules.specs.Evaluation.{findPlace, isValid, initialisedAt, ofLive, queried, opposite}
 use Rattle.rules.specs.Observation.{Observation, recordOf, markOf, queryObservation}
 use Rattle.rules.proofs.Sound.{Scope, SoundExpression, SoundPlace}
 use Rattle.rules.proofs.Operations.{truth-gives, operated-gives, opposite-gives}
 use Rattle.rules.proofs.Keeping.{AnyNumber, Gives, Finds, on-value, on-place, on-pointer, at-cell}
 use Rattle.rules.proofs.Lists.{all-getD, all-named}
-use Rattle.rules.proofs.Fits.{FitsName, FitsPointer, FitsValue, FitsRecorded, FitsCell, FitsTemporary, FitsMemory, FitsObservation}
+use Rattle.rules.proofs.Fits.{FitsName, FitsPointer, FitsValue, FitsRecorded, FitsCell, FitsTemporary}
+use Rattle.rules.proofs.Fits.{FitsMemory, FitsObservation}
 use Rattle.rules.specs.declared.Pointer.{Pointer}
 use Rattle.rules.specs.declared.Value.{Value}
 use Rattle.rules.specs.declared.Value.the-variants as values

@@ -11,7 +11,9 @@ use lib.Dec.{ltb, leb, eqb}
 use lib.IntN.{ℤ, pos, negsuc, natAbs}
 use lib.Signed.{leZ}
 use Rattle.rules.specs.Records.{Record, recordCount, kindOf, markOf, childA, childB, childC, literalOf, recordAt}
-use Rattle.rules.specs.Kinds.{Language, source, target, Sort, sortNumber, expression, place, term, predicate, statement, Field, unnamed, child, number, Literal, zeroLiteral, anyLiteral, statementLiteral, Form, forms, formOf}
+use Rattle.rules.specs.Kinds.{Language, source, target, Sort, sortNumber, expression, place, term, predicate}
+use Rattle.rules.specs.Kinds.{statement, Field, unnamed, child, number, Literal, zeroLiteral, anyLiteral}
+use Rattle.rules.specs.Kinds.{statementLiteral, Form, forms, formOf}
 use Rattle.rules.specs.Checker.{fieldFits, literalFits, fieldsFit, childrenFit, faultOf, recordFault}
 use Rattle.rules.specs.Nodes.{NodeOf, buildNode, sortOfNode, nodeFits, nodesFit, guarded, nodeAt}
 use Rattle.rules.proofs.BooleanLaws.{three-pass, five-pass}

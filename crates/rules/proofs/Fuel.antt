@@ -4,9 +4,13 @@ use native.Mathlib.Omega.{arith}
 use mathlib.Core.Path.{_≡_, refl}
 use Rattle.rules.specs.Trees.{Statement}
 use Rattle.rules.specs.Trees as tree
-use Rattle.rules.specs.TargetTrees.{TargetStatement, skip, assign, new, free, sequence, branch, while, letIn, takeAddress, takeValue, takeOperation, takeQuery, takeNot, branchOn, assertOn, storeBlock, deleteBlock, initialise}
-use Rattle.rules.specs.Memory.{Memory, Change, changed, stopped, fixed, Made, made, unmade, makeBlock, assigned, allocated, freed, onValue}
-use Rattle.rules.specs.Evaluation.{Variables, evaluate, findPlace, addressOf, operated, opposite, evaluateSource, findSource, evaluatePredicate, condition, extend}
+use Rattle.rules.specs.TargetTrees.{TargetStatement, skip, assign, new, free, sequence, branch, while, letIn}
+use Rattle.rules.specs.TargetTrees.{takeAddress, takeValue, takeOperation, takeQuery, takeNot, branchOn}
+use Rattle.rules.specs.TargetTrees.{assertOn, storeBlock, deleteBlock, initialise}
+use Rattle.rules.specs.Memory.{Memory, Change, changed, stopped, fixed, Made, made, unmade, makeBlock, assigned}
+use Rattle.rules.specs.Memory.{allocated, freed, onValue}
+use Rattle.rules.specs.Evaluation.{Variables, evaluate, findPlace, addressOf, operated, opposite}
+use Rattle.rules.specs.Evaluation.{evaluateSource, findSource, evaluatePredicate, condition, extend}
 use Rattle.rules.specs.Observation.{Observation, Noted, noted, refused, queryObservation}
 use Rattle.rules.specs.Observation as observation
 use Rattle.rules.specs.Plain.{Outcome, run}
@@ -14,8 +18,11 @@ use Rattle.rules.specs.Plain as plain
 use Rattle.rules.specs.Watched.{Temporaries, temporaryOf, heldIn, WatchedOutcome, watch, calledOn, calledOnTwo}
 use Rattle.rules.specs.Watched as watched
 use Rattle.rules.specs.Answers.{endingOf, watchedEndingOf}
-use Rattle.rules.proofs.Keeping.{AnyNumber, any-test, any-evaluated, AnyValue, AnyMemory, AnyMade, AnyObservation, ChangeKeeps, MadeKeeps}
-use Rattle.rules.proofs.Outcomes.{Outcomes, next-keeps, after-keeps, decide-keeps, turns-keeps, inLet-keeps, asserted-keeps, WatchedOutcomes, NotedKeeps, watched-next, watched-after, watched-decide, watched-turns, watched-inLet, taken-keeps, observed-keeps}
+use Rattle.rules.proofs.Keeping.{AnyNumber, any-test, any-evaluated, AnyValue, AnyMemory, AnyMade}
+use Rattle.rules.proofs.Keeping.{AnyObservation, ChangeKeeps, MadeKeeps}
+use Rattle.rules.proofs.Outcomes.{Outcomes, next-keeps, after-keeps, decide-keeps, turns-keeps, inLet-keeps}
+use Rattle.rules.proofs.Outcomes.{asserted-keeps, WatchedOutcomes, NotedKeeps, watched-next, watched-after}
+use Rattle.rules.proofs.Outcomes.{watched-decide, watched-turns, watched-inLet, taken-keeps, observed-keeps}
 use Rattle.rules.specs.declared.Evaluated.{Evaluated}
 use Rattle.rules.specs.declared.Evaluated.the-variants as evaluated
 

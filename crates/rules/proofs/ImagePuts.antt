@@ -10,7 +10,8 @@ use Rattle.rules.specs.Sizes.{nameCount}
 use Rattle.rules.specs.Words.{put, flat}
 use Rattle.rules.specs.Memory.{Memory, setCell}
 use Rattle.rules.specs.Observation.{Observation}
-use Rattle.rules.specs.Layout.{blockBytes, cellBytes, memoryImage, recordedBytes, markBytes, observationImage, blockPlace, cellPlace, markPlace}
+use Rattle.rules.specs.Layout.{blockBytes, cellBytes, memoryImage, recordedBytes, markBytes, observationImage}
+use Rattle.rules.specs.Layout.{blockPlace, cellPlace, markPlace}
 use Rattle.rules.proofs.Rows.{put-left, put-right, length-flat, flat-put}
 use Rattle.rules.proofs.LayoutLaws.{length-blockBytes, length-recordedBytes, length-cellBytes, length-markBytes}
 use Rattle.rules.specs.declared.Block.{Block}

@@ -4,7 +4,10 @@ use native.Mathlib.Omega.{arith}
 use mathlib.Core.Logic.{_⊎_, inl, inr}
 use mathlib.Core.Path.{_≡_, refl}
 use lib.IntN.{ℤ, pos, negsuc}
-use Rattle.rules.specs.Memory.{Memory, Change, changed, stopped, Use, freeable, Made, made, unmade, makeAt, makeBlock, withBlock, endBlock, blockOf, setCell, locate, atCell, storeCell, storeNew, newOfSize, freeOf, freeAt, assigned, allocated, freed, onValue, onPlace, onInteger, onPointer}
+use Rattle.rules.specs.Memory.{Memory, Change, changed, stopped, Use, freeable, Made, made, unmade, makeAt}
+use Rattle.rules.specs.Memory.{makeBlock, withBlock, endBlock, blockOf, setCell, locate, atCell, storeCell}
+use Rattle.rules.specs.Memory.{storeNew, newOfSize, freeOf, freeAt, assigned, allocated, freed, onValue}
+use Rattle.rules.specs.Memory.{onPlace, onInteger, onPointer}
 use Rattle.rules.specs.Evaluation.{onTest}
 use Rattle.rules.specs.Observation.{Observation}
 use Rattle.rules.specs.declared.Pointer.{Pointer}

@@ -8,13 +8,17 @@ use lib.IntN.{pos}
 use lib.ListN.{set, length-replicate}
 use Rattle.rules.specs.Sizes.{nameCount, cellCount}
 use Rattle.rules.specs.Memory.{Memory, setCell, cellOf, isFree, nextName, freeRun, Use, withBlock, makeBlock, endBlock}
-use Rattle.rules.specs.Observation.{Observation, Noted, noted, refused, covered, markRun, withMarks, storeBlock, initialise, emptyObservation, pointerTo, kept, recordBlock, markAll, startObservation}
+use Rattle.rules.specs.Observation.{Observation, Noted, noted, refused, covered, markRun, withMarks, storeBlock}
+use Rattle.rules.specs.Observation.{initialise, emptyObservation, pointerTo, kept, recordBlock, markAll}
+use Rattle.rules.specs.Observation.{startObservation}
 use Rattle.rules.proofs.Keeping.{AnyNumber, AnyValue, AnyPlace, AnyMemory, MadeKeeps, makeAt-keeps}
 use Rattle.rules.proofs.Outcomes.{NotedKeeps}
 use Rattle.rules.proofs.Calls.{storeBlock-keeps, initialise-keeps}
 use Rattle.rules.proofs.Lists.{all-replicate}
 use Rattle.rules.proofs.Fits.{FitsName, FitsCell, FitsMemory, FitsObservation, InsideMemory, InsideObservation}
-use Rattle.rules.proofs.FitsLaws.{lowestRun-places, nextName-fits, setCell-fits, setCell-inside, withBlock-fits, withBlock-inside, endBlock-fits, endBlock-inside, withMarks-fits, withMarks-inside, marked-fits}
+use Rattle.rules.proofs.FitsLaws.{lowestRun-places, nextName-fits, setCell-fits, setCell-inside}
+use Rattle.rules.proofs.FitsLaws.{withBlock-fits, withBlock-inside, endBlock-fits, endBlock-inside}
+use Rattle.rules.proofs.FitsLaws.{withMarks-fits, withMarks-inside, marked-fits}
 use Rattle.rules.specs.declared.Value.the-variants as value
 use Rattle.rules.specs.declared.Search.the-variants as search
 use Rattle.rules.specs.declared.Recorded.the-variants as recorded

@@ -8,7 +8,8 @@ use borrow.Author.Tests.{eqb-true}
 use lib.Dec.{eqb}
 pub use Rattle.rules.proofs.BooleanLaws.{and-split}
 use Rattle.rules.proofs.BooleanLaws.{and-split}
-use Rattle.rules.specs.Kinds.{Language, source, target, Sort, expression, place, term, predicate, statement, unnamed, zeroLiteral, Form, form, forms, lookUp, formOf}
+use Rattle.rules.specs.Kinds.{Language, source, target, Sort, expression, place, term, predicate, statement}
+use Rattle.rules.specs.Kinds.{unnamed, zeroLiteral, Form, form, forms, lookUp, formOf}
 
 -- what holds of every form of a list holds of the one found
 abbrev pub Each : (Form → Type 0) → List Form → Type 0

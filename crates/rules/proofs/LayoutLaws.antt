@@ -13,8 +13,12 @@ use Rattle.rules.specs.Sizes.{nameCount, cellCount, memoryLength, observ
 use Rattle.rules.specs.Words.{digits, wordAt, integerAt, flat}
 use Rattle.rules.specs.Memory.{Memory, one}
 use Rattle.rules.specs.Observation.{Observation}
-use Rattle.rules.specs.Layout.{blockRecord, cellRecord, blockBytes, cellBytes, memoryImage, recordedBytes, markBytes, observationImage, blockPlace, cellPlace, markPlace, blockFrom, blockAt, cellFrom, cellAt, memoryOf, recordedFrom, recordedAt, markAt, observationOf}
-use Rattle.rules.proofs.WordLaws.{digits-value, integer-value, Bytes, no-bytes, more-bytes, bytes-append, bytes-digits}
+use Rattle.rules.specs.Layout.{blockRecord, cellRecord, blockBytes, cellBytes, memoryImage, recordedBytes}
+use Rattle.rules.specs.Layout.{markBytes, observationImage, blockPlace, cellPlace, markPlace, blockFrom}
+use Rattle.rules.specs.Layout.{blockAt, cellFrom, cellAt, memoryOf, recordedFrom, recordedAt, markAt}
+use Rattle.rules.specs.Layout.{observationOf}
+use Rattle.rules.proofs.WordLaws.{digits-value, integer-value, Bytes, no-bytes, more-bytes, bytes-append}
+use Rattle.rules.proofs.WordLaws.{bytes-digits}
 use Rattle.rules.proofs.Rows.{table-list, length-flat, row-byte, row-word}
 use Rattle.rules.proofs.Lists.{All, none, also, all-getD}
 use Rattle.rules.proofs.Fits.{FitsBlock, FitsRecorded, FitsCell, FitsMemory, FitsObservation}

@@ -7,10 +7,15 @@ use mathlib.Core.List.{map}
 use lib.IntN.{pos}
 use lib.ListN.{set, List·getD-map}
 use Rattle.rules.specs.Trees.{Query}
-use Rattle.rules.specs.Memory.{Memory, recordedOf, rename, blockOf, cellOf, locate, locatedIn, setCell, lowestRun, isFree, freeRun, fill, Use, blockFor, withBlock, withoutCells, endBlock}
+use Rattle.rules.specs.Memory.{Memory, recordedOf, rename, blockOf, cellOf, locate, locatedIn, setCell}
+use Rattle.rules.specs.Memory.{lowestRun, isFree, freeRun, fill, Use, blockFor, withBlock, withoutCells}
+use Rattle.rules.specs.Memory.{endBlock}
 use Rattle.rules.specs.Evaluation.{isInitialised, queried, queryMemory}
-use Rattle.rules.specs.Observation.{recordOf, markOf, covered, markRun, noted, storeAt, storeBlock, deleteAt, deleteBlock, locateMark, markAt, initialise, queryObservation, pointerTo, mirror}
-use Rattle.rules.proofs.MemoryLaws.{map-set, map-rename, map-fill, named-map, coverage, Covered, some, none, covered-is}
+use Rattle.rules.specs.Observation.{recordOf, markOf, covered, markRun, noted, storeAt, storeBlock, deleteAt}
+use Rattle.rules.specs.Observation.{deleteBlock, locateMark, markAt, initialise, queryObservation, pointerTo}
+use Rattle.rules.specs.Observation.{mirror}
+use Rattle.rules.proofs.MemoryLaws.{map-set, map-rename, map-fill, named-map, coverage, Covered, some, none}
+use Rattle.rules.proofs.MemoryLaws.{covered-is}
 use Rattle.rules.proofs.Invariant.{occupied, recordsOf, Invariant}
 use Rattle.rules.proofs.BlockChanges.{recorded-for}
 use Rattle.rules.proofs.DefinedValues.{Defined}

@@ -7,7 +7,9 @@ use lib.Dec.{eqb}
 use lib.IntN.{ℤ, pos, natAbs, _+ℤ_, _-ℤ_, _*ℤ_}
 use lib.Signed.{leZ}
 use Rattle.rules.specs.Trees.{Operator, add, subtract, multiply, divide, nearest, atMost, equal, shift}
-use Rattle.rules.specs.Numbers.{inRange, ranged, signed, signsDiffer, towardZero, toNearest, divided, stopNumber, numbered, truthValue, onIntegers, onPointerAndInteger, onPointers, operate, sameInteger, samePointer, tested}
+use Rattle.rules.specs.Numbers.{inRange, ranged, signed, signsDiffer, towardZero, toNearest, divided}
+use Rattle.rules.specs.Numbers.{stopNumber, numbered, truthValue, onIntegers, onPointerAndInteger, onPointers}
+use Rattle.rules.specs.Numbers.{operate, sameInteger, samePointer, tested}
 use Rattle.rules.specs.Evaluation.{operated, opposite, condition}
 use Rattle.rules.proofs.Keeping.{Gives, TestStops, on-value, on-test, Late}
 use Rattle.rules.specs.declared.Pointer.{Pointer}

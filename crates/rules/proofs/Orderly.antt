@@ -10,7 +10,8 @@ use lib.ListN.{getD}
 use Rattle.rules.specs.Sizes.{cellCount}
 use Rattle.rules.specs.Trees.{Statement}
 use Rattle.rules.specs.TargetTrees.{TargetStatement}
-use Rattle.rules.specs.Memory.{Memory, recordedOf, named, blockOf, cellOf, isUnused, Use, made, makeBlock, one, countFree}
+use Rattle.rules.specs.Memory.{Memory, recordedOf, named, blockOf, cellOf, isUnused, Use, made, makeBlock, one}
+use Rattle.rules.specs.Memory.{countFree}
 use Rattle.rules.specs.Evaluation.{Variables}
 use Rattle.rules.specs.Observation.{Observation, covers}
 use Rattle.rules.specs.Plain.{run}

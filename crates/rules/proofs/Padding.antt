@@ -11,7 +11,8 @@ use mir.Syntax.{w64}
 use mir.Val.{toZ}
 use lib.ListN.{length, take, drop, getD, length-append, List·getD-append}
 use Rattle.rules.specs.Words.{part, little, wordAt, integerAt}
-use Rattle.rules.specs.Records.{Record, recordCount, start, kindOf, markOf, childA, childB, childC, literalOf, recordAt}
+use Rattle.rules.specs.Records.{Record, recordCount, start, kindOf, markOf, childA, childB, childC, literalOf}
+use Rattle.rules.specs.Records.{recordAt}
 use Rattle.rules.specs.Kinds.{Language, sortNumber, Field, unnamed, child, number, Form, formOf}
 use Rattle.rules.specs.Checker.{fieldsFit, sortOf, childFits, childrenFit, faultOf, recordFault}
 use Rattle.rules.specs.Nodes.{NodeOf, buildNode, nodesFit, guarded, nodeIn, makeNode, withNext, nodes, nodeAt}

@@ -10,7 +10,8 @@ use lib.Dec.{ltb, eqb}
 use borrow.Author.Tests.{ltb-true, ltb-false, lt-ltb, le-ltb, eq-eqb, eqb-true, ne-eqb, not-false}
 use Rattle.rules.specs.Records.{Record, recordCount, kindOf, childA, childB, childC, recordAt}
 use Rattle.rules.specs.Kinds.{Language, Sort, sortNumber, Field, unnamed, child, number, Form, formOf}
-use Rattle.rules.specs.Checker.{fieldFits, literalFits, fieldsFit, sortOf, childFits, childrenFit, faultOf, recordFault, timesIn, timesOf, timesChildOf, timesChild, shapeFault, parentOf}
+use Rattle.rules.specs.Checker.{fieldFits, literalFits, fieldsFit, sortOf, childFits, childrenFit, faultOf}
+use Rattle.rules.specs.Checker.{recordFault, timesIn, timesOf, timesChildOf, timesChild, shapeFault, parentOf}
 use Rattle.rules.specs.declared.Search.{Search}
 use Rattle.rules.specs.declared.Search.the-variants as search
 pub use Rattle.rules.proofs.BooleanLaws.{three-pass, five-pass}

@@ -7,7 +7,8 @@ use Rattle.rules.specs.Trees.{Statement, skip, assign, new, free, sequen
 use Rattle.rules.specs.Memory.{Memory, fixed, Made, made, unmade, makeBlock, endBlock}
 use Rattle.rules.specs.Evaluation.{Variables, evaluateSource, evaluatePredicate, condition, extend}
 use Rattle.rules.specs.Plain.{Outcome, finished, ended, next, decide, turns, inLet, asserted, run}
-use Rattle.rules.specs.Past.{Reached, reached, PastOutcome, past, before, nextPast, decidePast, turnsPast, inLetPast, assertedPast, runPast, upTo, atFirstFalse}
+use Rattle.rules.specs.Past.{Reached, reached, PastOutcome, past, before, nextPast, decidePast, turnsPast}
+use Rattle.rules.specs.Past.{inLetPast, assertedPast, runPast, upTo, atFirstFalse}
 use Rattle.rules.specs.declared.Test.{Test}
 use Rattle.rules.specs.declared.Test.the-variants as test
 

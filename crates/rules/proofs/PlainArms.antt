@@ -10,7 +10,8 @@ use Rattle.rules.specs.Nodes.{SourceNode, asExpression, asPlace, asPredi
 use Rattle.rules.specs.Memory.{Memory, fixed, makeBlock, assigned, allocated, freed}
 use Rattle.rules.specs.Evaluation.{Variables, evaluateSource, findSource, evaluatePredicate, condition, extend}
 use Rattle.rules.specs.Plain.{finished, ended, next, after, decide, inLet, asserted, run}
-use Rattle.rules.proofs.KindViews.{formAt, SourceKind, skip, assign, new, free, sequence, branch, while, letIn, assert}
+use Rattle.rules.proofs.KindViews.{formAt, SourceKind, skip, assign, new, free, sequence, branch, while, letIn}
+use Rattle.rules.proofs.KindViews.{assert}
 use Rattle.rules.proofs.FormLaws.{FormHolds, nodeAs}
 use Rattle.rules.proofs.Standing.{stands}
 use Rattle.rules.proofs.Turns.{while-zero, while-suc}

@@ -6,7 +6,8 @@ use Rattle.rules.specs.Evaluation.{Variables, evaluateSource, findSource
 use Rattle.rules.specs.Plain.{Outcome, finished, ended, run}
 use Rattle.rules.specs.Answers.{memoryAfter}
 use Rattle.rules.proofs.Keeping.{AnyNumber, any-test}
-use Rattle.rules.proofs.Outcomes.{Outcomes, next-keeps, after-keeps, decide-keeps, turns-keeps, inLet-keeps, asserted-keeps}
+use Rattle.rules.proofs.Outcomes.{Outcomes, next-keeps, after-keeps, decide-keeps, turns-keeps, inLet-keeps}
+use Rattle.rules.proofs.Outcomes.{asserted-keeps}
 use Rattle.rules.proofs.Invariant.{Invariant, Onward, onward-itself, onward-then}
 use Rattle.rules.proofs.BlockChanges.{onward-end}
 use Rattle.rules.proofs.Changes.{change-kept, Given, onward-assigned, onward-made, onward-allocated, onward-freed}

@@ -6,12 +6,17 @@ use mathlib.Core.Logic.{_≢_}
 use lib.ListN.{length, set, length-set}
 use lib.Seq.{getD-set-same, getD-set-other}
 use Rattle.rules.specs.Sizes.{temporaryCount}
-use Rattle.rules.specs.Trees.{Operator, shift, Query, Expression, literal, read, address, operation, shifted, Place, variable, pointed, temporary, Term, value, asked, combined, Predicate, holds, compared, negated, both, either}
+use Rattle.rules.specs.Trees.{Operator, shift, Query, Expression, literal, read, address, operation, shifted}
+use Rattle.rules.specs.Trees.{Place, variable, pointed, temporary, Term, value, asked, combined, Predicate}
+use Rattle.rules.specs.Trees.{holds, compared, negated, both, either}
 use Rattle.rules.specs.Numbers.{operate, tested}
 use Rattle.rules.specs.Memory.{Memory, readCell, onValue, onPlace}
-use Rattle.rules.specs.Evaluation.{Variables, pointedBy, addressOf, operated, evaluate, findPlace, queryMemory, evaluateSource, findSource, evaluateTerm, onTest, opposite, andThen, orElse, evaluatePredicate, condition}
+use Rattle.rules.specs.Evaluation.{Variables, pointedBy, addressOf, operated, evaluate, findPlace, queryMemory}
+use Rattle.rules.specs.Evaluation.{evaluateSource, findSource, evaluateTerm, onTest, opposite, andThen, orElse}
+use Rattle.rules.specs.Evaluation.{evaluatePredicate, condition}
 use Rattle.rules.specs.Observation.{Observation, queryObservation, mirror}
-use Rattle.rules.specs.Watched.{Temporaries, temporaryOf, heldIn, WatchedOutcome, finished, ended, Watching, next, decide, taken, watch}
+use Rattle.rules.specs.Watched.{Temporaries, temporaryOf, heldIn, WatchedOutcome, finished, ended, Watching}
+use Rattle.rules.specs.Watched.{next, decide, taken, watch}
 use Rattle.rules.specs.Translation.{embed, embedPlace, translateTerm, translatePredicate}
 use Rattle.rules.proofs.Sound.{Scope, SoundTerm, SoundPredicate}
 use Rattle.rules.proofs.Mirror.{mirror-query}

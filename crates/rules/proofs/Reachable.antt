@@ -8,22 +8,31 @@ use lib.IntN.{pos}
 use Rattle.rules.specs.Sizes.{temporaryCount}
 use Rattle.rules.specs.Trees.{Statement, Expression, Place}
 use Rattle.rules.specs.Trees as tree
-use Rattle.rules.specs.TargetTrees.{TargetStatement, skip, assign, new, free, sequence, branch, while, letIn, takeAddress, takeValue, takeOperation, takeQuery, takeNot, branchOn, assertOn, storeBlock, deleteBlock, initialise}
+use Rattle.rules.specs.TargetTrees.{TargetStatement, skip, assign, new, free, sequence, branch, while, letIn}
+use Rattle.rules.specs.TargetTrees.{takeAddress, takeValue, takeOperation, takeQuery, takeNot, branchOn}
+use Rattle.rules.specs.TargetTrees.{assertOn, storeBlock, deleteBlock, initialise}
 use Rattle.rules.specs.Memory.{Memory, fixed, freeable, makeBlock, endBlock, assigned, allocated, freed, onValue}
-use Rattle.rules.specs.Evaluation.{Variables, Holding, noTemporaries, held, evaluate, findPlace, addressOf, operated, opposite, evaluateSource, findSource, evaluatePredicate, condition, extend}
+use Rattle.rules.specs.Evaluation.{Variables, Holding, noTemporaries, held, evaluate, findPlace, addressOf}
+use Rattle.rules.specs.Evaluation.{operated, opposite, evaluateSource, findSource, evaluatePredicate, condition}
+use Rattle.rules.specs.Evaluation.{extend}
 use Rattle.rules.specs.Observation.{Observation, Noted, queryObservation}
 use Rattle.rules.specs.Observation as observation
 use Rattle.rules.specs.Plain.{run, startVariables}
 use Rattle.rules.specs.Watched.{Temporaries, startTemporaries, temporaryOf, heldIn, watch, calledOn, calledOnTwo}
 use Rattle.rules.specs.Watched as watched
 use Rattle.rules.proofs.Sound.{Scope, adding, NoName, Named, SoundExpression, SoundPlace, SoundStatement, SoundTarget}
-use Rattle.rules.proofs.Keeping.{AnyNumber, any-test, any-evaluated, ChangeKeeps, on-value, assigned-keeps, allocated-keeps, freed-keeps}
-use Rattle.rules.proofs.Outcomes.{Outcomes, next-keeps, after-keeps, decide-keeps, turns-keeps, inLet-keeps, asserted-keeps, WatchedOutcomes, NotedKeeps, watched-next, watched-after, watched-decide, watched-turns, watched-inLet, taken-keeps, observed-keeps}
+use Rattle.rules.proofs.Keeping.{AnyNumber, any-test, any-evaluated, ChangeKeeps, on-value, assigned-keeps}
+use Rattle.rules.proofs.Keeping.{allocated-keeps, freed-keeps}
+use Rattle.rules.proofs.Outcomes.{Outcomes, next-keeps, after-keeps, decide-keeps, turns-keeps, inLet-keeps}
+use Rattle.rules.proofs.Outcomes.{asserted-keeps, WatchedOutcomes, NotedKeeps, watched-next, watched-after}
+use Rattle.rules.proofs.Outcomes.{watched-decide, watched-turns, watched-inLet, taken-keeps, observed-keeps}
 use Rattle.rules.proofs.Calls.{store-called, delete-called, initialise-called}
 use Rattle.rules.proofs.Lists.{All, all-getD, all-set, all-replicate}
 use Rattle.rules.proofs.Fits.{FitsName, FitsPointer, FitsValue, FitsTemporary}
-use Rattle.rules.proofs.KeptPredicates.{MemoryInvariant, ObservationInvariant, MadeWith, makeBlock-keeps, stored-keeps}
-use Rattle.rules.proofs.FittingValues.{EvaluatedFits, operated-fits, queryObservation-fits, opposite-fits, held-fits, addressOf-fits, evaluate-fits, findPlace-fits}
+use Rattle.rules.proofs.KeptPredicates.{MemoryInvariant, ObservationInvariant, MadeWith, makeBlock-keeps}
+use Rattle.rules.proofs.KeptPredicates.{stored-keeps}
+use Rattle.rules.proofs.FittingValues.{EvaluatedFits, operated-fits, queryObservation-fits, opposite-fits}
+use Rattle.rules.proofs.FittingValues.{held-fits, addressOf-fits, evaluate-fits, findPlace-fits}
 use Rattle.rules.specs.declared.Value.the-variants as value
 use Rattle.rules.specs.declared.Evaluated.{Evaluated}
 use Rattle.rules.specs.declared.Evaluated.the-variants as evaluated

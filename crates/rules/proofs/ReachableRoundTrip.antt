@@ -22,7 +22,8 @@ use Rattle.rules.specs.Plain as plain
 use Rattle.rules.specs.Watched.{Temporaries, WatchedOutcome, watch, startTemporaries}
 use Rattle.rules.specs.Watched as watched
 use Rattle.rules.specs.Layout.{memoryImage, memoryOf, observationImage, observationOf}
-use Rattle.rules.specs.Answers.{numbersIn, inputsOf, memoryAfter, plainOutcome, watchedMemoryAfter, observationAfter, watchedOutcome}
+use Rattle.rules.specs.Answers.{numbersIn, inputsOf, memoryAfter, plainOutcome, watchedMemoryAfter}
+use Rattle.rules.specs.Answers.{observationAfter, watchedOutcome}
 use Rattle.rules.proofs.Sound.{Scope, startScope, SoundStatement, SoundTarget}
 use Rattle.rules.proofs.Keeping.{AnyNumber}
 use Rattle.rules.proofs.WordLaws.{integer-range, Bytes}
@@ -30,9 +31,12 @@ use Rattle.rules.proofs.Lists.{All, none, also}
 use Rattle.rules.proofs.Outcomes.{Outcomes, WatchedOutcomes}
 use Rattle.rules.proofs.Fits.{FitsTemporary, FitsMemory, FitsObservation, InsideMemory, InsideObservation}
 use Rattle.rules.proofs.FitsLaws.{InRange, startMemory-inside}
-use Rattle.rules.proofs.KeptPredicates.{fits-invariant, inside-invariant, fits-observation-invariant, inside-observation-invariant, startObservation-inside}
-use Rattle.rules.proofs.LayoutLaws.{length-memoryImage, length-observationImage, memory-back, observation-back, bytes-memoryImage, bytes-observationImage}
-use Rattle.rules.proofs.Reachable.{NamesFit, startVariables-fit, Plainly, run-keeps, Watchedly, watch-keeps, startTemporaries-fit}
+use Rattle.rules.proofs.KeptPredicates.{fits-invariant, inside-invariant, fits-observation-invariant}
+use Rattle.rules.proofs.KeptPredicates.{inside-observation-invariant, startObservation-inside}
+use Rattle.rules.proofs.LayoutLaws.{length-memoryImage, length-observationImage, memory-back, observation-back}
+use Rattle.rules.proofs.LayoutLaws.{bytes-memoryImage, bytes-observationImage}
+use Rattle.rules.proofs.Reachable.{NamesFit, startVariables-fit, Plainly, run-keeps, Watchedly, watch-keeps}
+use Rattle.rules.proofs.Reachable.{startTemporaries-fit}
 
 -- the inputs
 length-numbersIn : (n : ℕ) (i : List ℕ) → length (numbersIn n i) ≡ n

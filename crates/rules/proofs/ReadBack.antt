@@ -8,10 +8,17 @@ use lib.IntN.{ℤ, pos, natAbs}
 use Rattle.rules.specs.Records.{recordCount, recordAt, tableBytes}
 use Rattle.rules.specs.Kinds.{target, formOf, lookUp}
 use Rattle.rules.specs.Checker.{recordFault}
-use Rattle.rules.specs.Trees.{Operator, add, subtract, multiply, divide, nearest, atMost, equal, shift, Query, valid, initialised, base, offset, blockLength, Expression, literal, read, address, operation, shifted, Place, variable, pointed, temporary}
-use Rattle.rules.specs.TargetTrees.{TargetStatement, skip, assign, new, free, sequence, branch, while, letIn, takeAddress, takeValue, takeOperation, takeQuery, takeNot, branchOn, assertOn, storeBlock, deleteBlock, initialise}
-use Rattle.rules.specs.Nodes.{operatorOf, queryOf, TargetNode, expressionNode, placeNode, statementNode, junk, targetStatement, targetOf, nodesFit, nodeIn, makeNode, nodes, nodeAt, targetProgram}
-use Rattle.rules.specs.Translation.{RecordTree, none, node, operatorNumber, queryNumber, expressionTree, placeTree, statementTree, treeSize, rootNumber, fieldC, emit}
+use Rattle.rules.specs.Trees.{Operator, add, subtract, multiply, divide, nearest, atMost, equal, shift, Query}
+use Rattle.rules.specs.Trees.{valid, initialised, base, offset, blockLength, Expression, literal, read, address}
+use Rattle.rules.specs.Trees.{operation, shifted, Place, variable, pointed, temporary}
+use Rattle.rules.specs.TargetTrees.{TargetStatement, skip, assign, new, free, sequence, branch, while, letIn}
+use Rattle.rules.specs.TargetTrees.{takeAddress, takeValue, takeOperation, takeQuery, takeNot, branchOn}
+use Rattle.rules.specs.TargetTrees.{assertOn, storeBlock, deleteBlock, initialise}
+use Rattle.rules.specs.Nodes.{operatorOf, queryOf, TargetNode, expressionNode, placeNode, statementNode, junk}
+use Rattle.rules.specs.Nodes.{targetStatement, targetOf, nodesFit, nodeIn, makeNode, nodes, nodeAt}
+use Rattle.rules.specs.Nodes.{targetProgram}
+use Rattle.rules.specs.Translation.{RecordTree, none, node, operatorNumber, queryNumber, expressionTree}
+use Rattle.rules.specs.Translation.{placeTree, statementTree, treeSize, rootNumber, fieldC, emit}
 use Rattle.rules.proofs.Sound.{startScope, SoundTarget}
 use Rattle.rules.proofs.EmissionLaws.{Holds, ownRecord, root-most, root-size, field-root}
 use Rattle.rules.proofs.FittingTrees.{Held, records-fit}

@@ -9,11 +9,15 @@ use borrow.Author.Tests.{leb-false, eq-eqb, ne-eqb, not-false}
 use lib.Dec.{eqb}
 use Rattle.rules.specs.Words.{wordAt}
 use Rattle.rules.specs.Records.{recordCount, kindOf, markOf, childA, childB, childC, literalOf, start}
-use Rattle.rules.specs.Kinds.{Language, source, target, Sort, expression, place, term, predicate, statement, Field, unnamed, child, number, Form, formOf, recordLimit}
-use Rattle.rules.specs.Checker.{timesIn, timesChildOf, scopeFault, levelBelow, highestNamed, isTermOrPredicate, levelFault}
+use Rattle.rules.specs.Kinds.{Language, source, target, Sort, expression, place, term, predicate, statement}
+use Rattle.rules.specs.Kinds.{Field, unnamed, child, number, Form, formOf, recordLimit}
+use Rattle.rules.specs.Checker.{timesIn, timesChildOf, scopeFault, levelBelow, highestNamed, isTermOrPredicate}
+use Rattle.rules.specs.Checker.{levelFault}
 use Rattle.rules.specs.Numbers.{inRange}
-use Rattle.rules.specs.Nodes.{NodeOf, asExpression, asPlace, asTerm, asPredicate, sourceStatement, targetStatement, nodeAt}
-use Rattle.rules.proofs.Sound.{Scope, startScope, SoundExpression, SoundPlace, NoName, Named, SoundTerm, SoundPredicate, SoundStatement, SoundTarget}
+use Rattle.rules.specs.Nodes.{NodeOf, asExpression, asPlace, asTerm, asPredicate, sourceStatement}
+use Rattle.rules.specs.Nodes.{targetStatement, nodeAt}
+use Rattle.rules.proofs.Sound.{Scope, startScope, SoundExpression, SoundPlace, NoName, Named, SoundTerm}
+use Rattle.rules.proofs.Sound.{SoundPredicate, SoundStatement, SoundTarget}
 use Rattle.rules.proofs.Acceptance.{Accepted, passed-of}
 use Rattle.rules.proofs.KindViews.{formAt, found-at, found-kind, KindOf}
 use Rattle.rules.proofs.FormLaws.{FieldHolds, nodeAs, FormHolds}

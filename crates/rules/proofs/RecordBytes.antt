@@ -15,7 +15,8 @@ use Rattle.rules.specs.Words.{little, digits, integerBytes, wordAt, flat
 use Rattle.rules.specs.Records.{Record, recordCount, start, recordAt, recordBytes, tableBytes}
 use Rattle.rules.specs.Numbers.{inRange}
 pub use Rattle.rules.proofs.WordLaws.{length-digits, digits-value, bytes-digits}
-use Rattle.rules.proofs.WordLaws.{length-digits, digits-value, Bytes, no-bytes, more-bytes, bytes-digits, bytes-getD, range-fits}
+use Rattle.rules.proofs.WordLaws.{length-digits, digits-value, Bytes, no-bytes, more-bytes, bytes-digits}
+use Rattle.rules.proofs.WordLaws.{bytes-getD, range-fits}
 use Rattle.rules.proofs.WordLaws as words
 
 -- ---- numbers in bytes

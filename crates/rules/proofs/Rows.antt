@@ -6,8 +6,10 @@ use native.Mathlib.Decide.{ℕ-discrete}
 use mathlib.Core.Path.{_≡_, refl, sym, ap, _∙_}
 use mathlib.Core.Logic.{_≢_}
 use mathlib.Core.List.{List, [], _∷_, _++_, append-assoc}
-use lib.ListN.{replicate, replicate-append-replicate, length, getD, set, take, drop, length-append, length-drop, length-set, List·getD-append}
-use lib.Seq.{ext-getD, getD-set-same, getD-set-other, getD-drop, take-append-add, drop-append-add, take-append-le, drop-append-le, drop-append-seam, drop-drop}
+use lib.ListN.{replicate, replicate-append-replicate, length, getD, set, take, drop, length-append, length-drop}
+use lib.ListN.{length-set, List·getD-append}
+use lib.Seq.{ext-getD, getD-set-same, getD-set-other, getD-drop, take-append-add, drop-append-add, take-append-le}
+use lib.Seq.{drop-append-le, drop-append-seam, drop-drop}
 use Rattle.rules.specs.Words.{little, part, put, wordAt, table, flat}
 
 -- ---- table

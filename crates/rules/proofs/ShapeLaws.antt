@@ -14,7 +14,8 @@ use Rattle.rules.specs.Checker.{sortOf, timesIn, timesOf, timesChildOf, 
 use Rattle.rules.specs.Translation.{RecordTree, none, node, treeSize, rootNumber, fieldC}
 use Rattle.rules.proofs.Sound.{Scope}
 use Rattle.rules.proofs.EmissionLaws.{Holds, ownRecord, root-size, field-root}
-use Rattle.rules.proofs.FittingTrees.{rootKind, FieldTree, scopeBelow, Fits, Fitting, no-sort, root-kind, Held, records-fit}
+use Rattle.rules.proofs.FittingTrees.{rootKind, FieldTree, scopeBelow, Fits, Fitting, no-sort, root-kind, Held}
+use Rattle.rules.proofs.FittingTrees.{records-fit}
 use Rattle.rules.proofs.ParentLaws.{Passed, times-suc, times-zero, same, same-yes}
 
 pub same-no : (x j : ℕ) → (x ≡ j → ⊥) → same x j ≡ 0

@@ -9,11 +9,16 @@ use borrow.Author.Tests.{lt-ltb, le-leb, eq-eqb}
 use lib.Dec.{ltb, eqb}
 use lib.IntN.{ℤ, pos}
 use Rattle.rules.specs.Records.{recordCount, kindOf, markOf, childA, childB, childC, literalOf, recordAt}
-use Rattle.rules.specs.Kinds.{Language, source, target, Sort, sortNumber, expression, place, term, predicate, statement, Field, unnamed, child, number, Literal, zeroLiteral, anyLiteral, statementLiteral, Form, lookUp, formOf}
-use Rattle.rules.specs.Checker.{fieldFits, literalFits, fieldsFit, formSort, sortOf, childFits, childrenFit, faultOf, recordFault}
+use Rattle.rules.specs.Kinds.{Language, source, target, Sort, sortNumber, expression, place, term, predicate}
+use Rattle.rules.specs.Kinds.{statement, Field, unnamed, child, number, Literal, zeroLiteral, anyLiteral}
+use Rattle.rules.specs.Kinds.{statementLiteral, Form, lookUp, formOf}
+use Rattle.rules.specs.Checker.{fieldFits, literalFits, fieldsFit, formSort, sortOf, childFits, childrenFit}
+use Rattle.rules.specs.Checker.{faultOf, recordFault}
 use Rattle.rules.specs.Trees.{Expression, Place}
 use Rattle.rules.specs.Trees as tree
-use Rattle.rules.specs.Nodes.{operatorOf, SourceNode, TargetNode, expressionNode, placeNode, termNode, predicateNode, statementNode, junk, nodeSort, asExpression, asPlace, sortOfNode, nodeFits, nodeAt}
+use Rattle.rules.specs.Nodes.{operatorOf, SourceNode, TargetNode, expressionNode, placeNode, termNode}
+use Rattle.rules.specs.Nodes.{predicateNode, statementNode, junk, nodeSort, asExpression, asPlace, sortOfNode}
+use Rattle.rules.specs.Nodes.{nodeFits, nodeAt}
 use Rattle.rules.specs.Memory.{Memory}
 use Rattle.rules.specs.Evaluation.{Variables, evaluate, findPlace, evaluateSource, findSource}
 use Rattle.rules.specs.Watched.{Temporaries, temporaryOf}

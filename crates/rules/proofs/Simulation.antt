@@ -16,7 +16,8 @@ use Rattle.rules.proofs.BlockChanges.{room}
 use Rattle.rules.proofs.PlainKept.{plain-onward}
 use Rattle.rules.proofs.DefinedValues.{fair-source}
 use Rattle.rules.proofs.PredicateSimulation.{embed-is, embedPlace-is, Full, predicate-agrees}
-use Rattle.rules.proofs.StatementSteps.{Agree, both-finish, agree-next, agree-decide, agree-turns, agree-assert, agree-assigned, agree-freed}
+use Rattle.rules.proofs.StatementSteps.{Agree, both-finish, agree-next, agree-decide, agree-turns}
+use Rattle.rules.proofs.StatementSteps.{agree-assert, agree-assigned, agree-freed}
 use Rattle.rules.proofs.BlockSteps.{agree-allocated, agree-let}
 
 pub simulates : (a : Statement) (σ : Scope) (ρ : Variables) (m : Memory) (τ : Temporaries) (f : ℕ) → SoundStatement a σ

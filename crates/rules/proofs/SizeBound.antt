@@ -5,20 +5,26 @@ use mathlib.Core.List.{List}
 use mathlib.Core.Option.{Option, none, some}
 use mathlib.Core.Path.{_≡_, refl, sym, ap, _∙_, subst}
 use Rattle.rules.specs.Records.{recordCount, kindOf, childA, childB, childC}
-use Rattle.rules.specs.Kinds.{source, Sort, expression, place, term, predicate, statement, Field, unnamed, child, number, Form, formOf}
+use Rattle.rules.specs.Kinds.{source, Sort, expression, place, term, predicate, statement, Field, unnamed}
+use Rattle.rules.specs.Kinds.{child, number, Form, formOf}
 use Rattle.rules.specs.Checker.{timesIn, timesChildOf, timesChild, check}
 use Rattle.rules.specs.declared.Checked.the-variants as checked
-use Rattle.rules.specs.Nodes.{SourceNode, asExpression, asPlace, asTerm, asPredicate, sourceStatement, nodeAt, sourceProgram}
+use Rattle.rules.specs.Nodes.{SourceNode, asExpression, asPlace, asTerm, asPredicate, sourceStatement, nodeAt}
+use Rattle.rules.specs.Nodes.{sourceProgram}
 use Rattle.rules.specs.Translation.{translate, statementTree, treeSize}
 use Rattle.rules.proofs.Acceptance.{Accepted, accepted-says, passed-of}
-use Rattle.rules.proofs.KindViews.{formAt, found-at, SourceKind, literal, read, address, operation, shifted, variable, pointed, value, base, offset, blockLength, combined, valid, initialised, compared, negated, both, either, skip, assign, new, free, sequence, branch, while, letIn, assert}
+use Rattle.rules.proofs.KindViews.{formAt, found-at, SourceKind, literal, read, address, operation, shifted}
+use Rattle.rules.proofs.KindViews.{variable, pointed, value, base, offset, blockLength, combined, valid}
+use Rattle.rules.proofs.KindViews.{initialised, compared, negated, both, either, skip, assign, new, free}
+use Rattle.rules.proofs.KindViews.{sequence, branch, while, letIn, assert}
 use Rattle.rules.proofs.FormLaws.{FieldHolds, nodeAs}
 use Rattle.rules.proofs.Standing.{Stands, stands}
 use Rattle.rules.proofs.AcceptedTrees.{accepted-record, accepted-last}
 use Rattle.rules.proofs.ParentLaws.{times-by-fields, times-zero, times-suc, child-once, last-no-child}
 use Rattle.rules.proofs.Readiness.{node-as}
 use Rattle.rules.proofs.Counting.{sum, sum-equal, sum-plus, sum-none, sum-pick, count-all}
-use Rattle.rules.proofs.TreeSizes.{expressionSize, placeSize, termSize, predicateSize, statementSize, translation-size}
+use Rattle.rules.proofs.TreeSizes.{expressionSize, placeSize, termSize, predicateSize, statementSize}
+use Rattle.rules.proofs.TreeSizes.{translation-size}
 
 -- the size of a node of sort s, and of the node that record n is
 abbrev sizeAs : Sort → SourceNode → ℕ

@@ -11,7 +11,10 @@ use Rattle.rules.specs.Kinds.{source, Sort, between}
 use Rattle.rules.specs.Trees.{Term}
 use Rattle.rules.specs.Nodes.{operatorOf, asTerm, nodeAt}
 use Rattle.rules.proofs.Sound.{Scope, isPlainOperator, SoundTerm}
-use Rattle.rules.proofs.KindViews.{and-split, formAt, SourceKind, literal, read, address, operation, shifted, variable, pointed, value, base, offset, blockLength, combined, valid, initialised, compared, negated, both, either, skip, assign, new, free, sequence, branch, while, letIn, assert}
+use Rattle.rules.proofs.KindViews.{and-split, formAt, SourceKind, literal, read, address, operation, shifted}
+use Rattle.rules.proofs.KindViews.{variable, pointed, value, base, offset, blockLength, combined, valid}
+use Rattle.rules.proofs.KindViews.{initialised, compared, negated, both, either, skip, assign, new, free}
+use Rattle.rules.proofs.KindViews.{sequence, branch, while, letIn, assert}
 use Rattle.rules.proofs.FormLaws.{nodeAs}
 use Rattle.rules.proofs.RecordScopes.{scopeAt, levelAt}
 use Rattle.rules.proofs.Readiness.{SoundAs, Ready}

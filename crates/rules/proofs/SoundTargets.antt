@@ -7,7 +7,10 @@ use Rattle.rules.specs.Records.{markOf, literalOf}
 use Rattle.rules.specs.Kinds.{target, Sort, statementLiteral}
 use lib.IntN.{natAbs}
 use Rattle.rules.proofs.Sound.{Numbered}
-use Rattle.rules.proofs.KindViews.{formAt, TargetKind, literal, read, address, operation, shifted, variable, pointed, temporary, skip, assign, new, free, sequence, branch, while, letIn, takeAddress, takeValue, takeOperation, takeQuery, takeNot, branchOn, assertOn, storeBlock, deleteBlock, initialise}
+use Rattle.rules.proofs.KindViews.{formAt, TargetKind, literal, read, address, operation, shifted, variable}
+use Rattle.rules.proofs.KindViews.{pointed, temporary, skip, assign, new, free, sequence, branch, while, letIn}
+use Rattle.rules.proofs.KindViews.{takeAddress, takeValue, takeOperation, takeQuery, takeNot, branchOn}
+use Rattle.rules.proofs.KindViews.{assertOn, storeBlock, deleteBlock, initialise}
 use Rattle.rules.proofs.FormLaws.{LiteralHolds, nodeAs}
 use Rattle.rules.proofs.RecordScopes.{scopeAt, levelAt}
 use Rattle.rules.proofs.Readiness.{SoundAs, Ready}

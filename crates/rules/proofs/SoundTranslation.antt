@@ -4,10 +4,13 @@ use native.Mathlib.Omega.{arith}
 use mathlib.Core.Path.{_≡_, refl, ap}
 use mathlib.Core.Bool.{Bool, true, cond}
 use borrow.Author.Tests.{eq-eqb}
-use Rattle.rules.specs.Trees.{Expression, literal, read, address, operation, shifted, Place, variable, pointed, temporary, Term, value, asked, combined, Predicate, holds, compared, negated, both, either, Statement}
+use Rattle.rules.specs.Trees.{Expression, literal, read, address, operation, shifted, Place, variable, pointed}
+use Rattle.rules.specs.Trees.{temporary, Term, value, asked, combined, Predicate, holds, compared, negated}
+use Rattle.rules.specs.Trees.{both, either, Statement}
 use Rattle.rules.specs.Trees as tree
 use Rattle.rules.specs.Translation.{embed, embedPlace, translateTerm, translatePredicate, translate}
-use Rattle.rules.proofs.Sound.{Scope, adding, SoundExpression, SoundPlace, NoName, Named, SoundTerm, SoundPredicate, Numbered, SoundStatement, SoundTarget}
+use Rattle.rules.proofs.Sound.{Scope, adding, SoundExpression, SoundPlace, NoName, Named, SoundTerm}
+use Rattle.rules.proofs.Sound.{SoundPredicate, Numbered, SoundStatement, SoundTarget}
 
 mutual
   unfolding embed

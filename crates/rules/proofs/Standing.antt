@@ -8,12 +8,14 @@ use mathlib.Core.Path.{_≡_, refl, sym, ap, _∙_, subst}
 use borrow.Author.Tests.{ltb-true, leb-true, eqb-true}
 use lib.Dec.{ltb, leb, eqb}
 use Rattle.rules.specs.Records.{recordCount, kindOf}
-use Rattle.rules.specs.Kinds.{Language, source, target, Sort, sortNumber, expression, place, term, predicate, statement, Form, forms, formOf}
+use Rattle.rules.specs.Kinds.{Language, source, target, Sort, sortNumber, expression, place, term, predicate}
+use Rattle.rules.specs.Kinds.{statement, Form, forms, formOf}
 use Rattle.rules.specs.Checker.{recordFault}
 use Rattle.rules.specs.Nodes.{NodeOf, buildNode, sortOfNode, guarded, nodeAt}
 use Rattle.rules.proofs.KindViews.{and-split, formAt, found-at, every, found-passes, KindOf, kind-view}
 use Rattle.rules.proofs.NodeLaws.{node-law, junk-sort}
-use Rattle.rules.proofs.FormLaws.{some-sort, faultless, recordAs, FormHolds, nodesUnder, nodeUnder, inTable, node-built}
+use Rattle.rules.proofs.FormLaws.{some-sort, faultless, recordAs, FormHolds, nodesUnder, nodeUnder, inTable}
+use Rattle.rules.proofs.FormLaws.{node-built}
 
 not-guarded : (l : Language) (b : Bool) (x : NodeOf l) → 1 ≤ sortOfNode l (guarded l b x) → b ≡ true
 not-guarded l true x h = refl

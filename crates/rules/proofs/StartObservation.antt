@@ -11,7 +11,8 @@ use Rattle.rules.specs.Sizes.{cellCount, inputLimit}
 use Rattle.rules.specs.Checker.{lowest}
 use Rattle.rules.specs.Memory.{recordedOf, allFree, lowestRun, fill, startMemory}
 use Rattle.rules.specs.Evaluation.{isInitialised}
-use Rattle.rules.specs.Observation.{Observation, covers, covered, markRun, storeAt, markAt, kept, recordBlock, markCell, markAll, emptyObservation, startObservation, mirror}
+use Rattle.rules.specs.Observation.{Observation, covers, covered, markRun, storeAt, markAt, kept, recordBlock}
+use Rattle.rules.specs.Observation.{markCell, markAll, emptyObservation, startObservation, mirror}
 use Rattle.rules.proofs.MemoryLaws.{Covering, inside, below, above, covering}
 use Rattle.rules.proofs.Start.{inputCells}
 use Rattle.rules.specs.declared.Located.the-variants as located

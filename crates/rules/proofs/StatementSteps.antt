@@ -4,12 +4,14 @@ use native.Mathlib.Omega.{arith}
 use mathlib.Core.Path.{_≡_, refl, ap}
 use lib.IntN.{ℤ, pos, negsuc}
 use Rattle.rules.specs.Numbers.{tested}
-use Rattle.rules.specs.Memory.{Memory, recordedOf, blockOf, locate, atCell, setCell, Change, changed, stopped, assigned, freeOf, freed}
+use Rattle.rules.specs.Memory.{Memory, recordedOf, blockOf, locate, atCell, setCell, Change, changed, stopped}
+use Rattle.rules.specs.Memory.{assigned, freeOf, freed}
 use Rattle.rules.specs.Evaluation.{addressOf, condition}
 use Rattle.rules.specs.Observation.{Observation, deleteBlock, initialise, pointerTo, mirror}
 use Rattle.rules.specs.Plain.{Outcome}
 use Rattle.rules.specs.Plain as plain
-use Rattle.rules.specs.Watched.{Temporaries, temporaryOf, heldIn, WatchedOutcome, finished, ended, Watching, next, after, decide, turns, taken, observed, calledOn}
+use Rattle.rules.specs.Watched.{Temporaries, temporaryOf, heldIn, WatchedOutcome, finished, ended, Watching}
+use Rattle.rules.specs.Watched.{next, after, decide, turns, taken, observed, calledOn}
 use Rattle.rules.specs.Answers.{memoryAfter}
 use Rattle.rules.proofs.Invariant.{Invariant}
 use Rattle.rules.proofs.DefinedValues.{Defined, FairEvaluated}

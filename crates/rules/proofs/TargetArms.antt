@@ -9,7 +9,8 @@ use Rattle.rules.specs.Nodes.{TargetNode, operatorOf, queryOf, targetSta
 use Rattle.rules.specs.Memory.{Memory, fixed, makeBlock, assigned, allocated, freed, onValue}
 use Rattle.rules.specs.Evaluation.{Variables, evaluate, findPlace, addressOf, operated, opposite, condition, extend}
 use Rattle.rules.specs.Observation.{Observation, storeBlock, deleteBlock, initialise, queryObservation}
-use Rattle.rules.specs.Watched.{Temporaries, temporaryOf, heldIn, finished, ended, next, after, decide, inLet, taken, observed, calledOn, calledOnTwo, watch}
+use Rattle.rules.specs.Watched.{Temporaries, temporaryOf, heldIn, finished, ended, next, after, decide, inLet}
+use Rattle.rules.specs.Watched.{taken, observed, calledOn, calledOnTwo, watch}
 use Rattle.rules.specs.declared.Evaluated.the-variants as evaluated
 use Rattle.rules.proofs.KindViews.{formAt}
 use Rattle.rules.proofs.FormLaws.{nodeAs}

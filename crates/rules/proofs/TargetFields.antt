@@ -13,7 +13,8 @@ use lib.Signed.{nonNeg}
 use mir.Syntax.{w32}
 use mir.Val.{Fits}
 use Rattle.rules.specs.Records.{kindOf, markOf, childA, childB, childC, literalOf}
-use Rattle.rules.specs.Kinds.{target, sortNumber, Sort, expression, place, statement, Literal, zeroLiteral, anyLiteral, statementLiteral, Form}
+use Rattle.rules.specs.Kinds.{target, sortNumber, Sort, expression, place, statement, Literal, zeroLiteral}
+use Rattle.rules.specs.Kinds.{anyLiteral, statementLiteral, Form}
 use Rattle.rules.specs.Trees.{Expression, Place}
 use Rattle.rules.specs.TargetTrees.{TargetStatement}
 use Rattle.rules.specs.Nodes.{asExpression, asPlace, targetStatement, nodeAt}

@@ -7,13 +7,20 @@ use mathlib.Core.Option.{some}
 use lib.Dec.{leb}
 use lib.IntN.{ℤ, pos}
 use borrow.Author.Tests.{lt-ltb, le-leb}
-use Rattle.rules.specs.Kinds.{target, expression, place, statement, sortNumber, statementLiteral, Form, between, lookUp, formOf}
+use Rattle.rules.specs.Kinds.{target, expression, place, statement, sortNumber, statementLiteral, Form, between}
+use Rattle.rules.specs.Kinds.{lookUp, formOf}
 use Rattle.rules.specs.Checker.{sortOf, literalFits, fieldFits}
 use Rattle.rules.specs.Numbers.{inRange}
-use Rattle.rules.specs.Trees.{Operator, add, subtract, multiply, divide, nearest, atMost, equal, shift, Query, valid, initialised, base, offset, blockLength, Expression, literal, read, address, operation, shifted, Place, variable, pointed, temporary}
-use Rattle.rules.specs.TargetTrees.{TargetStatement, skip, assign, new, free, sequence, branch, while, letIn, takeAddress, takeValue, takeOperation, takeQuery, takeNot, branchOn, assertOn, storeBlock, deleteBlock, initialise}
-use Rattle.rules.specs.Translation.{RecordTree, none, operatorNumber, queryNumber, expressionTree, placeTree, statementTree}
-use Rattle.rules.proofs.Sound.{Scope, adding, isPlainOperator, SoundExpression, SoundPlace, Named, Numbered, SoundTarget}
+use Rattle.rules.specs.Trees.{Operator, add, subtract, multiply, divide, nearest, atMost, equal, shift, Query}
+use Rattle.rules.specs.Trees.{valid, initialised, base, offset, blockLength, Expression, literal, read, address}
+use Rattle.rules.specs.Trees.{operation, shifted, Place, variable, pointed, temporary}
+use Rattle.rules.specs.TargetTrees.{TargetStatement, skip, assign, new, free, sequence, branch, while, letIn}
+use Rattle.rules.specs.TargetTrees.{takeAddress, takeValue, takeOperation, takeQuery, takeNot, branchOn}
+use Rattle.rules.specs.TargetTrees.{assertOn, storeBlock, deleteBlock, initialise}
+use Rattle.rules.specs.Translation.{RecordTree, none, operatorNumber, queryNumber, expressionTree, placeTree}
+use Rattle.rules.specs.Translation.{statementTree}
+use Rattle.rules.proofs.Sound.{Scope, adding, isPlainOperator, SoundExpression, SoundPlace, Named, Numbered}
+use Rattle.rules.proofs.Sound.{SoundTarget}
 use Rattle.rules.proofs.BooleanLaws.{both-true}
 use Rattle.rules.proofs.ScopeLaws.{adding-is}
 use Rattle.rules.proofs.FittingTrees.{rootKind, FieldTree, OwnScope, scopeBelow, Fits, Fitting}

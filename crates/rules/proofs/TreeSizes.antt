@@ -2,8 +2,12 @@
 use Prim.Native.Nat.{ℕ, suc, _+_, _*_, _≤_}
 use native.Mathlib.Omega.{arith}
 use mathlib.Core.Path.{_≡_, refl}
-use Rattle.rules.specs.Trees.{Expression, literal, read, address, operation, shifted, Place, variable, pointed, temporary, Term, value, asked, combined, Predicate, holds, compared, negated, both, either, Statement, skip, assign, new, free, sequence, branch, while, letIn, assert}
-use Rattle.rules.specs.Translation.{embed, embedPlace, translateTerm, translatePredicate, translate, expressionTree, placeTree, statementTree, treeSize}
+use Rattle.rules.specs.Trees.{Expression, literal, read, address, operation, shifted, Place, variable, pointed}
+use Rattle.rules.specs.Trees.{temporary, Term, value, asked, combined, Predicate, holds, compared, negated}
+use Rattle.rules.specs.Trees.{both, either, Statement, skip, assign, new, free, sequence, branch, while, letIn}
+use Rattle.rules.specs.Trees.{assert}
+use Rattle.rules.specs.Translation.{embed, embedPlace, translateTerm, translatePredicate, translate}
+use Rattle.rules.specs.Translation.{expressionTree, placeTree, statementTree, treeSize}
 
 unfoldable mutual
   pub expressionSize : {T : Type 0} → Expression T → ℕ

@@ -9,7 +9,8 @@ use lib.ListN.{length}
 use Rattle.rules.specs.Sizes.{memoryLength, observationLength}
 use Rattle.rules.specs.Kinds.{source, target}
 use Rattle.rules.specs.Checker.{check, inputsFault}
-use Rattle.rules.specs.Answers.{PlainRun, WatchedRun, plainOutcome, plainRefused, plainEnded, plainBy, runPlain, watchedOutcome, watchedRefused, watchedEnded, watchedBy, runWatched}
+use Rattle.rules.specs.Answers.{PlainRun, WatchedRun, plainOutcome, plainRefused, plainEnded, plainBy, runPlain}
+use Rattle.rules.specs.Answers.{watchedOutcome, watchedRefused, watchedEnded, watchedBy, runWatched}
 use Rattle.rules.specs.declared.Checked.the-variants as checked
 
 -- a buffer of the right length is not refused

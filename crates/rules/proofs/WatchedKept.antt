@@ -1,14 +1,19 @@
 -- A watched run of any target statement, a hand-made one too, keeps the execution memory's invariant.
 use Prim.Native.Nat.{ℕ, suc}
-use Rattle.rules.specs.TargetTrees.{TargetStatement, skip, assign, new, free, sequence, branch, while, letIn, takeAddress, takeValue, takeOperation, takeQuery, takeNot, branchOn, assertOn}
+use Rattle.rules.specs.TargetTrees.{TargetStatement, skip, assign, new, free, sequence, branch, while, letIn}
+use Rattle.rules.specs.TargetTrees.{takeAddress, takeValue, takeOperation, takeQuery, takeNot, branchOn}
+use Rattle.rules.specs.TargetTrees.{assertOn}
 use Rattle.rules.specs.TargetTrees as target
 use Rattle.rules.specs.Memory.{Memory, fixed, makeBlock, assigned, allocated, freed, onValue}
 use Rattle.rules.specs.Evaluation.{Variables, evaluate, findPlace, addressOf, operated, opposite, condition, extend}
-use Rattle.rules.specs.Observation.{Observation, Noted, noted, refused, storeBlock, deleteBlock, initialise, queryObservation}
-use Rattle.rules.specs.Watched.{Temporaries, temporaryOf, heldIn, WatchedOutcome, finished, ended, taken, observed, calledOn, calledOnTwo, watch}
+use Rattle.rules.specs.Observation.{Observation, Noted, noted, refused, storeBlock, deleteBlock, initialise}
+use Rattle.rules.specs.Observation.{queryObservation}
+use Rattle.rules.specs.Watched.{Temporaries, temporaryOf, heldIn, WatchedOutcome, finished, ended, taken}
+use Rattle.rules.specs.Watched.{observed, calledOn, calledOnTwo, watch}
 use Rattle.rules.specs.Answers.{watchedMemoryAfter}
 use Rattle.rules.proofs.Keeping.{AnyNumber, AnyValue, any-test, any-evaluated}
-use Rattle.rules.proofs.Outcomes.{State, WatchedOutcomes, watched-next, watched-after, watched-decide, watched-turns, watched-inLet, taken-keeps}
+use Rattle.rules.proofs.Outcomes.{State, WatchedOutcomes, watched-next, watched-after, watched-decide}
+use Rattle.rules.proofs.Outcomes.{watched-turns, watched-inLet, taken-keeps}
 use Rattle.rules.proofs.Invariant.{Invariant, Onward, onward-itself, onward-then}
 use Rattle.rules.proofs.BlockChanges.{onward-end}
 use Rattle.rules.proofs.Changes.{change-kept, Given, onward-assigned, onward-made, onward-allocated, onward-freed}

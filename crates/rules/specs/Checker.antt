@@ -9,7 +9,9 @@ use lib.ListN.{length}
 use lib.Signed.{leZ}
 use Rattle.rules.specs.Sizes.{inputLimit, temporaryCount, memoryLength, observationLength}
 use Rattle.rules.specs.Records.{Record, recordCount, kindOf, markOf, childB, recordAt}
-use Rattle.rules.specs.Kinds.{Language, source, target, Sort, statement, sortNumber, Field, unnamed, child, number, Literal, zeroLiteral, anyLiteral, statementLiteral, Form, formOf, recordLimit}
+use Rattle.rules.specs.Kinds.{Language, source, target, Sort, statement, sortNumber, Field, unnamed, child}
+use Rattle.rules.specs.Kinds.{number, Literal, zeroLiteral, anyLiteral, statementLiteral, Form, formOf}
+use Rattle.rules.specs.Kinds.{recordLimit}
 use Rattle.rules.specs.declared.Search.{Search}
 use Rattle.rules.specs.declared.Search.the-variants as search
 use Rattle.rules.specs.declared.Checked.{Checked}

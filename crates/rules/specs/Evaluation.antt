@@ -4,9 +4,12 @@ use Prim.Native.Nat.{ℕ}
 use mathlib.Core.Bool.{Bool, true, false, cond}
 use lib.Dec.{eqb}
 use lib.IntN.{ℤ, pos}
-use Rattle.rules.specs.Trees.{Operator, shift, Query, valid, initialised, base, offset, blockLength, Expression, literal, read, address, operation, shifted, Place, variable, pointed, temporary, Term, value, asked, combined, Predicate, holds, compared, negated, both, either}
+use Rattle.rules.specs.Trees.{Operator, shift, Query, valid, initialised, base, offset, blockLength, Expression}
+use Rattle.rules.specs.Trees.{literal, read, address, operation, shifted, Place, variable, pointed, temporary}
+use Rattle.rules.specs.Trees.{Term, value, asked, combined, Predicate, holds, compared, negated, both, either}
 use Rattle.rules.specs.Numbers.{operate, truthValue, truth, tested}
-use Rattle.rules.specs.Memory.{Memory, recordedOf, blockOf, cellOf, locate, locatedIn, readCell, onValue, onPlace, onPointer}
+use Rattle.rules.specs.Memory.{Memory, recordedOf, blockOf, cellOf, locate, locatedIn, readCell, onValue}
+use Rattle.rules.specs.Memory.{onPlace, onPointer}
 use Rattle.rules.specs.declared.Pointer.{Pointer}
 use Rattle.rules.specs.declared.Value.{Value}
 use Rattle.rules.specs.declared.Value.the-variants as values

@@ -33,7 +33,8 @@ blockBytes block.Dead = blockRecord 3 0 0
 abbrev pub cellRecord : ℕ → ℕ → ℕ → ℤ → List ℕ
 cellRecord kind owner name z = kind ∷ owner ∷ name ∷ 0 ∷ 0 ∷ 0 ∷ 0 ∷ 0 ∷ integerBytes z
 
--- "0 free, 1 undefined, 2 integer, 3 pointer"; "a free cell is all zero, and so is any part that a cell's kind has no use for"
+-- "0 free, 1 undefined, 2 integer, 3 pointer"; "a free cell is all zero, and so is any part that a cell's kind has no
+-- use for"
 unfoldable pub cellBytes : Cell → List ℕ
 cellBytes cell.Free = cellRecord 0 0 0 (pos 0)
 cellBytes (cell.Holds o value.Undefined) = cellRecord 1 o 0 (pos 0)

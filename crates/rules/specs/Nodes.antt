@@ -11,7 +11,10 @@ use Rattle.rules.specs.Records.{Record, recordCount, kindOf, recordAt}
 use Rattle.rules.specs.Kinds.{Language, source, target, sortNumber, Field, unnamed, child, number, Form, formOf}
 use Rattle.rules.specs.Kinds.{expression, place, term, predicate, statement}
 use Rattle.rules.specs.Checker.{recordFault}
-use Rattle.rules.specs.Trees.{Operator, add, subtract, multiply, divide, nearest, atMost, equal, shift, Query, valid, initialised, base, offset, blockLength, Expression, literal, read, address, operation, shifted, Place, variable, pointed, temporary, Term, value, asked, combined, Predicate, holds, compared, negated, both, either, Statement}
+use Rattle.rules.specs.Trees.{Operator, add, subtract, multiply, divide, nearest, atMost, equal, shift, Query}
+use Rattle.rules.specs.Trees.{valid, initialised, base, offset, blockLength, Expression, literal, read, address}
+use Rattle.rules.specs.Trees.{operation, shifted, Place, variable, pointed, temporary, Term, value, asked}
+use Rattle.rules.specs.Trees.{combined, Predicate, holds, compared, negated, both, either, Statement}
 use Rattle.rules.specs.Trees as tree
 use Rattle.rules.specs.TargetTrees.{TargetStatement}
 use Rattle.rules.specs.TargetTrees as target-tree

@@ -1,7 +1,8 @@
 -- The plain run.
 use Prim.Native.Nat.{ℕ, zero, suc}
 use Rattle.rules.specs.Trees.{Statement, skip, assign, new, free, sequence, branch, while, letIn, assert}
-use Rattle.rules.specs.Memory.{Memory, Change, changed, stopped, Use, fixed, Made, made, unmade, makeBlock, endBlock, assigned, allocated, freed}
+use Rattle.rules.specs.Memory.{Memory, Change, changed, stopped, Use, fixed, Made, made, unmade, makeBlock}
+use Rattle.rules.specs.Memory.{endBlock, assigned, allocated, freed}
 use Rattle.rules.specs.Evaluation.{Variables, evaluateSource, findSource, evaluatePredicate, condition, extend}
 use Rattle.rules.specs.declared.Test.{Test}
 use Rattle.rules.specs.declared.Test.the-variants as test

@@ -6,9 +6,14 @@ use lib.Dec.{eqb}
 use lib.IntN.{ℤ, pos}
 use Rattle.rules.specs.Records.{Record, tableBytes}
 use Rattle.rules.specs.Nodes.{sourceProgram}
-use Rattle.rules.specs.Trees.{Operator, add, subtract, multiply, divide, nearest, atMost, equal, shift, Query, valid, initialised, base, offset, blockLength, Expression, literal, read, address, operation, shifted, Place, variable, pointed, temporary, Term, value, asked, combined, Predicate, holds, compared, negated, both, either, Statement}
+use Rattle.rules.specs.Trees.{Operator, add, subtract, multiply, divide, nearest, atMost, equal, shift, Query}
+use Rattle.rules.specs.Trees.{valid, initialised, base, offset, blockLength, Expression, literal, read, address}
+use Rattle.rules.specs.Trees.{operation, shifted, Place, variable, pointed, temporary, Term, value, asked}
+use Rattle.rules.specs.Trees.{combined, Predicate, holds, compared, negated, both, either, Statement}
 use Rattle.rules.specs.Trees as tree
-use Rattle.rules.specs.TargetTrees.{TargetStatement, skip, assign, new, free, sequence, branch, while, letIn, takeAddress, takeValue, takeOperation, takeQuery, takeNot, branchOn, assertOn, storeBlock, deleteBlock, initialise}
+use Rattle.rules.specs.TargetTrees.{TargetStatement, skip, assign, new, free, sequence, branch, while, letIn}
+use Rattle.rules.specs.TargetTrees.{takeAddress, takeValue, takeOperation, takeQuery, takeNot, branchOn}
+use Rattle.rules.specs.TargetTrees.{assertOn, storeBlock, deleteBlock, initialise}
 
 -- an expression or place of the source is one of the target
 unfoldable mutual

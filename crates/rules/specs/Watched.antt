@@ -4,11 +4,16 @@ use mathlib.Core.List.{List}
 use lib.ListN.{getD, set, replicate}
 use Rattle.rules.specs.Sizes.{temporaryCount}
 use Rattle.rules.specs.Trees.{Operator, Expression, Place}
-use Rattle.rules.specs.TargetTrees.{TargetStatement, skip, assign, new, free, sequence, branch, while, letIn, takeAddress, takeValue, takeOperation, takeQuery, takeNot, branchOn, assertOn}
+use Rattle.rules.specs.TargetTrees.{TargetStatement, skip, assign, new, free, sequence, branch, while, letIn}
+use Rattle.rules.specs.TargetTrees.{takeAddress, takeValue, takeOperation, takeQuery, takeNot, branchOn}
+use Rattle.rules.specs.TargetTrees.{assertOn}
 use Rattle.rules.specs.TargetTrees as target
-use Rattle.rules.specs.Memory.{Memory, Change, changed, stopped, Use, fixed, Made, made, unmade, makeBlock, endBlock, assigned, allocated, freed, onValue}
-use Rattle.rules.specs.Evaluation.{Variables, Holding, held, evaluate, findPlace, addressOf, operated, opposite, condition, extend}
-use Rattle.rules.specs.Observation.{Observation, Noted, noted, refused, storeBlock, deleteBlock, initialise, queryObservation}
+use Rattle.rules.specs.Memory.{Memory, Change, changed, stopped, Use, fixed, Made, made, unmade, makeBlock}
+use Rattle.rules.specs.Memory.{endBlock, assigned, allocated, freed, onValue}
+use Rattle.rules.specs.Evaluation.{Variables, Holding, held, evaluate, findPlace, addressOf, operated, opposite}
+use Rattle.rules.specs.Evaluation.{condition, extend}
+use Rattle.rules.specs.Observation.{Observation, Noted, noted, refused, storeBlock, deleteBlock, initialise}
+use Rattle.rules.specs.Observation.{queryObservation}
 use Rattle.rules.specs.declared.Value.{Value}
 use Rattle.rules.specs.declared.Evaluated.{Evaluated}
 use Rattle.rules.specs.declared.Evaluated.the-variants as evaluated

@@ -7,9 +7,12 @@ use mathlib.Core.List.{List}
 use lib.IntN.{pos}
 use Rattle.rules.specs.Records.{kindOf, childA, childB}
 use Rattle.rules.specs.Kinds.{source, Sort, sortNumber, expression, place, predicate, statement}
-use Rattle.rules.specs.Nodes.{SourceNode, expressionNode, placeNode, termNode, predicateNode, statementNode, junk, nodeSort, nodeAt}
+use Rattle.rules.specs.Nodes.{SourceNode, expressionNode, placeNode, termNode, predicateNode, statementNode, junk}
+use Rattle.rules.specs.Nodes.{nodeSort, nodeAt}
 use Rattle.rules.specs.Translation.{translate, expressionTree, statementTree, none, node}
-use Rattle.rules.proofs.KindViews.{formAt, SourceKind, literal, read, address, operation, shifted, variable, pointed, value, base, offset, blockLength, combined, valid, initialised, compared, negated, both, either, skip, assign, new, free, sequence, branch, while, letIn, assert}
+use Rattle.rules.proofs.KindViews.{formAt, SourceKind, literal, read, address, operation, shifted, variable, pointed}
+use Rattle.rules.proofs.KindViews.{value, base, offset, blockLength, combined, valid, initialised, compared, negated}
+use Rattle.rules.proofs.KindViews.{both, either, skip, assign, new, free, sequence, branch, while, letIn, assert}
 use Rattle.rules.proofs.FormLaws.{FormHolds}
 use Rattle.rules.proofs.Standing.{stands, stands-at}
 use Rattle.sizes.specs.Trees.{targetTree, treeAt, copyAt, sortAt}

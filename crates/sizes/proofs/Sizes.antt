@@ -6,12 +6,18 @@ use mathlib.Core.Logic.{inl, inr}
 use mathlib.Core.Path.{_≡_, refl, sym, ap, _∙_, subst}
 use mathlib.Core.List.{List}
 use Rattle.rules.specs.Records.{kindOf, childA, childB, childC}
-use Rattle.rules.specs.Kinds.{source, Sort, sortNumber, expression, place, term, predicate, statement, Field, unnamed, child, number, Form, forms}
-use Rattle.rules.specs.Nodes.{SourceNode, expressionNode, placeNode, termNode, predicateNode, statementNode, junk, nodeSort, asExpression, asPlace, asTerm, asPredicate, sourceStatement, nodeAt}
+use Rattle.rules.specs.Kinds.{source, Sort, sortNumber, expression, place, term, predicate, statement, Field, unnamed}
+use Rattle.rules.specs.Kinds.{child, number, Form, forms}
+use Rattle.rules.specs.Nodes.{SourceNode, expressionNode, placeNode, termNode, predicateNode, statementNode, junk}
+use Rattle.rules.specs.Nodes.{nodeSort, asExpression, asPlace, asTerm, asPredicate, sourceStatement, nodeAt}
 use Rattle.rules.specs.Trees.{Term, Predicate}
 use Rattle.rules.specs.Trees as tree
-use Rattle.rules.specs.Translation.{embed, embedPlace, translateTerm, translatePredicate, translate, RecordTree, none, expressionTree, placeTree, statementTree, treeSize}
-use Rattle.rules.proofs.KindViews.{and-split, formAt, found-at, every, found-passes, SourceKind, literal, read, address, operation, shifted, variable, pointed, value, base, offset, blockLength, combined, valid, initialised, compared, negated, both, either, skip, assign, new, free, sequence, branch, while, letIn, assert}
+use Rattle.rules.specs.Translation.{embed, embedPlace, translateTerm, translatePredicate, translate, RecordTree, none}
+use Rattle.rules.specs.Translation.{expressionTree, placeTree, statementTree, treeSize}
+use Rattle.rules.proofs.KindViews.{and-split, formAt, found-at, every, found-passes, SourceKind, literal, read}
+use Rattle.rules.proofs.KindViews.{address, operation, shifted, variable, pointed, value, base, offset, blockLength}
+use Rattle.rules.proofs.KindViews.{combined, valid, initialised, compared, negated, both, either, skip, assign, new}
+use Rattle.rules.proofs.KindViews.{free, sequence, branch, while, letIn, assert}
 use Rattle.rules.proofs.FormLaws.{some-sort, FieldHolds, nodeAs}
 use Rattle.rules.proofs.NodeLaws.{node-zero}
 use Rattle.rules.proofs.Standing.{Stands, stands}

@@ -4,8 +4,10 @@ use mathlib.Core.List.{List}
 use mathlib.Core.Logic.{_⊎_}
 use mathlib.Core.Path.{_≡_}
 use Rattle.rules.specs.Kinds.{source}
-use Rattle.rules.specs.Nodes.{SourceNode, expressionNode, placeNode, termNode, predicateNode, statementNode, junk, nodeSort, nodeAt}
-use Rattle.rules.specs.Translation.{embed, embedPlace, translateTerm, translatePredicate, translate, RecordTree, none, expressionTree, placeTree, statementTree}
+use Rattle.rules.specs.Nodes.{SourceNode, expressionNode, placeNode, termNode, predicateNode, statementNode, junk}
+use Rattle.rules.specs.Nodes.{nodeSort, nodeAt}
+use Rattle.rules.specs.Translation.{embed, embedPlace, translateTerm, translatePredicate, translate, RecordTree, none}
+use Rattle.rules.specs.Translation.{expressionTree, placeTree, statementTree}
 
 -- the records that a record is translated to: those of a term or predicate under statement s at level v
 abbrev pub targetTree : SourceNode → ℕ → ℕ → RecordTree

@@ -8,7 +8,8 @@ use borrow.Author.Tests.{leb-true}
 use lib.Dec.{T}
 use lib.IntN.{ℤ, pos, negsuc, natAbs}
 use lib.Signed.{ltZ, nonNeg}
-use Rattle.rules.specs.Memory.{Memory, Change, stopped, Made, made, unmade, Use, freeable, makeBlock, nextName, freeRun, storeCell, storeNew, newOfSize}
+use Rattle.rules.specs.Memory.{Memory, Change, stopped, Made, made, unmade, Use, freeable, makeBlock, nextName}
+use Rattle.rules.specs.Memory.{freeRun, storeCell, storeNew, newOfSize}
 use Rattle.rules.specs.Layout.{memoryOf}
 use Rattle.rules.specs.declared.Pointer.{Pointer}
 use Rattle.rules.specs.declared.Value.{Value}

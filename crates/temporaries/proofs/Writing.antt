@@ -11,7 +11,8 @@ use mir.Syntax.{w64}
 use mir.Val.{SFits, toZ, ofZ}
 use Rattle.rules.specs.Words.{little, digits, part, put, wordAt, integerBytes}
 use Rattle.rules.specs.Layout.{cellFrom}
-use Rattle.rules.proofs.WordLaws.{length-digits, part-put-in, getD-put-in, getD-put-apart, word-put-apart, put-put, fits-range, integer-value}
+use Rattle.rules.proofs.WordLaws.{length-digits, part-put-in, getD-put-in, getD-put-apart, word-put-apart, put-put}
+use Rattle.rules.proofs.WordLaws.{fits-range, integer-value}
 use Rattle.rules.proofs.Rows.{table-set}
 use Rattle.temporaries.specs.Bytes.{temporaryIn, temporaryPlace, temporaryAt, temporariesOf}
 use Rattle.cells.proofs.Apart.{rows-apart}

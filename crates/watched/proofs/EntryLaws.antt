@@ -20,7 +20,8 @@ use Rattle.rules.specs.Observation.{Observation, startObservation}
 use Rattle.rules.specs.Plain.{startVariables}
 use Rattle.rules.specs.Watched.{Temporaries, startTemporaries, WatchedOutcome, finished, ended, watch}
 use Rattle.rules.specs.Layout.{cellFrom, memoryOf, memoryImage, observationOf, observationImage}
-use Rattle.rules.specs.Answers.{answer, inputsOf, watchedEndingOf, watchedMemoryAfter, watchedOutcome, watchedEnded, watchedRefused, watchedBy, WatchedRun}
+use Rattle.rules.specs.Answers.{answer, inputsOf, watchedEndingOf, watchedMemoryAfter, watchedOutcome, watchedEnded}
+use Rattle.rules.specs.Answers.{watchedRefused, watchedBy, WatchedRun}
 use Rattle.rules.specs.declared.Answer.{Answer}
 use Rattle.rules.specs.declared.Checked.{Checked}
 use Rattle.rules.specs.declared.Checked.the-variants as checked

@@ -9,7 +9,8 @@ use Rattle.rules.specs.Records.{kindOf, markOf, childA, childB, childC}
 use Rattle.rules.specs.Memory.{Memory, fixed, Made, made, makeBlock, endBlock}
 use Rattle.rules.specs.TargetTrees.{TargetStatement}
 use Rattle.rules.specs.Evaluation.{Variables, evaluate, condition, extend}
-use Rattle.rules.specs.Watched.{Temporaries, temporaryOf, heldIn, WatchedOutcome, finished, ended, Watching, next, decide, inLet, watch}
+use Rattle.rules.specs.Watched.{Temporaries, temporaryOf, heldIn, WatchedOutcome, finished, ended, Watching, next}
+use Rattle.rules.specs.Watched.{decide, inLet, watch}
 use Rattle.rules.specs.Layout.{memoryOf, observationOf}
 use Rattle.rules.specs.declared.Test.{Test}
 use Rattle.rules.proofs.Fuel.{watchedFuelOf, watch-fuel}
@@ -25,7 +26,8 @@ use Rattle.statements.proofs.ChangeLaws.{becomes-is, made-by, unmade-by}
 use Rattle.watched_statements.specs.Watching.{Lent, lent, goFrom, watchFrom, LentFits, Ready, enclosed, resultOf, Ran}
 use Rattle.choices.specs.Branches.{IsBranch, choice}
 use Rattle.choices.proofs.Choices.{choice-on, choice-of}
-use Rattle.watched_statements.proofs.Laws.{observation-same, Kept, kept-then, ran-kept, ran-is, ran-from, watch-finished, next-goes, next-stays}
+use Rattle.watched_statements.proofs.Laws.{observation-same, Kept, kept-then, ran-kept, ran-is, ran-from}
+use Rattle.watched_statements.proofs.Laws.{watch-finished, next-goes, next-stays}
 use Rattle.watched_statements.proofs.ReadyLaws.{run-kept}
 
 module _ (t : List ℕ) (n : ℕ) (h : HasSort statement t n) (ρ : Variables) (x : Lent) where

@@ -13,7 +13,8 @@ use Rattle.rules.specs.Memory.{Memory, Change, changed, stopped}
 use Rattle.rules.specs.Evaluation.{Variables}
 use Rattle.rules.specs.Observation.{Observation, Noted, noted, refused}
 use Rattle.rules.specs.TargetTrees.{TargetStatement}
-use Rattle.rules.specs.Watched.{Temporaries, WatchedOutcome, finished, ended, Watching, after, decide, taken, observed, watch}
+use Rattle.rules.specs.Watched.{Temporaries, WatchedOutcome, finished, ended, Watching, after, decide, taken}
+use Rattle.rules.specs.Watched.{observed, watch}
 use Rattle.rules.specs.Layout.{memoryOf, observationOf}
 use Rattle.rules.specs.declared.Evaluated.{Evaluated}
 use Rattle.rules.specs.declared.Evaluated.the-variants as evaluated
@@ -22,7 +23,8 @@ use Rattle.rules.specs.declared.Test.the-variants as test
 use Rattle.rules.proofs.Keeping.{Ending}
 use Rattle.rules.proofs.Endings.{WatchedEnds, watch-endings}
 use Rattle.rules.proofs.TargetFields.{HasSort, statementAt, numberAt, statement-kinds}
-use Rattle.rules.proofs.TargetArms.{watch-operation, watch-query, watch-not, watch-store-block, watch-delete-block, watch-initialise}
+use Rattle.rules.proofs.TargetArms.{watch-operation, watch-query, watch-not, watch-store-block, watch-delete-block}
+use Rattle.rules.proofs.TargetArms.{watch-initialise}
 use Rattle.temporaries.specs.Bytes.{temporariesOf}
 use Rattle.endings.specs.Ending.{result, concluded, assertNumber}
 use Rattle.statements.specs.Changing.{Does}

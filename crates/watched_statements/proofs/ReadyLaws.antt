@@ -19,7 +19,8 @@ use Rattle.rules.proofs.KeptPredicates.{MadeWith, fits-invariant, fits-observat
 use Rattle.rules.proofs.FittingValues.{held-fits, evaluate-fits}
 use Rattle.rules.proofs.FittingValues as ranged
 use Rattle.rules.proofs.Reachable.{Watchedly, watch-keeps, extend-fits}
-use Rattle.rules.proofs.StatementArms.{statement-within, sequence-children, branch-children, while-children, let-child, sound-assign, sound-sequence, sound-branch, sound-while, sound-let}
+use Rattle.rules.proofs.StatementArms.{statement-within, sequence-children, branch-children, while-children}
+use Rattle.rules.proofs.StatementArms.{let-child, sound-assign, sound-sequence, sound-branch, sound-while, sound-let}
 use Rattle.rules.proofs.TargetFields.{Under, expressionAt, statementAt, branch-on-fields, sound-branch-on}
 use Rattle.tables.specs.Within.{Within}
 use Rattle.cells.specs.Changes.{Becomes, EvaluatedFits}

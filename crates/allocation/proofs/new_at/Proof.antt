@@ -38,32 +38,42 @@ enum-known-f-2 c = search needs
 returns : tie.Need-returns
 returns c =
     let l = c .before .before .before .before .before .before .before .before .args .mem .now in
-    does-is (ap₂ (allocated (memoryOf l)) (c .before .before .before .before .before .before .f .given .1) (c .before .before .before .e .given .1 ∙ ap evaluated.Value (c .enum-told .given .1)))
+    does-is (ap₂ (allocated (memoryOf l)) (c .before .before .before .before .before .before .f .given .1)
+    (c .before .before .before .e .given .1 ∙ ap evaluated.Value (c .enum-told .given .1)))
     (does-stop 40 l)
 
 returns-2 : tie.Need-returns-2
 returns-2 c =
     let l = c .before .before .before .before .before .before .before .before .before .before .before .args .mem .now in
-    let f : SFits w64 (c .before .before .before .v .given .0 .0) = record { sfits = c .before .before .known-told3 .given .0 .1 } in
+    let f : SFits w64 (c .before .before .before .v .given .0 .0) =
+    record { sfits = c .before .before .known-told3 .given .0 .1 } in
     does-is {r = c .new-of-size .result} {a = l} {b = c .new-of-size .last .0}
-    (ap₂ (allocated (memoryOf l)) (c .before .before .before .before .before .before .before .before .before .f .given .1) (c .before .before .before .before .before .before .e .given .1 ∙ ap evaluated.Value (c .before .before .before .v .given .1)))
+    (ap₂ (allocated (memoryOf l))
+    (c .before .before .before .before .before .before .before .before .before .f .given .1)
+    (c .before .before .before .before .before .before .e .given .1 ∙ ap evaluated.Value
+    (c .before .before .before .v .given .1)))
     (rw (toZ-ofZ f) at (c .new-of-size .ensures))
 
 returns-3 : tie.Need-returns-3
 returns-3 c =
     let l = c .before .before .before .before .before .before .before .before .args .mem .now in
-    does-is (ap₂ (allocated (memoryOf l)) (c .before .before .before .before .before .before .f .given .1) (c .before .before .before .e .given .1 ∙ ap evaluated.Value (c .enum-told2 .given .1)))
+    does-is (ap₂ (allocated (memoryOf l)) (c .before .before .before .before .before .before .f .given .1)
+    (c .before .before .before .e .given .1 ∙ ap evaluated.Value (c .enum-told2 .given .1)))
     (does-stop 40 l)
 
 returns-4 : tie.Need-returns-4
 returns-4 c =
     let l = c .before .before .before .before .before .before .args .mem .now in
-    does-is (ap₂ (allocated (memoryOf l)) (c .before .before .before .before .f .given .1) (c .before .e2 .given .1)) (does-stop _ l)
+    does-is (ap₂ (allocated (memoryOf l)) (c .before .before .before .before .f .given .1) (c .before .e2 .given .1))
+    (does-stop _ l)
 
 returns-5 : tie.Need-returns-5
 returns-5 c =
     let s = c .before .before .before .args in
-    does-is (ap (λ (f : Found). allocated (memoryOf (s .mem .now)) f (s .e)) (c .before .f2 .given .1)) (does-stop _ (s .mem .now))
+    does-is (ap (λ (f : Found). allocated (memoryOf (s .mem .now)) f (s .e)) (c .before .f2 .given .1))
+    (does-stop _ (s .mem .now))
 
 pub new-at-spec : {M : Type 1} → statement M
-new-at-spec = tie.close (tie.spec enum-known-f enum-known-e enum-told enum-known-v new-of-size-requires enum-told-2 enum-known-e-2 enum-known-f-2 returns returns-2 returns-3 returns-4 returns-5)
+new-at-spec =
+    tie.close (tie.spec enum-known-f enum-known-e enum-told enum-known-v new-of-size-requires enum-told-2
+    enum-known-e-2 enum-known-f-2 returns returns-2 returns-3 returns-4 returns-5)

@@ -11,7 +11,8 @@ use Rattle.sizes.specs.Trees.{treeAt}
 use Rattle.emission.proofs.Emitting.{emitted-as, some}
 use Rattle.emission.proofs.Parts.{emitted-sequence}
 use Rattle.assertions.proofs.Tests.{TestLaw, test-at, test-some, skipTree}
-use Rattle.assertions.proofs.TestSteps.{ValueAt, OneAt, TwoAt, BranchAt, value-at, one-at, two-at, both-at, either-at, emitted-branch}
+use Rattle.assertions.proofs.TestSteps.{ValueAt, OneAt, TwoAt, BranchAt, value-at, one-at, two-at, both-at}
+use Rattle.assertions.proofs.TestSteps.{either-at, emitted-branch}
 use Prim.Native.Nat.{ℕ, _<_}
 use borrow.Fn.Kinds.{In}
 use borrow.Fn.PlainCycle.{Measures, is, falls, and}

@@ -19,7 +19,10 @@ use Rattle.rules.specs.declared.Evaluated.{Evaluated}
 use Rattle.tables.specs.Within.{Within}
 use Rattle.evaluation.specs.State.{variablesOf}
 use Rattle.temporaries.specs.Bytes.{temporariesOf}
-use Rattle.evaluation.proofs.Arms.{within, read-below, address-below, pointer-below, variable-mark, is-temporary, temporary-mark, valueAt, literal-arm, read-arm, address-arm, Binary, binary, operation-arm, variable-arm, pointer-arm, temporary-arm, settled-as}
+use Rattle.evaluation.proofs.Arms.{within, read-below, address-below, pointer-below, variable-mark}
+use Rattle.evaluation.proofs.Arms.{is-temporary, temporary-mark, valueAt, literal-arm, read-arm, address-arm}
+use Rattle.evaluation.proofs.Arms.{Binary, binary, operation-arm, variable-arm, pointer-arm, temporary-arm}
+use Rattle.evaluation.proofs.Arms.{settled-as}
 use Prim.Native.Nat.{ℕ, _+_, _*_, _<_}
 use borrow.Fn.Kinds.{In}
 use borrow.Fn.PlainCycle.{Measures, is, falls, and}

@@ -31,7 +31,8 @@ returns c =
     let s = v .before .before .before in
     let o = observationOf (now (s .args .obs)) in
     observes-call
-    (ap (λ (x : Evaluated). calledOn x (deleteBlock o)) (sym (v .before .before .read-temporary .ensures) ∙ v .block .given .1))
+    (ap (λ (x : Evaluated). calledOn x (deleteBlock o))
+    (sym (v .before .before .read-temporary .ensures) ∙ v .block .given .1))
     (c .before .delete-block .ensures) (c .number .ensures)
 
 returns-2 : tie.Need-returns-2
@@ -40,7 +41,8 @@ returns-2 c =
     let s = k .before .before .before in
     let o = observationOf (now (s .args .obs)) in
     observes-stop (now (s .args .obs)) _
-    (ap (λ (x : Evaluated). calledOn x (deleteBlock o)) (sym (k .before .before .read-temporary .ensures) ∙ k .block2 .given .1))
+    (ap (λ (x : Evaluated). calledOn x (deleteBlock o))
+    (sym (k .before .before .read-temporary .ensures) ∙ k .block2 .given .1))
 
 pub delete-block-spec : {M : Type 1} → statement M
 delete-block-spec =

@@ -31,7 +31,8 @@ returns c =
     let s = v .before .before .before in
     let o = observationOf (now (s .args .obs)) in
     observes-call
-    (ap (λ (x : Evaluated). calledOn x (initialise o)) (sym (v .before .before .read-temporary .ensures) ∙ v .cell .given .1))
+    (ap (λ (x : Evaluated). calledOn x (initialise o))
+    (sym (v .before .before .read-temporary .ensures) ∙ v .cell .given .1))
     (c .before .initialise .ensures) (c .number .ensures)
 
 returns-2 : tie.Need-returns-2
@@ -40,7 +41,8 @@ returns-2 c =
     let s = k .before .before .before in
     let o = observationOf (now (s .args .obs)) in
     observes-stop (now (s .args .obs)) _
-    (ap (λ (x : Evaluated). calledOn x (initialise o)) (sym (k .before .before .read-temporary .ensures) ∙ k .cell2 .given .1))
+    (ap (λ (x : Evaluated). calledOn x (initialise o))
+    (sym (k .before .before .read-temporary .ensures) ∙ k .cell2 .given .1))
 
 pub mark-cell-spec : {M : Type 1} → statement M
 mark-cell-spec =

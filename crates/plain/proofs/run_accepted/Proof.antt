@@ -24,12 +24,16 @@ returns-2 : tie.Need-returns-2
 returns-2 c =
     let s = c .before .before .before .before .before .before .before .args in
     refuse-memory (s .table .now) (s .inputs .now) (s .fuel) (s .memory .now) (c .refuse2 .result)
-    (sym (c .before .before .before .has-inputs-fault .ensures) ∙ c .before .before .if1 .left) (memory-refused (s .memory .now) (c .before .if2 .taken)) (c .refuse2 .ensures)
+    (sym (c .before .before .before .has-inputs-fault .ensures) ∙ c .before .before .if1 .left)
+    (memory-refused (s .memory .now) (c .before .if2 .taken)) (c .refuse2 .ensures)
 
 run-inputs-requires : tie.Need-run-inputs-requires
 run-inputs-requires c κs =
-    let s = c .before .before .before .before .before .before .before in
-    (s .pre, sym (c .before .before .before .has-inputs-fault .ensures) ∙ c .before .before .if1 .left, memory-accepted (s .args .memory .now) (c .before .if2 .left))
+    let s = c .before .before .before .before .before .before .before in (
+      s .pre,
+      sym (c .before .before .before .has-inputs-fault .ensures) ∙ c .before .before .if1 .left,
+      memory-accepted (s .args .memory .now) (c .before .if2 .left),
+    )
 
 same-length : tie.Need-same-length
 same-length c = search needs
@@ -37,8 +41,14 @@ same-length c = search needs
 returns-3 : tie.Need-returns-3
 returns-3 c =
     let s = c .before .before .before .before .before .before .before .before .before .before .args in
-    run-both (s .table .now) (s .inputs .now) (s .fuel) (s .memory .now) (c .before .before .run-inputs .result) (c .before .before .run-inputs .last .1 .1 .1 .0)
-    (sym (c .before .before .before .before .before .before .has-inputs-fault .ensures) ∙ c .before .before .before .before .before .if1 .left) (memory-accepted (s .memory .now) (c .before .before .before .before .if2 .left)) (c .before .before .run-inputs .ensures)
+    run-both (s .table .now) (s .inputs .now) (s .fuel) (s .memory .now) (c .before .before .run-inputs .result)
+    (c .before .before .run-inputs .last .1 .1 .1 .0)
+    (sym (c .before .before .before .before .before .before .has-inputs-fault .ensures)
+    ∙ c .before .before .before .before .before .if1 .left)
+    (memory-accepted (s .memory .now) (c .before .before .before .before .if2 .left))
+    (c .before .before .run-inputs .ensures)
 
 pub run-accepted-spec : {M : Type 1} → statement M
-run-accepted-spec = tie.close (tie.spec has-inputs-fault-requires refuse-requires returns refuse-requires-2 returns-2 run-inputs-requires same-length returns-3)
+run-accepted-spec =
+    tie.close (tie.spec has-inputs-fault-requires refuse-requires returns refuse-requires-2 returns-2
+    run-inputs-requires same-length returns-3)

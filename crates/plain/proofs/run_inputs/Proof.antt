@@ -7,7 +7,8 @@ use Rattle.plain.proofs.run_inputs.Statement.{statement}
 use Rattle.plain.proofs.run_inputs.Tie as tie
 
 start-requires : tie.Need-start-requires
-start-requires c κs = inputs-short (c .before .before .before .before .args .inputs .now) (c .before .before .before .before .pre .1)
+start-requires c κs =
+    inputs-short (c .before .before .before .before .args .inputs .now) (c .before .before .before .before .pre .1)
 
 run-table-requires : tie.Need-run-table-requires
 run-table-requires c κs =
@@ -59,10 +60,13 @@ returns c =
     (c .before .before .before .before .before .before .before .run-table .result)
     (c .before .before .before .before .before .before .before .run-table .last .1 .0)
     (c .before .before .before .before .before .count-free .result) (c .before .before .copy .last .0)
-    (c .before .before .before .before .before .before .before .run-table .ensures) (c .before .before .before .before .before .count-free .ensures)
+    (c .before .before .before .before .before .before .before .run-table .ensures)
+    (c .before .before .before .before .before .count-free .ensures)
     (c .before .before .copy .ensures ∙ put-all (s .args .memory .now)
     (c .before .before .before .before .before .before .before .run-table .last .1 .0)
     (memory-whole (s .args .memory .now) (s .pre .2) ∙ sym x))
 
 pub run-inputs-spec : {M : Type 1} → statement M
-run-inputs-spec = tie.close (tie.spec start-requires run-table-requires count-free-requires slice-aggregate-copy copy-requires same-length returns)
+run-inputs-spec =
+    tie.close (tie.spec start-requires run-table-requires count-free-requires slice-aggregate-copy copy-requires
+    same-length returns)

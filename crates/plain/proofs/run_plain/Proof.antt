@@ -26,13 +26,18 @@ returns : tie.Need-returns
 returns c =
     let s = c .before .before .before .before .before .before .before .before .before .before .args in
     answered-by _ _ (s .table .now) (s .inputs .now) (s .fuel) (s .memory .now) (c .before .before .run-accepted .result)
-    (c .before .before .run-accepted .last .1 .1 .1 .0) (sym (c .before .before .before .before .before .before .check-source .ensures) ∙ c .before .before .before .before .enum-told .given .1) (c .before .before .run-accepted .ensures)
+    (c .before .before .run-accepted .last .1 .1 .1 .0)
+    (sym (c .before .before .before .before .before .before .check-source .ensures)
+    ∙ c .before .before .before .before .enum-told .given .1) (c .before .before .run-accepted .ensures)
 
 returns-2 : tie.Need-returns-2
 returns-2 c =
     let s = c .before .before .before .before .before .before .before .before .args in
     answered-by _ _ (s .table .now) (s .inputs .now) (s .fuel) (s .memory .now) (c .refuse .result) (s .memory .now)
-    (sym (c .before .before .before .before .check-source .ensures) ∙ c .before .before .k .given .1) (record { answer = c .refuse .ensures; memory = refl })
+    (sym (c .before .before .before .before .check-source .ensures) ∙ c .before .before .k .given .1)
+    (record { answer = c .refuse .ensures; memory = refl })
 
 pub run-plain-spec : {M : Type 1} → statement M
-run-plain-spec = tie.close (tie.spec check-source-requires enum-told run-accepted-requires enum-known-k refuse-requires same-length returns returns-2)
+run-plain-spec =
+    tie.close (tie.spec check-source-requires enum-told run-accepted-requires enum-known-k refuse-requires same-length
+    returns returns-2)

@@ -22,7 +22,8 @@ run-from-start-requires : tie.Need-run-from-start-requires
 run-from-start-requires c κs =
     let s = c .before .before .before .before .before .before in
     let T = s .args .table .now in
-    rw (c .before .before .before .copy .ensures) (ready-start T (replicate 65536 0) (s .pre .0) (memoryOf (s .args .mem .now)) (s .pre .1))
+    rw (c .before .before .before .copy .ensures)
+    (ready-start T (replicate 65536 0) (s .pre .0) (memoryOf (s .args .mem .now)) (s .pre .1))
 
 returns : tie.Need-returns
 returns c =

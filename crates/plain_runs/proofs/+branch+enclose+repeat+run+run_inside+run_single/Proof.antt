@@ -17,7 +17,10 @@ use Rattle.statements.proofs.ChangeLaws.{becomes-same}
 use Rattle.plain_runs.specs.Running.{Ready}
 use Rattle.plain_runs.proofs.Laws.{ran-is, next-stays}
 use Rattle.plain_runs.proofs.ReadyLaws.{ready-within, ready-number, ready-first, ready-then, ready-else, ready-turn}
-use Rattle.plain_runs.proofs.MemberLaws.{ran-from, ran-same, branch-yes, branch-no, branch-stop, turn-yes, turn-no, turn-stop, turn-out, let-made, let-unmade, Remaining, part-ends, part-finishes, part-spends, inside-ends, ready-later, ready-made}
+use Rattle.plain_runs.proofs.MemberLaws.{ran-from, ran-same, branch-yes, branch-no, branch-stop, turn-yes}
+use Rattle.plain_runs.proofs.MemberLaws.{turn-no, turn-stop, turn-out, let-made, let-unmade, Remaining}
+use Rattle.plain_runs.proofs.MemberLaws.{part-ends, part-finishes, part-spends, inside-ends, ready-later}
+use Rattle.plain_runs.proofs.MemberLaws.{ready-made}
 use borrow.Fn.Kinds.{In}
 use borrow.Fn.PlainCycle.{Measures, is, falls, and}
 use Rattle.plain_runs.proofs.branch.Reads as branch
@@ -371,7 +374,8 @@ enclose-returns-2 t c =
     let f = s .args .fuel in
     let h = s .pre .1 .0 in
     let q = s .pre .1 .1 in
-    let-unmade T n (h .is) ρ q l (c .before .before .before .make .last .0) f (c .before .before .before .make .ensures .1) (c .before .c .given .0 .0) _
+    let-unmade T n (h .is) ρ q l (c .before .before .before .make .last .0) f
+    (c .before .before .before .make .ensures .1) (c .before .c .given .0 .0) _
     (sym (c .before .c .given .1) ∙ c .before .before .before .make .ensures .0) refl
 
 abbrev repeat-Inv-loop : repeat-lts.InvT-loop
@@ -381,7 +385,8 @@ repeat-Inv-loop table n variables temporaries mem₀ fuel b left₀ mem left =
 abbrev repeat-μ-loop : repeat-lts.MeasureT-loop
 repeat-μ-loop table n variables temporaries mem₀ fuel b left₀ mem left = left
 
-repeat-child-b-requires : (t : ℕ) → repeat-lts.Need-child-b-requires (repeat-claims t) (repeat-at t) repeat.Post repeat-Inv-loop repeat-μ-loop
+repeat-child-b-requires : (t : ℕ)
+    → repeat-lts.Need-child-b-requires (repeat-claims t) (repeat-at t) repeat.Post repeat-Inv-loop repeat-μ-loop
 repeat-child-b-requires t c κs =
     let s = c .before in
     let T = s .args .table .now in
@@ -393,13 +398,16 @@ repeat-child-b-requires t c κs =
     let q = s .pre .1 .1 in
     ready-within T n ρ (memoryOf l) h
 
-repeat-loop-holds : (t : ℕ) → repeat-lts.Need-loop-holds (repeat-claims t) (repeat-at t) repeat.Post repeat-Inv-loop repeat-μ-loop
+repeat-loop-holds : (t : ℕ)
+    → repeat-lts.Need-loop-holds (repeat-claims t) (repeat-at t) repeat.Post repeat-Inv-loop repeat-μ-loop
 repeat-loop-holds t c = record { rest = refl; bytes = becomes-same refl; fits = c .before .before .pre .1 .0 .fits }
 
-repeat-sub-left : (t : ℕ) → repeat-lts.Need-sub-left (repeat-claims t) (repeat-at t) repeat.Post repeat-Inv-loop repeat-μ-loop
+repeat-sub-left : (t : ℕ)
+    → repeat-lts.Need-sub-left (repeat-claims t) (repeat-at t) repeat.Post repeat-Inv-loop repeat-μ-loop
 repeat-sub-left t c = omega (arith, c .loop-test .taken)
 
-repeat-test-a-requires : (t : ℕ) → repeat-lts.Need-test-a-requires (repeat-claims t) (repeat-at t) repeat.Post repeat-Inv-loop repeat-μ-loop
+repeat-test-a-requires : (t : ℕ)
+    → repeat-lts.Need-test-a-requires (repeat-claims t) (repeat-at t) repeat.Post repeat-Inv-loop repeat-μ-loop
 repeat-test-a-requires t c κs =
     let s = c .before .before .before .before .before in
     let T = s .args .table .now in
@@ -411,10 +419,12 @@ repeat-test-a-requires t c κs =
     let q = s .pre .1 .1 in
     (ready-within T n ρ (memoryOf l) h, while-children source T n (h .is) q .0 .2)
 
-repeat-enum-told : (t : ℕ) → repeat-lts.Need-enum-told (repeat-claims t) (repeat-at t) repeat.Post repeat-Inv-loop repeat-μ-loop
+repeat-enum-told : (t : ℕ)
+    → repeat-lts.Need-enum-told (repeat-claims t) (repeat-at t) repeat.Post repeat-Inv-loop repeat-μ-loop
 repeat-enum-told t c = search needs
 
-repeat-run-requires : (t : ℕ) → repeat-lts.Need-run-requires (repeat-claims t) (repeat-at t) repeat.Post repeat-Inv-loop repeat-μ-loop
+repeat-run-requires : (t : ℕ)
+    → repeat-lts.Need-run-requires (repeat-claims t) (repeat-at t) repeat.Post repeat-Inv-loop repeat-μ-loop
 repeat-run-requires t c κs =
     let s = c .before .before .before .before .before .before .before .before .before in
     let T = s .args .table .now in
@@ -446,15 +456,18 @@ repeat-returns t c =
     (c .before .before .before .before .before .before .before .before .before .loop .inv) (childB T n) n
     (c .before .before .before .before .before .before .before .before .before .loop .left - 1)
     (c .before .before .run .result) (c .before .before .run .last .1 .1 .1 .1 .0)
-    (rw (c .before .before .before .before .before .before .before .before .before .before .child-b .ensures) at (c .before .before .run .ensures))
+    (rw (c .before .before .before .before .before .before .before .before .before .before .child-b .ensures) at
+    (c .before .before .run .ensures))
     (turn-yes T n (h .is) ρ q
     (memoryOf (c .before .before .before .before .before .before .before .before .before .loop .mem))
     (c .before .before .before .before .before .before .before .before .before .loop .left)
     (c .before .before .before .before .before .before .before .before .loop-test .taken)
-    (sym (c .before .before .before .before .before .before .test-a .ensures) ∙ c .before .before .before .before .enum-told .given .1))
+    (sym (c .before .before .before .before .before .before .test-a .ensures)
+    ∙ c .before .before .before .before .enum-told .given .1))
     (c .if1 .taken)
 
-repeat-loop-less : (t : ℕ) → repeat-lts.Need-loop-less (repeat-claims t) (repeat-at t) repeat.Post repeat-Inv-loop repeat-μ-loop
+repeat-loop-less : (t : ℕ)
+    → repeat-lts.Need-loop-less (repeat-claims t) (repeat-at t) repeat.Post repeat-Inv-loop repeat-μ-loop
 repeat-loop-less t c =
     let s = c .before .before .before .before .before .before .before .before .before .before .before .before in
     let T = s .args .table .now in
@@ -470,15 +483,18 @@ repeat-loop-less t c =
     (c .before .before .before .before .before .before .before .before .before .loop .inv) (childB T n) n
     (c .before .before .before .before .before .before .before .before .before .loop .left - 1)
     (c .before .before .run .result) (c .before .before .run .last .1 .1 .1 .1 .0)
-    (rw (c .before .before .before .before .before .before .before .before .before .before .child-b .ensures) at (c .before .before .run .ensures))
+    (rw (c .before .before .before .before .before .before .before .before .before .before .child-b .ensures) at
+    (c .before .before .run .ensures))
     (turn-yes T n (h .is) ρ q
     (memoryOf (c .before .before .before .before .before .before .before .before .before .loop .mem))
     (c .before .before .before .before .before .before .before .before .before .loop .left)
     (c .before .before .before .before .before .before .before .before .loop-test .taken)
-    (sym (c .before .before .before .before .before .before .test-a .ensures) ∙ c .before .before .before .before .enum-told .given .1))
+    (sym (c .before .before .before .before .before .before .test-a .ensures)
+    ∙ c .before .before .before .before .enum-told .given .1))
     (c .if1 .left) (omega (arith, c .before .before .before .before .before .before .before .before .loop-test .taken))
 
-repeat-loop-again : (t : ℕ) → repeat-lts.Need-loop-again (repeat-claims t) (repeat-at t) repeat.Post repeat-Inv-loop repeat-μ-loop
+repeat-loop-again : (t : ℕ)
+    → repeat-lts.Need-loop-again (repeat-claims t) (repeat-at t) repeat.Post repeat-Inv-loop repeat-μ-loop
 repeat-loop-again t c =
     let s = c .before .before .before .before .before .before .before .before .before .before .before .before in
     let T = s .args .table .now in
@@ -494,21 +510,25 @@ repeat-loop-again t c =
     (c .before .before .before .before .before .before .before .before .before .loop .inv) (childB T n) n
     (c .before .before .before .before .before .before .before .before .before .loop .left - 1)
     (c .before .before .run .result) (c .before .before .run .last .1 .1 .1 .1 .0)
-    (rw (c .before .before .before .before .before .before .before .before .before .before .child-b .ensures) at (c .before .before .run .ensures))
+    (rw (c .before .before .before .before .before .before .before .before .before .before .child-b .ensures) at
+    (c .before .before .run .ensures))
     (turn-yes T n (h .is) ρ q
     (memoryOf (c .before .before .before .before .before .before .before .before .before .loop .mem))
     (c .before .before .before .before .before .before .before .before .before .loop .left)
     (c .before .before .before .before .before .before .before .before .loop-test .taken)
-    (sym (c .before .before .before .before .before .before .test-a .ensures) ∙ c .before .before .before .before .enum-told .given .1))
+    (sym (c .before .before .before .before .before .before .test-a .ensures)
+    ∙ c .before .before .before .before .enum-told .given .1))
     (c .if1 .left)
     (ready-turn T n ρ (memoryOf l) h q
     (memoryOf (c .before .before .before .before .before .before .before .before .before .loop .mem))
     (c .before .before .before .before .before .before .before .before .before .loop .inv .fits))
 
-repeat-enum-told-2 : (t : ℕ) → repeat-lts.Need-enum-told-2 (repeat-claims t) (repeat-at t) repeat.Post repeat-Inv-loop repeat-μ-loop
+repeat-enum-told-2 : (t : ℕ)
+    → repeat-lts.Need-enum-told-2 (repeat-claims t) (repeat-at t) repeat.Post repeat-Inv-loop repeat-μ-loop
 repeat-enum-told-2 t c = search needs
 
-repeat-returns-2 : (t : ℕ) → repeat-lts.Need-returns-2 (repeat-claims t) (repeat-at t) repeat.Post repeat-Inv-loop repeat-μ-loop
+repeat-returns-2 : (t : ℕ)
+    → repeat-lts.Need-returns-2 (repeat-claims t) (repeat-at t) repeat.Post repeat-Inv-loop repeat-μ-loop
 repeat-returns-2 t c =
     let s = c .before .before .before .before .before .before .before .before in
     let T = s .args .table .now in
@@ -527,10 +547,12 @@ repeat-returns-2 t c =
     (ran-from (c .before .before .before .before .before .loop .inv .bytes)
     (ran-same (finished m (c .before .before .before .before .before .loop .left - 1)) _ refl refl))
 
-repeat-enum-known-k : (t : ℕ) → repeat-lts.Need-enum-known-k (repeat-claims t) (repeat-at t) repeat.Post repeat-Inv-loop repeat-μ-loop
+repeat-enum-known-k : (t : ℕ)
+    → repeat-lts.Need-enum-known-k (repeat-claims t) (repeat-at t) repeat.Post repeat-Inv-loop repeat-μ-loop
 repeat-enum-known-k t c = search needs
 
-repeat-cast-t18 : (t : ℕ) → repeat-lts.Need-cast-t18 (repeat-claims t) (repeat-at t) repeat.Post repeat-Inv-loop repeat-μ-loop
+repeat-cast-t18 : (t : ℕ)
+    → repeat-lts.Need-cast-t18 (repeat-claims t) (repeat-at t) repeat.Post repeat-Inv-loop repeat-μ-loop
 repeat-cast-t18 t c =
     let s = c .before .before .before .before .before .before .before .before .before in
     let T = s .args .table .now in
@@ -542,7 +564,8 @@ repeat-cast-t18 t c =
     let q = s .pre .1 .1 in
     ready-number T n ρ (memoryOf l) h
 
-repeat-returns-3 : (t : ℕ) → repeat-lts.Need-returns-3 (repeat-claims t) (repeat-at t) repeat.Post repeat-Inv-loop repeat-μ-loop
+repeat-returns-3 : (t : ℕ)
+    → repeat-lts.Need-returns-3 (repeat-claims t) (repeat-at t) repeat.Post repeat-Inv-loop repeat-μ-loop
 repeat-returns-3 t c =
     let s = c .before .before .before .before .before .before .before .before .before in
     let T = s .args .table .now in
@@ -563,7 +586,8 @@ repeat-returns-3 t c =
     (ended (c .before .k .given .0 .0) n m (c .before .before .before .before .before .before .loop .left - 1))
     _ refl refl))
 
-repeat-cast-t19 : (t : ℕ) → repeat-lts.Need-cast-t19 (repeat-claims t) (repeat-at t) repeat.Post repeat-Inv-loop repeat-μ-loop
+repeat-cast-t19 : (t : ℕ)
+    → repeat-lts.Need-cast-t19 (repeat-claims t) (repeat-at t) repeat.Post repeat-Inv-loop repeat-μ-loop
 repeat-cast-t19 t c =
     let s = c .before .before .before .before in
     let T = s .args .table .now in
@@ -575,7 +599,8 @@ repeat-cast-t19 t c =
     let q = s .pre .1 .1 in
     ready-number T n ρ (memoryOf l) h
 
-repeat-returns-4 : (t : ℕ) → repeat-lts.Need-returns-4 (repeat-claims t) (repeat-at t) repeat.Post repeat-Inv-loop repeat-μ-loop
+repeat-returns-4 : (t : ℕ)
+    → repeat-lts.Need-returns-4 (repeat-claims t) (repeat-at t) repeat.Post repeat-Inv-loop repeat-μ-loop
 repeat-returns-4 t c =
     let s = c .before .before .before .before in
     let T = s .args .table .now in
@@ -666,7 +691,8 @@ run-returns t c =
     let q = sym (after-kind .kind .ensures) ∙ after-if1 .if1 .taken in
     let w = rw (after-child-a .child-a .ensures) at (after-run .run .ensures) in
     part-ends T n ρ a f m l (after-loop .loop .left) (after-loop .loop .inv .0) (childA T m) (childB T m)
-    (after-loop .loop .left) (after-run .run .result) _ w (run-sequence T m (h .is) ρ (memoryOf l) (after-loop .loop .left) q)
+    (after-loop .loop .left) (after-run .run .result) _ w
+    (run-sequence T m (h .is) ρ (memoryOf l) (after-loop .loop .left) q)
     (c .if2 .taken)
 
 run-child-b-requires : (t : ℕ) → run-lts.Need-child-b-requires (run-claims t)
@@ -717,7 +743,8 @@ run-loop-again t c =
     let w = rw (after-child-a .child-a .ensures) at (after-run .run .ensures) in
     rw (c .child-b .ensures) (
       part-finishes T n ρ a f m l (after-loop .loop .left) (after-loop .loop .inv .0) (childA T m) (childB T m)
-          (after-loop .loop .left) (after-run .run .result) _ w (run-sequence T m (h .is) ρ (memoryOf l) (after-loop .loop .left) q)
+          (after-loop .loop .left) (after-run .run .result) _ w
+          (run-sequence T m (h .is) ρ (memoryOf l) (after-loop .loop .left) q)
           (c .before .before .if2 .left) (ready-first T m ρ (memoryOf l) h q),
       ready-later T m ρ (after-loop .loop .left) (after-run .run .result) l _ h q w,
       omega (arith, sequence-children source T m (h .is) q .1 .1, after-loop .loop .inv .2),
@@ -740,16 +767,21 @@ run-returns-2 t c =
     let after-loop = c .before .before .before .before .before in
     ran-is (after-loop .loop .inv .0 .rest) (ran-from (after-loop .loop .inv .0 .bytes) (c .run-single .ensures))
 
-run-inside-mark-requires : (t : ℕ) → run-inside-lts.Need-mark-requires (run-inside-claims t) (run-inside-at t) run-inside.Post
+run-inside-mark-requires : (t : ℕ)
+    → run-inside-lts.Need-mark-requires (run-inside-claims t) (run-inside-at t) run-inside.Post
 run-inside-mark-requires t c κs = c .before .before .pre .1 .within
 
-run-inside-cast-name-variable : (t : ℕ) → run-inside-lts.Need-cast-name-variable (run-inside-claims t) (run-inside-at t) run-inside.Post
-run-inside-cast-name-variable t c = record { fits = omega (arith, c .mark .ensures, c .before .before .before .pre .1 .mark) }
+run-inside-cast-name-variable : (t : ℕ)
+    → run-inside-lts.Need-cast-name-variable (run-inside-claims t) (run-inside-at t) run-inside.Post
+run-inside-cast-name-variable t c =
+    record { fits = omega (arith, c .mark .ensures, c .before .before .before .pre .1 .mark) }
 
-run-inside-name-variable-requires : (t : ℕ) → run-inside-lts.Need-name-variable-requires (run-inside-claims t) (run-inside-at t) run-inside.Post
+run-inside-name-variable-requires : (t : ℕ)
+    → run-inside-lts.Need-name-variable-requires (run-inside-claims t) (run-inside-at t) run-inside.Post
 run-inside-name-variable-requires t c κs = omega (arith, c .mark .ensures, c .before .before .before .pre .1 .mark)
 
-run-inside-child-a-requires : (t : ℕ) → run-inside-lts.Need-child-a-requires (run-inside-claims t) (run-inside-at t) run-inside.Post
+run-inside-child-a-requires : (t : ℕ)
+    → run-inside-lts.Need-child-a-requires (run-inside-claims t) (run-inside-at t) run-inside.Post
 run-inside-child-a-requires t c κs = c .before .before .before .before .before .pre .1 .within
 
 run-inside-run-requires : (t : ℕ) → run-inside-lts.Need-run-requires (run-inside-claims t) (run-inside-at t) run-inside.Post
@@ -811,7 +843,8 @@ run-inside-returns-2 t c =
       c .before .before .before .before .before .before .before .before .mark .ensures,
     ) at (c .before .before .run .ensures)) (c .if1 .left)
 
-run-single-kind-requires : (t : ℕ) → run-single-lts.Need-kind-requires (run-single-claims t) (run-single-at t) run-single.Post
+run-single-kind-requires : (t : ℕ)
+    → run-single-lts.Need-kind-requires (run-single-claims t) (run-single-at t) run-single.Post
 run-single-kind-requires t c κs =
     let s = c .before in
     let T = s .args .table .now in
@@ -821,16 +854,23 @@ run-single-kind-requires t c κs =
     let f = s .args .fuel in
     ready-within T n ρ (memoryOf l) (s .pre .1 .0)
 
-run-single-assign-requires : (t : ℕ) → run-single-lts.Need-assign-requires (run-single-claims t) (run-single-at t) run-single.Post
-run-single-assign-requires t c κs = (c .before .before .before .before .pre .1 .0, sym (c .before .before .kind .ensures) ∙ c .before .match .keys2)
+run-single-assign-requires : (t : ℕ)
+    → run-single-lts.Need-assign-requires (run-single-claims t) (run-single-at t) run-single.Post
+run-single-assign-requires t c κs =
+    (c .before .before .before .before .pre .1 .0, sym (c .before .before .kind .ensures) ∙ c .before .match .keys2)
 
-run-single-allocate-requires : (t : ℕ) → run-single-lts.Need-allocate-requires (run-single-claims t) (run-single-at t) run-single.Post
-run-single-allocate-requires t c κs = (c .before .before .before .before .pre .1 .0, sym (c .before .before .kind .ensures) ∙ c .before .match .keys3)
+run-single-allocate-requires : (t : ℕ)
+    → run-single-lts.Need-allocate-requires (run-single-claims t) (run-single-at t) run-single.Post
+run-single-allocate-requires t c κs =
+    (c .before .before .before .before .pre .1 .0, sym (c .before .before .kind .ensures) ∙ c .before .match .keys3)
 
-run-single-release-requires : (t : ℕ) → run-single-lts.Need-release-requires (run-single-claims t) (run-single-at t) run-single.Post
-run-single-release-requires t c κs = (c .before .before .before .before .pre .1 .0, sym (c .before .before .kind .ensures) ∙ c .before .match .keys4)
+run-single-release-requires : (t : ℕ)
+    → run-single-lts.Need-release-requires (run-single-claims t) (run-single-at t) run-single.Post
+run-single-release-requires t c κs =
+    (c .before .before .before .before .pre .1 .0, sym (c .before .before .kind .ensures) ∙ c .before .match .keys4)
 
-run-single-branch-requires : (t : ℕ) → run-single-lts.Need-branch-requires (run-single-claims t) (run-single-at t) run-single.Post
+run-single-branch-requires : (t : ℕ)
+    → run-single-lts.Need-branch-requires (run-single-claims t) (run-single-at t) run-single.Post
 run-single-branch-requires t c κs = (
   omega (arith, c .before .before .before .before .pre .0),
   (
@@ -840,7 +880,8 @@ run-single-branch-requires t c κs = (
   ),
 )
 
-run-single-repeat-requires : (t : ℕ) → run-single-lts.Need-repeat-requires (run-single-claims t) (run-single-at t) run-single.Post
+run-single-repeat-requires : (t : ℕ)
+    → run-single-lts.Need-repeat-requires (run-single-claims t) (run-single-at t) run-single.Post
 run-single-repeat-requires t c κs = (
   omega (arith, c .before .before .before .before .pre .0),
   (
@@ -850,7 +891,8 @@ run-single-repeat-requires t c κs = (
   ),
 )
 
-run-single-enclose-requires : (t : ℕ) → run-single-lts.Need-enclose-requires (run-single-claims t) (run-single-at t) run-single.Post
+run-single-enclose-requires : (t : ℕ)
+    → run-single-lts.Need-enclose-requires (run-single-claims t) (run-single-at t) run-single.Post
 run-single-enclose-requires t c κs = (
   omega (arith, c .before .before .before .before .pre .0),
   (
@@ -860,7 +902,8 @@ run-single-enclose-requires t c κs = (
   ),
 )
 
-run-single-assert-requires : (t : ℕ) → run-single-lts.Need-assert-requires (run-single-claims t) (run-single-at t) run-single.Post
+run-single-assert-requires : (t : ℕ)
+    → run-single-lts.Need-assert-requires (run-single-claims t) (run-single-at t) run-single.Post
 run-single-assert-requires t c κs =
     let s = c .before .before .before .before in
     let T = s .args .table .now in

@@ -17,14 +17,20 @@ use Rattle.plain_runs.proofs.allocate.Tie as tie
 find-a-requires : tie.Need-find-a-requires
 find-a-requires c κs =
     let s = c .before in
-    let T = s .args .table .now in
-    (ready-within T (s .args .n) _ _ (s .pre .0), target-place T (childA T (s .args .n)) (new-children source T (s .args .n) (s .pre .0 .is) (s .pre .1) .0 .2))
+    let T = s .args .table .now in (
+      ready-within T (s .args .n) _ _ (s .pre .0),
+      target-place T (childA T (s .args .n))
+          (new-children source T (s .args .n) (s .pre .0 .is) (s .pre .1) .0 .2),
+    )
 
 evaluate-b-requires : tie.Need-evaluate-b-requires
 evaluate-b-requires c κs =
     let s = c .before .before .before in
-    let T = s .args .table .now in
-    (ready-within T (s .args .n) _ _ (s .pre .0), target-expression T (childB T (s .args .n)) (new-children source T (s .args .n) (s .pre .0 .is) (s .pre .1) .1 .2))
+    let T = s .args .table .now in (
+      ready-within T (s .args .n) _ _ (s .pre .0),
+      target-expression T (childB T (s .args .n))
+          (new-children source T (s .args .n) (s .pre .0 .is) (s .pre .1) .1 .2),
+    )
 
 new-at-requires : tie.Need-new-at-requires
 new-at-requires c κs = tt
@@ -46,11 +52,18 @@ returns c =
     let τ = temporariesOf (s .args .temporaries .now) in
     let l = s .args .mem .now in
     let q = new-children source T n (s .pre .0 .is) (s .pre .1) in
-    ran-does (statementAt T n) ρ (s .args .fuel) n (allocated (memoryOf l) (c .before .before .before .before .before .find-a .result) (c .before .before .before .evaluate-b .result))
+    ran-does (statementAt T n) ρ (s .args .fuel) n
+    (allocated (memoryOf l) (c .before .before .before .before .before .find-a .result)
+    (c .before .before .before .evaluate-b .result))
     (c .before .new-at .result) (c .conclude .result) l (c .before .new-at .last .0)
     (run-new T n (s .pre .0 .is) ρ (memoryOf l) (s .args .fuel) (s .pre .1)
-    ∙ sym (ap (after n (s .args .fuel)) (ap₂ (allocated (memoryOf l)) (c .before .before .before .before .before .find-a .ensures ∙ found-alike T (childA T n) τ ρ (memoryOf l) (q .0 .2)) (c .before .before .before .evaluate-b .ensures ∙ evaluated-alike T (childB T n) τ ρ (memoryOf l) (q .1 .2)))))
+    ∙ sym (ap (after n (s .args .fuel))
+    (ap₂ (allocated (memoryOf l))
+    (c .before .before .before .before .before .find-a .ensures ∙ found-alike T (childA T n) τ ρ (memoryOf l)
+    (q .0 .2)) (c .before .before .before .evaluate-b .ensures ∙ evaluated-alike T (childB T n) τ ρ (memoryOf l)
+    (q .1 .2)))))
     (c .before .new-at .ensures) (c .conclude .ensures)
 
 pub allocate-spec : {M : Type 1} → statement M
-allocate-spec = tie.close (tie.spec find-a-requires evaluate-b-requires new-at-requires cast-conclude conclude-requires returns)
+allocate-spec =
+    tie.close (tie.spec find-a-requires evaluate-b-requires new-at-requires cast-conclude conclude-requires returns)

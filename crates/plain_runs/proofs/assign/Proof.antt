@@ -17,14 +17,20 @@ use Rattle.plain_runs.proofs.assign.Tie as tie
 find-a-requires : tie.Need-find-a-requires
 find-a-requires c κs =
     let s = c .before in
-    let T = s .args .table .now in
-    (ready-within T (s .args .n) _ _ (s .pre .0), target-place T (childA T (s .args .n)) (assign-children source T (s .args .n) (s .pre .0 .is) (s .pre .1) .0 .2))
+    let T = s .args .table .now in (
+      ready-within T (s .args .n) _ _ (s .pre .0),
+      target-place T (childA T (s .args .n))
+          (assign-children source T (s .args .n) (s .pre .0 .is) (s .pre .1) .0 .2),
+    )
 
 evaluate-b-requires : tie.Need-evaluate-b-requires
 evaluate-b-requires c κs =
     let s = c .before .before .before in
-    let T = s .args .table .now in
-    (ready-within T (s .args .n) _ _ (s .pre .0), target-expression T (childB T (s .args .n)) (assign-children source T (s .args .n) (s .pre .0 .is) (s .pre .1) .1 .2))
+    let T = s .args .table .now in (
+      ready-within T (s .args .n) _ _ (s .pre .0),
+      target-expression T (childB T (s .args .n))
+          (assign-children source T (s .args .n) (s .pre .0 .is) (s .pre .1) .1 .2),
+    )
 
 store-at-requires : tie.Need-store-at-requires
 store-at-requires c κs =
@@ -32,8 +38,11 @@ store-at-requires c κs =
     let T = s .args .table .now in
     let τ = temporariesOf (s .args .temporaries .now) in
     let l = s .args .mem .now in
-    rw (c .before .evaluate-b .ensures ∙ evaluated-alike T (childB T (s .args .n)) τ (variablesOf (s .args .variables .now)) (memoryOf l) (assign-children source T (s .args .n) (s .pre .0 .is) (s .pre .1) .1 .2))
-    (assign-fits T (s .args .n) (variablesOf (s .args .variables .now)) (memoryOf (s .args .mem .now)) (s .pre .0) (s .pre .1))
+    rw (c .before .evaluate-b .ensures ∙ evaluated-alike T (childB T (s .args .n)) τ
+    (variablesOf (s .args .variables .now)) (memoryOf l)
+    (assign-children source T (s .args .n) (s .pre .0 .is) (s .pre .1) .1 .2))
+    (assign-fits T (s .args .n) (variablesOf (s .args .variables .now)) (memoryOf (s .args .mem .now)) (s .pre .0)
+    (s .pre .1))
 
 cast-conclude : tie.Need-cast-conclude
 cast-conclude c =
@@ -52,11 +61,18 @@ returns c =
     let τ = temporariesOf (s .args .temporaries .now) in
     let l = s .args .mem .now in
     let q = assign-children source T n (s .pre .0 .is) (s .pre .1) in
-    ran-does (statementAt T n) ρ (s .args .fuel) n (assigned (memoryOf l) (c .before .before .before .before .before .find-a .result) (c .before .before .before .evaluate-b .result))
+    ran-does (statementAt T n) ρ (s .args .fuel) n
+    (assigned (memoryOf l) (c .before .before .before .before .before .find-a .result)
+    (c .before .before .before .evaluate-b .result))
     (c .before .store-at .result) (c .conclude .result) l (c .before .store-at .last .0)
     (run-assign T n (s .pre .0 .is) ρ (memoryOf l) (s .args .fuel) (s .pre .1)
-    ∙ sym (ap (after n (s .args .fuel)) (ap₂ (assigned (memoryOf l)) (c .before .before .before .before .before .find-a .ensures ∙ found-alike T (childA T n) τ ρ (memoryOf l) (q .0 .2)) (c .before .before .before .evaluate-b .ensures ∙ evaluated-alike T (childB T n) τ ρ (memoryOf l) (q .1 .2)))))
+    ∙ sym (ap (after n (s .args .fuel))
+    (ap₂ (assigned (memoryOf l))
+    (c .before .before .before .before .before .find-a .ensures ∙ found-alike T (childA T n) τ ρ (memoryOf l)
+    (q .0 .2)) (c .before .before .before .evaluate-b .ensures ∙ evaluated-alike T (childB T n) τ ρ (memoryOf l)
+    (q .1 .2)))))
     (c .before .store-at .ensures) (c .conclude .ensures)
 
 pub assign-spec : {M : Type 1} → statement M
-assign-spec = tie.close (tie.spec find-a-requires evaluate-b-requires store-at-requires cast-conclude conclude-requires returns)
+assign-spec =
+    tie.close (tie.spec find-a-requires evaluate-b-requires store-at-requires cast-conclude conclude-requires returns)

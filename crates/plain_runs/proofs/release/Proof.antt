@@ -17,8 +17,11 @@ use Rattle.plain_runs.proofs.release.Tie as tie
 evaluate-a-requires : tie.Need-evaluate-a-requires
 evaluate-a-requires c κs =
     let s = c .before in
-    let T = s .args .table .now in
-    (ready-within T (s .args .n) _ _ (s .pre .0), target-expression T (childA T (s .args .n)) (free-child source T (s .args .n) (s .pre .0 .is) (s .pre .1) .2))
+    let T = s .args .table .now in (
+      ready-within T (s .args .n) _ _ (s .pre .0),
+      target-expression T (childA T (s .args .n))
+          (free-child source T (s .args .n) (s .pre .0 .is) (s .pre .1) .2),
+    )
 
 free-at-requires : tie.Need-free-at-requires
 free-at-requires c κs = tt
@@ -42,7 +45,10 @@ returns c =
     ran-does (statementAt T n) ρ (s .args .fuel) n (freed (memoryOf l) (c .before .before .before .evaluate-a .result))
     (c .before .free-at .result) (c .conclude .result) l (c .before .free-at .last .0)
     (run-free T n (s .pre .0 .is) ρ (memoryOf l) (s .args .fuel) (s .pre .1)
-    ∙ sym (ap (after n (s .args .fuel)) (ap (freed (memoryOf l)) (c .before .before .before .evaluate-a .ensures ∙ evaluated-alike T (childA T n) τ ρ (memoryOf l) (free-child source T n (s .pre .0 .is) (s .pre .1) .2)))))
+    ∙ sym (ap (after n (s .args .fuel))
+    (ap (freed (memoryOf l))
+    (c .before .before .before .evaluate-a .ensures ∙ evaluated-alike T (childA T n) τ ρ (memoryOf l)
+    (free-child source T n (s .pre .0 .is) (s .pre .1) .2)))))
     (c .before .free-at .ensures) (c .conclude .ensures)
 
 pub release-spec : {M : Type 1} → statement M

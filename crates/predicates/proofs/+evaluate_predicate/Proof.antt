@@ -11,7 +11,9 @@ use Rattle.rules.specs.Layout.{memoryOf}
 use Rattle.rules.specs.Evaluation.{Variables}
 use Rattle.tables.specs.Within.{Within}
 use Rattle.evaluation.specs.State.{variablesOf}
-use Rattle.predicates.proofs.Arms.{within, valid-below, valid-arm, initialised-below, initialised-arm, compared-below, compared-arm, negated-below, negated-arm, Joined, is-joined, predicateAt, joined-arm}
+use Rattle.predicates.proofs.Arms.{within, valid-below, valid-arm, initialised-below, initialised-arm}
+use Rattle.predicates.proofs.Arms.{compared-below, compared-arm, negated-below, negated-arm, Joined, is-joined}
+use Rattle.predicates.proofs.Arms.{predicateAt, joined-arm}
 use Rattle.rules.specs.Records.{childB}
 use Prim.Native.Nat.{ℕ, _<_}
 use borrow.Fn.Kinds.{In}

@@ -11,7 +11,8 @@ use Rattle.rules.specs.Evaluation.{Variables}
 use Rattle.tables.specs.Within.{Within}
 use Rattle.evaluation.specs.State.{variablesOf}
 use Rattle.temporaries.specs.Bytes.{temporariesOf}
-use Rattle.predicates.proofs.Arms.{within, expression-below, value-arm, Asked, is-asked, asked-arm, combined-below, combined-arm}
+use Rattle.predicates.proofs.Arms.{within, expression-below, value-arm, Asked, is-asked, asked-arm}
+use Rattle.predicates.proofs.Arms.{combined-below, combined-arm}
 use Prim.Native.Nat.{ℕ, _<_}
 use borrow.Fn.Kinds.{In}
 use borrow.Fn.PlainCycle.{Measures, is, falls, and}

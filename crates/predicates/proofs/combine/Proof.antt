@@ -29,7 +29,8 @@ returns c =
     let o = c .before in
     let b = o .before .before in
     let a = b .before .before .before in
-    c .restate .ensures ∙ o .operate .ensures ∙ sym (ap₂ (operated (operatorOf (a .before .before .args .k))) (a .a .given .1)
+    c .restate .ensures ∙ o .operate .ensures ∙ sym
+    (ap₂ (operated (operatorOf (a .before .before .args .k))) (a .a .given .1)
     (b .b .given .1))
 
 returns-2 : tie.Need-returns-2

@@ -21,7 +21,8 @@ returns c =
     let i = s .args .inputs .now in
     let x : Lent = lent (s .args .out .now) (s .args .memory .now) (s .args .second .now) (s .args .observation .now) in
     refused-both t i (s .args .fuel) x 9 0 (c .refuse-both .result)
-    (accepted-runs t i (s .args .fuel) x true _ _ _ (s .pre) (sym (c .before .before .has-inputs-fault .ensures) ∙ c .before .if1 .taken) refl refl refl)
+    (accepted-runs t i (s .args .fuel) x true _ _ _ (s .pre)
+    (sym (c .before .before .has-inputs-fault .ensures) ∙ c .before .if1 .taken) refl refl refl)
     (c .refuse-both .ensures)
 
 refuse-both-requires-2 : tie.Need-refuse-both-requires-2
@@ -34,7 +35,8 @@ returns-2 c =
     let i = s .args .inputs .now in
     let x : Lent = lent (s .args .out .now) (s .args .memory .now) (s .args .second .now) (s .args .observation .now) in
     refused-both t i (s .args .fuel) x 21 0 (c .refuse-both2 .result)
-    (accepted-runs t i (s .args .fuel) x false true _ _ (s .pre) (sym (c .before .before .before .has-inputs-fault .ensures) ∙ c .before .before .if1 .left)
+    (accepted-runs t i (s .args .fuel) x false true _ _ (s .pre)
+    (sym (c .before .before .before .has-inputs-fault .ensures) ∙ c .before .before .if1 .left)
     (λ j. wrong-length (x .memory) 18424 (c .before .if2 .taken) j || memoryFault (x .second)) refl refl)
     (c .refuse-both2 .ensures)
 
@@ -48,8 +50,10 @@ returns-3 c =
     let i = s .args .inputs .now in
     let x : Lent = lent (s .args .out .now) (s .args .memory .now) (s .args .second .now) (s .args .observation .now) in
     refused-both t i (s .args .fuel) x 21 0 (c .refuse-both3 .result)
-    (accepted-runs t i (s .args .fuel) x false true _ _ (s .pre) (sym (c .before .before .before .before .has-inputs-fault .ensures) ∙ c .before .before .before .if1 .left)
-    (λ j. right-length (x .memory) 18424 (c .before .before .if2 .left) j || wrong-length (x .second) 18424 (c .before .if3 .taken) j)
+    (accepted-runs t i (s .args .fuel) x false true _ _ (s .pre)
+    (sym (c .before .before .before .before .has-inputs-fault .ensures) ∙ c .before .before .before .if1 .left)
+    (λ j. right-length (x .memory) 18424 (c .before .before .if2 .left) j || wrong-length (x .second) 18424
+    (c .before .if3 .taken) j)
     refl refl)
     (c .refuse-both3 .ensures)
 
@@ -63,8 +67,11 @@ returns-4 c =
     let i = s .args .inputs .now in
     let x : Lent = lent (s .args .out .now) (s .args .memory .now) (s .args .second .now) (s .args .observation .now) in
     refused-both t i (s .args .fuel) x 22 0 (c .refuse-both4 .result)
-    (accepted-runs t i (s .args .fuel) x false false true _ (s .pre) (sym (c .before .before .before .before .before .has-inputs-fault .ensures) ∙ c .before .before .before .before .if1 .left)
-    (λ j. right-length (x .memory) 18424 (c .before .before .before .if2 .left) j || right-length (x .second) 18424 (c .before .before .if3 .left) j)
+    (accepted-runs t i (s .args .fuel) x false false true _ (s .pre)
+    (sym (c .before .before .before .before .before .has-inputs-fault .ensures)
+    ∙ c .before .before .before .before .if1 .left)
+    (λ j. right-length (x .memory) 18424 (c .before .before .before .if2 .left) j || right-length (x .second) 18424
+    (c .before .before .if3 .left) j)
     (wrong-length (x .observation) 3064 (c .before .if4 .taken)) refl)
     (c .refuse-both4 .ensures)
 

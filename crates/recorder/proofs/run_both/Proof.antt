@@ -26,7 +26,8 @@ returns c =
 run-accepted-requires : tie.Need-run-accepted-requires
 run-accepted-requires c κs =
     let d = c .before .before .before .before in
-    zero-accepts source _ (sym (ap (λ (a : Answer). a .number) (d .before .before .recorder-check-source .ensures)) ∙ d .if1 .left)
+    zero-accepts source _
+    (sym (ap (λ (a : Answer). a .number) (d .before .before .recorder-check-source .ensures)) ∙ d .if1 .left)
 
 same-length : tie.Need-same-length
 same-length c = search needs

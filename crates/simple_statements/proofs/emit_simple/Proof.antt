@@ -7,7 +7,9 @@ use Rattle.rules.specs.Translation.{treeSize}
 use Rattle.simple_statements.specs.Statements.{savedTree, newTree}
 use Rattle.assertions.specs.Tests.{assertTree}
 use Rattle.emission.proofs.Emitting.{emitted-as}
-use Rattle.simple_statements.proofs.Statements.{skip-tree, assign-tree, new-tree, free-tree, assert-tree, statement-sort, statement-law, number-small, assert-levels, last-kind}
+use Rattle.simple_statements.proofs.Statements.{skip-tree, assign-tree, new-tree, free-tree, assert-tree}
+use Rattle.simple_statements.proofs.Statements.{statement-sort, statement-law, number-small, assert-levels}
+use Rattle.simple_statements.proofs.Statements.{last-kind}
 use borrow.Author.Needs.{needs}
 use Rattle.simple_statements.proofs.emit_simple.Statement.{statement}
 use Rattle.simple_statements.proofs.emit_simple.Tie as tie

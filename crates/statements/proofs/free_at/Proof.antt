@@ -28,17 +28,21 @@ enum-known-e-2 c = search needs
 returns : tie.Need-returns
 returns c =
     let l = c .before .before .before .before .before .args .mem .now in
-    does-is (ap (freed (memoryOf l)) (c .before .before .before .e .given .1 ∙ ap evaluated.Value (c .enum-told .given .1))) (does-stop 40 l)
+    does-is (ap (freed (memoryOf l))
+    (c .before .before .before .e .given .1 ∙ ap evaluated.Value (c .enum-told .given .1))) (does-stop 40 l)
 
 returns-2 : tie.Need-returns-2
 returns-2 c =
     let l = c .before .before .before .before .before .args .mem .now in
-    does-is (ap (freed (memoryOf l)) (c .before .before .before .e .given .1 ∙ ap evaluated.Value (c .enum-told2 .given .1))) (does-stop 40 l)
+    does-is (ap (freed (memoryOf l))
+    (c .before .before .before .e .given .1 ∙ ap evaluated.Value (c .enum-told2 .given .1))) (does-stop 40 l)
 
 returns-3 : tie.Need-returns-3
 returns-3 c =
     let l = c .before .before .before .before .before .before .before .before .args .mem .now in
-    does-is (ap (freed (memoryOf l)) (c .before .before .before .before .before .before .e .given .1 ∙ ap evaluated.Value (c .before .before .before .v .given .1)))
+    does-is (ap (freed (memoryOf l))
+    (c .before .before .before .before .before .before .e .given .1 ∙ ap evaluated.Value
+    (c .before .before .before .v .given .1)))
     (record { number = c .free .ensures .0; memory = c .free .ensures .1 })
 
 returns-4 : tie.Need-returns-4
@@ -47,4 +51,6 @@ returns-4 c =
     does-is (ap (freed (memoryOf l)) (c .before .e2 .given .1)) (does-stop _ l)
 
 pub free-at-spec : {M : Type 1} → statement M
-free-at-spec = tie.close (tie.spec enum-known-e enum-told enum-told-2 enum-known-v free-requires enum-known-e-2 returns returns-2 returns-3 returns-4)
+free-at-spec =
+    tie.close (tie.spec enum-known-e enum-told enum-told-2 enum-known-v free-requires enum-known-e-2 returns returns-2
+    returns-3 returns-4)

@@ -8,7 +8,8 @@ use mir.Val.{SFits}
 use mir.Facts.{toZ-ofZ}
 use Rattle.rules.specs.Layout.{observationOf}
 use Rattle.numbers.proofs.Integers.{magnitude-fits}
-use Rattle.stored_blocks.proofs.StoreLaws.{size-positive, size-range, sized-offset, sized-small, sized-large, sized-fits}
+use Rattle.stored_blocks.proofs.StoreLaws.{size-positive, size-range, sized-offset, sized-small, sized-large}
+use Rattle.stored_blocks.proofs.StoreLaws.{sized-fits}
 use Rattle.observation_answers.proofs.ArmLaws.{answers-refused, answers-same}
 
 returns : tie.Need-returns

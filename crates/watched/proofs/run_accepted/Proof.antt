@@ -1,6 +1,7 @@
 use mathlib.Core.Path.{sym, _∙_}
 use Rattle.buffers.proofs.EntryLaws.{memory-refused, memory-accepted}
-use Rattle.watched.proofs.EntryLaws.{observation-refused, observation-accepted, refuse-inputs, refuse-memory, refuse-observation, run-both}
+use Rattle.watched.proofs.EntryLaws.{observation-refused, observation-accepted, refuse-inputs, refuse-memory}
+use Rattle.watched.proofs.EntryLaws.{refuse-observation, run-both}
 use borrow.Author.Needs.{needs}
 use Rattle.watched.proofs.run_accepted.Statement.{statement}
 use Rattle.watched.proofs.run_accepted.Tie as tie

@@ -18,8 +18,10 @@ use Rattle.evaluation.specs.State.{variablesOf}
 use Rattle.temporaries.specs.Bytes.{temporariesOf}
 use Rattle.watched_statements.specs.Watching.{lent, Ready}
 use Rattle.watched_statements.proofs.Laws.{kept-same, kept-memory, ran-is, ran-from, ran-finished, ran-ended, next-stays}
-use Rattle.watched_statements.proofs.ReadyLaws.{ready-within, ready-first, ready-later, branch-parts, ready-then, ready-else, ready-turn, ready-made}
-use Rattle.watched_runs.proofs.MemberLaws.{branch-by, turn-by, turn-out, let-made, let-unmade, Remaining, part-ends, part-finishes, part-spends, inside-ends}
+use Rattle.watched_statements.proofs.ReadyLaws.{ready-within, ready-first, ready-later, branch-parts, ready-then}
+use Rattle.watched_statements.proofs.ReadyLaws.{ready-else, ready-turn, ready-made}
+use Rattle.watched_runs.proofs.MemberLaws.{branch-by, turn-by, turn-out, let-made, let-unmade, Remaining}
+use Rattle.watched_runs.proofs.MemberLaws.{part-ends, part-finishes, part-spends, inside-ends}
 use borrow.Fn.Kinds.{In}
 use borrow.Fn.PlainCycle.{Measures, is, falls, and}
 use Rattle.watched_runs.proofs.branch.Reads as branch
@@ -847,7 +849,8 @@ run-inside-returns-2 t c =
       after-mark .mark .ensures,
     ) at (after-run .run .ensures)) (c .if1 .left)
 
-run-single-kind-requires : (t : ℕ) → run-single-lts.Need-kind-requires (run-single-claims t) (run-single-at t) run-single.Post
+run-single-kind-requires : (t : ℕ)
+    → run-single-lts.Need-kind-requires (run-single-claims t) (run-single-at t) run-single.Post
 run-single-kind-requires t c κs =
     let s = c .before in
     let T = s .args .table .now in
@@ -856,28 +859,32 @@ run-single-kind-requires t c κs =
     let x = lent (s .args .mem .now) (s .args .obs .now) (s .args .temporaries .now) in
     ready-within T n ρ x (s .pre .1 .0)
 
-run-single-branch-requires : (t : ℕ) → run-single-lts.Need-branch-requires (run-single-claims t) (run-single-at t) run-single.Post
+run-single-branch-requires : (t : ℕ)
+    → run-single-lts.Need-branch-requires (run-single-claims t) (run-single-at t) run-single.Post
 run-single-branch-requires t c κs =
     let after-match = c .before .before .before in
     let after-kind = after-match .before in
     let s = after-kind .before .before in
     (omega (arith, s .pre .0), (s .pre .1 .0, rw (after-kind .kind .ensures) at (after-match .match .keys1)))
 
-run-single-repeat-requires : (t : ℕ) → run-single-lts.Need-repeat-requires (run-single-claims t) (run-single-at t) run-single.Post
+run-single-repeat-requires : (t : ℕ)
+    → run-single-lts.Need-repeat-requires (run-single-claims t) (run-single-at t) run-single.Post
 run-single-repeat-requires t c κs =
     let after-match = c .before .before .before in
     let after-kind = after-match .before in
     let s = after-kind .before .before in
     (omega (arith, s .pre .0), (s .pre .1 .0, sym (after-kind .kind .ensures) ∙ after-match .match .keys2))
 
-run-single-enclose-requires : (t : ℕ) → run-single-lts.Need-enclose-requires (run-single-claims t) (run-single-at t) run-single.Post
+run-single-enclose-requires : (t : ℕ)
+    → run-single-lts.Need-enclose-requires (run-single-claims t) (run-single-at t) run-single.Post
 run-single-enclose-requires t c κs =
     let after-match = c .before .before .before in
     let after-kind = after-match .before in
     let s = after-kind .before .before in
     (omega (arith, s .pre .0), (s .pre .1 .0, sym (after-kind .kind .ensures) ∙ after-match .match .keys3))
 
-run-single-step-requires : (t : ℕ) → run-single-lts.Need-step-requires (run-single-claims t) (run-single-at t) run-single.Post
+run-single-step-requires : (t : ℕ)
+    → run-single-lts.Need-step-requires (run-single-claims t) (run-single-at t) run-single.Post
 run-single-step-requires t c κs =
     let after-match = c .before .before .before in
     let after-kind = after-match .before in

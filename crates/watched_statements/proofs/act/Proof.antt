@@ -6,12 +6,14 @@ use Rattle.rules.specs.Evaluation.{condition}
 use Rattle.rules.specs.Watched.{heldIn}
 use Rattle.rules.specs.Layout.{memoryOf, observationOf}
 use Rattle.rules.proofs.TargetFields.{statementAt, numberAt}
-use Rattle.rules.proofs.TargetArms.{watch-skip, watch-assign, watch-new, watch-free, watch-address, watch-value, watch-assert-on}
+use Rattle.rules.proofs.TargetArms.{watch-skip, watch-assign, watch-new, watch-free, watch-address, watch-value}
+use Rattle.rules.proofs.TargetArms.{watch-assert-on}
 use Rattle.evaluation.specs.State.{variablesOf}
 use Rattle.temporaries.specs.Bytes.{temporariesOf}
 use Rattle.watched_statements.specs.Watching.{lent}
 use Rattle.watched_statements.proofs.Laws.{ran-is, ran-finished}
-use Rattle.watched_statements.proofs.ActLaws.{watch-take, watch-note, take-between, last-act, acts-change, acts-taken, acts-observed, acts-asserted}
+use Rattle.watched_statements.proofs.ActLaws.{watch-take, watch-note, take-between, last-act, acts-change}
+use Rattle.watched_statements.proofs.ActLaws.{acts-taken, acts-observed, acts-asserted}
 use Rattle.watched_statements.proofs.ReadyLaws.{ready-within, assign-fits}
 use Rattle.watched_statements.proofs.act.Statement.{statement}
 use Rattle.watched_statements.proofs.act.Tie as tie
@@ -62,8 +64,11 @@ take-requires : tie.Need-take-requires
 take-requires c κs =
     let after-if2 = c .before .before in
     let after-if1 = after-if2 .before in
-    let after-kind = after-if1 .before .before in
-    (after-kind .before .before .pre .0 .is, rw (after-kind .kind .ensures) at (take-between _ (after-if1 .if1 .left) (after-if2 .if2 .taken)))
+    let after-kind = after-if1 .before .before in (
+      after-kind .before .before .pre .0 .is,
+      rw (after-kind .kind .ensures) at
+          (take-between _ (after-if1 .if1 .left) (after-if2 .if2 .taken)),
+    )
 
 note-requires : tie.Need-note-requires
 note-requires c κs =

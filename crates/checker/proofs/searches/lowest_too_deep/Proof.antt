@@ -15,7 +15,8 @@ use Rattle.forms.specs.Codes.{languageOf}
 use Rattle.checker.specs.Scopes.{bit, outOfScope, tooDeep, Kept}
 use Rattle.rules.proofs.ParentLaws.{Passed, IsParent}
 use Rattle.checker.proofs.DescentLaws.{passed-of, Known, known-start, known-here, known-down}
-use Rattle.checker.proofs.RightLaws.{Scoped, mark-used, mark-let, scoped-last, scoped-child, scoped-fault, Levelled, level-most, levelled-last, levelled-child, levelled-fault}
+use Rattle.checker.proofs.RightLaws.{Scoped, mark-used, mark-let, scoped-last, scoped-child, scoped-fault}
+use Rattle.checker.proofs.RightLaws.{Levelled, level-most, levelled-last, levelled-child, levelled-fault}
 use Rattle.checker.proofs.Starts.{scopes-start, levels-start}
 use Rattle.checker.proofs.Lowest.{Lowest, lowest-start, lowest-down, lowest-end}
 use Rattle.checker.proofs.searches.lowest_too_deep.Statement.{statement}
