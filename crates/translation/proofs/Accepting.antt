@@ -13,7 +13,8 @@ use Rattle.rules.specs.Kinds.{source, statement}
 use Rattle.rules.specs.Checker.{check}
 use Rattle.rules.specs.declared.Checked.the-variants as checked
 use Rattle.rules.specs.Nodes.{sourceStatement, nodeAt, sourceProgram}
-use Rattle.rules.specs.Trees.{Term, value, asked, combined, Predicate, holds, compared, negated, both, either, Statement}
+use Rattle.rules.specs.Trees.{Term, value, asked, combined, Statement}
+use Rattle.rules.specs.Trees.{Predicate, holds, compared, negated, both, either}
 use Rattle.rules.specs.Trees as tree
 use Rattle.rules.specs.Answers.{answer, Translated, translatedInto}
 use Rattle.rules.specs.Words.{put}

@@ -13,7 +13,7 @@ use Rattle.rules.proofs.Standing.{stands-at}
 use Rattle.sizes.specs.Trees.{targetTree, copyAt, sortAt}
 use Rattle.emission.specs.Emission.{sequenceTree}
 use Rattle.simple_statements.specs.Statements.{StatementLevels, StatementNode, StatementAt}
-use Rattle.translation.specs.Lets.{overTree, letTree}
+use Rattle.translation.specs.Lets.{overTree, endingTree, letTree, insideTree}
 use Rattle.emission.proofs.Emitting.{Some, some, statement-some}
 use Rattle.emission.proofs.Copying.{copy-at}
 use Rattle.sizes.proofs.Sizes.{none-at, tree-as}
@@ -106,6 +106,30 @@ module _ (t : List ℕ) (n : ℕ) (l : StatementAt t n) where
             (sequenceTree n (overTree 10 x (pos 0) n 60 0) (node 69 0 (pos n) 0 (z i) (z i) none))))))
             none none),
       )
+
+-- the same where the children were read
+module _ (t : List ℕ) (n : ℕ) (l : StatementAt t n) where
+  pub sequence-read : {a b : ℕ} → kindOf t n ≡ 44 → a ≡ childA t n → b ≡ childB t n
+      → (a < n) × (b < n) × StatementAt t a × StatementAt t b × (copyAt t n ≡ sequenceTree n (copyAt t a) (copyAt t b))
+  sequence-read d e f = rw (e, f) (sequence-tree t n l d)
+
+  pub branch-read : {a b c : ℕ} → kindOf t n ≡ 45 → a ≡ childA t n → b ≡ childB t n → c ≡ childC t n
+      → (b < n) × (c < n) × ((1 ≤ sortAt t a) × (sortAt t a ≤ 2)) × StatementAt t b × StatementAt t c
+      × (copyAt t n ≡ node 45 0 (pos n) 0 (copyAt t a) (copyAt t b) (copyAt t c))
+  branch-read d e f g = rw (e, f, g) (branch-tree t n l d)
+
+  pub while-read : {a b : ℕ} → kindOf t n ≡ 46 → a ≡ childA t n → b ≡ childB t n
+      → (b < n) × ((1 ≤ sortAt t a) × (sortAt t a ≤ 2)) × StatementAt t b
+      × (copyAt t n ≡ node 46 0 (pos n) 0 (copyAt t a) (copyAt t b) none)
+  while-read d e f = rw (e, f) (while-tree t n l d)
+
+  pub let-read : {x : ℕ} → kindOf t n ≡ 47 → x ≡ markOf t n
+      → copyAt t n ≡ letTree t n x (copyAt t (childA t n))
+  let-read d e = rw e (let-tree t n l d .2)
+
+  pub inside-read : {a : ℕ} (x : ℕ) → kindOf t n ≡ 47 → a ≡ childA t n → (a < n) × StatementAt t a
+      × (insideTree t n x ≡ sequenceTree n (copyAt t a) (endingTree t n x))
+  inside-read x d e = let h = let-tree t n l d in rw e (h .0, h .1, refl)
 
 pub statement-has : (t : List ℕ) (n : ℕ) → StatementAt t n → Some (copyAt t n)
 statement-has t n l = go (nodeAt source t n) l

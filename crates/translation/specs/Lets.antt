@@ -1,9 +1,11 @@
 -- What is emitted for a let.
-use Prim.Native.Nat.{ℕ}
+use Prim.Native.Nat.{ℕ, _+_}
 use mathlib.Core.List.{List}
 use lib.IntN.{ℤ, pos}
 use Rattle.rules.specs.Translation.{RecordTree, none, node}
-use Rattle.emission.specs.Emission.{sequenceTree, partTree}
+use Rattle.rules.specs.Records.{childA}
+use Rattle.sizes.specs.Trees.{copyAt}
+use Rattle.emission.specs.Emission.{recordOf, withRecord, withTree, sequenceTree, partTree}
 
 -- a record over a leaf
 abbrev pub overTree : ℕ → ℕ → ℤ → ℕ → ℕ → ℕ → RecordTree
@@ -21,3 +23,25 @@ letTree t s x b =
     (sequenceTree s (overTree 1 0 (pos 1) s 61 1)
     (sequenceTree s (partTree t s 68 0 0 0 0) (sequenceTree s b (endingTree t s x)))))
     none none
+
+-- "body; 60 t0 variable; 69 t0", where record s is the let
+abbrev pub insideTree : List ℕ → ℕ → ℕ → RecordTree
+insideTree t s x = sequenceTree s (copyAt t (childA t s)) (endingTree t s x)
+
+-- the output with the five records in front of a let's body
+abbrev pub withOpening : List ℕ → List ℕ → ℕ → ℕ → ℕ → List ℕ
+withOpening t o at s x =
+    withTree (withTree (withTree o at (overTree 10 x (pos 0) s 60 0)) (at + 2) (overTree 1 0 (pos 1) s 61 1)) (at + 4)
+    (partTree t s 68 0 0 0 0)
+
+-- the output with a sequence of what ends with record `first` and all behind it
+abbrev pub withSequence : List ℕ → ℕ → ℕ → ℕ → List ℕ
+withSequence o at first s = withRecord o at (recordOf 44 0 first at 0 (pos s))
+
+-- the output with the sequences of a let's parts and its own record
+abbrev pub withEnclosing : List ℕ → ℕ → ℕ → ℕ → ℕ → List ℕ
+withEnclosing o at first s x =
+    withRecord
+    (withSequence (withSequence (withSequence o at (first + 5) s) (at + 1) (first + 4) s) (at + 2) (first + 2) s)
+    (at + 3)
+    (recordOf 47 x (at + 3) 0 0 (pos s))

@@ -1,15 +1,17 @@
 // A source table's translation: its record count, then its records, by recursion on the record number.
 use rules::Answer;
 ghost use mathlib.Core.Path.{_≡_};
-ghost use Prim.Native.Nat.{_≤_};
+ghost use Prim.Native.Nat.{_+_, _*_, _≤_};
+ghost use lib.ListN.{length};
 ghost use Rattle.rules.specs.Translation.{translation};
 ghost use Rattle.rules.specs.Kinds.{source};
+ghost use Rattle.rules.specs.Records.{kindOf};
 ghost use Rattle.rules.specs.Checker.{check};
 ghost use Rattle.rules.specs.Answers.{translatedInto};
 ghost use Rattle.rules.specs.declared.Checked.the-variants as checked;
 ghost use Rattle.emission.specs.Emission.{Room, Emitted};
 ghost use Rattle.sizes.specs.Trees.{copyAt};
-ghost use Rattle.translation.specs.Lets.{overTree, endingTree};
+ghost use Rattle.translation.specs.Lets.{overTree, endingTree, insideTree, withOpening, withEnclosing};
 ghost use Rattle.simple_statements.specs.Statements.{StatementAt};
 
 // A record without children, then one of statement s over it.
@@ -40,51 +42,106 @@ fn emit_ending(table: &[u8], out: &mut [u8], at: usize, variable: u8, s: usize) 
     emission::emit_sequence(out, q, p, s)
 }
 
+// What stands in front of a let's body: the block of one cell is recorded.
+fn emit_opening(table: &[u8], out: &mut [u8], at: usize, variable: u8, s: usize) -> usize
+    requires { ⌜ s ≤ 256 ⌝ ∗ ⌜ 16 * (at + 5) ≤ length (now out) ⌝ }
+    ensures bytes { λ _. ⌜ now (out .exit) ≡ withOpening (now (table .entry)) (now (out .entry)) at s variable ⌝ }
+    ensures count { λ r. ⌜ r ≡ at + 5 ⌝ }
+{
+    let p = emit_over(out, at, 10, variable, 0, 60, 0, s);
+    let q = emit_over(out, p, 1, 0, 1, 61, 1, s);
+    emission::emit_part(table, out, q, 68, 0, 0, 0, 0, s)
+}
+
+// The sequences of a let whose opening starts behind record `first`, then the let's own record.
+fn emit_enclosing(out: &mut [u8], at: usize, first: usize, variable: u8, s: usize) -> usize
+    requires { ⌜ s ≤ 256 ⌝ ∗ ⌜ first + 5 ≤ at ⌝ ∗ ⌜ 16 * (at + 4) ≤ length (now out) ⌝ }
+    ensures bytes { λ _. ⌜ now (out .exit) ≡ withEnclosing (now (out .entry)) at first s variable ⌝ }
+    ensures count { λ r. ⌜ r ≡ at + 4 ⌝ }
+{
+    let x = emission::emit_sequence(out, at, first + 5, s);
+    let y = emission::emit_sequence(out, x, first + 4, s);
+    let z = emission::emit_sequence(out, y, first + 2, s);
+    emission::emit_record(out, z, 47, variable, z, 0, 0, s as i64)
+}
+
 // A statement.
 fn emit_statement(table: &[u8], n: usize, out: &mut [u8], at: usize) -> usize
     requires { ⌜ StatementAt (now table) n ⌝ ∗ ⌜ Room (now out) at (copyAt (now table) n) ⌝ }
     ensures { λ r. ⌜ Emitted (now (out .entry)) at (copyAt (now (table .entry)) n) (now (out .exit)) r ⌝ }
 {
     match tables::kind(table, n) {
-        44 => {
-            let a = tables::child_a(table, n);
-            let b = tables::child_b(table, n);
-            let x = emit_statement(table, a, out, at);
-            let y = emit_statement(table, b, out, x);
-            emission::emit_sequence(out, y, x, n)
-        }
-        45 => {
-            let a = tables::child_a(table, n);
-            let b = tables::child_b(table, n);
-            let c = tables::child_c(table, n);
-            let x = emission::copy(table, a, out, at);
-            let y = emit_statement(table, b, out, x);
-            let z = emit_statement(table, c, out, y);
-            emission::emit_record(out, z, 45, 0, x, y, z, n as i64)
-        }
-        46 => {
-            let a = tables::child_a(table, n);
-            let b = tables::child_b(table, n);
-            let x = emission::copy(table, a, out, at);
-            let y = emit_statement(table, b, out, x);
-            emission::emit_record(out, y, 46, 0, x, y, 0, n as i64)
-        }
-        47 => {
-            let a = tables::child_a(table, n);
-            let v = tables::mark(table, n);
-            let p = emit_over(out, at, 10, v, 0, 60, 0, n);
-            let q = emit_over(out, p, 1, 0, 1, 61, 1, n);
-            let x = emission::emit_part(table, out, q, 68, 0, 0, 0, 0, n);
-            let y = emit_statement(table, a, out, x);
-            let e = emit_ending(table, out, y, v, n);
-            let f = emission::emit_sequence(out, e, y, n);
-            let g = emission::emit_sequence(out, f, x, n);
-            let h = emission::emit_sequence(out, g, q, n);
-            let i = emission::emit_sequence(out, h, p, n);
-            emission::emit_record(out, i, 47, v, i, 0, 0, n as i64)
-        }
+        44 => emit_then(table, n, out, at),
+        45 => emit_branch(table, n, out, at),
+        46 => emit_repeat(table, n, out, at),
+        47 => emit_let(table, n, out, at),
         _ => simple_statements::emit_simple(table, n, out, at),
     }
+}
+
+// Statements A and B.
+fn emit_then(table: &[u8], n: usize, out: &mut [u8], at: usize) -> usize
+    requires { ⌜ StatementAt (now table) n ⌝ ∗ ⌜ kindOf (now table) n ≡ 44 ⌝
+        ∗ ⌜ Room (now out) at (copyAt (now table) n) ⌝ }
+    ensures { λ r. ⌜ Emitted (now (out .entry)) at (copyAt (now (table .entry)) n) (now (out .exit)) r ⌝ }
+{
+    let a = tables::child_a(table, n);
+    let b = tables::child_b(table, n);
+    let x = emit_statement(table, a, out, at);
+    let y = emit_statement(table, b, out, x);
+    emission::emit_sequence(out, y, x, n)
+}
+
+// Statement B where A holds, else C.
+fn emit_branch(table: &[u8], n: usize, out: &mut [u8], at: usize) -> usize
+    requires { ⌜ StatementAt (now table) n ⌝ ∗ ⌜ kindOf (now table) n ≡ 45 ⌝
+        ∗ ⌜ Room (now out) at (copyAt (now table) n) ⌝ }
+    ensures { λ r. ⌜ Emitted (now (out .entry)) at (copyAt (now (table .entry)) n) (now (out .exit)) r ⌝ }
+{
+    let a = tables::child_a(table, n);
+    let b = tables::child_b(table, n);
+    let c = tables::child_c(table, n);
+    let x = emission::copy(table, a, out, at);
+    let y = emit_statement(table, b, out, x);
+    let z = emit_statement(table, c, out, y);
+    emission::emit_record(out, z, 45, 0, x, y, z, n as i64)
+}
+
+// Statement B for as long as A holds.
+fn emit_repeat(table: &[u8], n: usize, out: &mut [u8], at: usize) -> usize
+    requires { ⌜ StatementAt (now table) n ⌝ ∗ ⌜ kindOf (now table) n ≡ 46 ⌝
+        ∗ ⌜ Room (now out) at (copyAt (now table) n) ⌝ }
+    ensures { λ r. ⌜ Emitted (now (out .entry)) at (copyAt (now (table .entry)) n) (now (out .exit)) r ⌝ }
+{
+    let a = tables::child_a(table, n);
+    let b = tables::child_b(table, n);
+    let x = emission::copy(table, a, out, at);
+    let y = emit_statement(table, b, out, x);
+    emission::emit_record(out, y, 46, 0, x, y, 0, n as i64)
+}
+
+// Statement A, with a block of one cell for the variable.
+fn emit_let(table: &[u8], n: usize, out: &mut [u8], at: usize) -> usize
+    requires { ⌜ StatementAt (now table) n ⌝ ∗ ⌜ kindOf (now table) n ≡ 47 ⌝
+        ∗ ⌜ Room (now out) at (copyAt (now table) n) ⌝ }
+    ensures { λ r. ⌜ Emitted (now (out .entry)) at (copyAt (now (table .entry)) n) (now (out .exit)) r ⌝ }
+{
+    let v = tables::mark(table, n);
+    let x = emit_opening(table, out, at, v, n);
+    let y = emit_inside(table, n, out, x, v);
+    emit_enclosing(out, y, at, v, n)
+}
+
+// Child A of statement n, then the end of the variable's block.
+fn emit_inside(table: &[u8], n: usize, out: &mut [u8], at: usize, variable: u8) -> usize
+    requires { ⌜ StatementAt (now table) n ⌝ ∗ ⌜ kindOf (now table) n ≡ 47 ⌝
+        ∗ ⌜ Room (now out) at (insideTree (now table) n variable) ⌝ }
+    ensures { λ r. ⌜ Emitted (now (out .entry)) at (insideTree (now (table .entry)) n variable) (now (out .exit)) r ⌝ }
+{
+    let a = tables::child_a(table, n);
+    let x = emit_statement(table, a, out, at);
+    let y = emit_ending(table, out, x, variable, n);
+    emission::emit_sequence(out, y, x, n)
 }
 
 // An accepted table's translation: 20 where the output does not hold it.

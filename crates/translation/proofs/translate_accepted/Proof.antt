@@ -1,7 +1,8 @@
 -- `translation::translate_accepted` meets its contract. Assumes nothing.
 use native.Mathlib.Omega.{arith}
 use denote.Ref.{now}
-use Rattle.translation.proofs.Accepting.{accepted-sorted, accepted-size, accepted-statement, too-short, long-enough}
+use Rattle.translation.proofs.Accepting.{accepted-sorted, accepted-size, accepted-statement}
+use Rattle.translation.proofs.Accepting.{too-short, long-enough}
 use borrow.Author.Needs.{needs}
 use Rattle.translation.proofs.translate_accepted.Statement.{statement}
 use Rattle.translation.proofs.translate_accepted.Tie as tie
