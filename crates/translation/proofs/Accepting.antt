@@ -1,7 +1,7 @@
 -- What an accepted table hands to the translator: a statement to emit, its size, and that its tree is the translation.
 use Prim.Native.Nat.{ℕ, suc, _*_, _/_, _≤_, _<_}
 use native.Mathlib.Omega.{arith}
-use mathlib.Core.Path.{_≡_, refl, sym, ap, _∙_, subst}
+use mathlib.Core.Path.{_≡_, sym, ap, _∙_}
 use mathlib.Core.List.{List}
 use mathlib.Core.Bool.{Bool, true, false}
 use mathlib.Core.Logic.{inr}
@@ -12,7 +12,7 @@ use Rattle.rules.specs.Records.{recordCount, tableBytes}
 use Rattle.rules.specs.Kinds.{source, statement}
 use Rattle.rules.specs.Checker.{check}
 use Rattle.rules.specs.declared.Checked.the-variants as checked
-use Rattle.rules.specs.Nodes.{sourceStatement, nodeAt, sourceProgram}
+use Rattle.rules.specs.Nodes.{nodeAt, sourceProgram}
 use Rattle.rules.specs.Trees.{Term, value, asked, combined, Statement}
 use Rattle.rules.specs.Trees.{Predicate, holds, compared, negated, both, either}
 use Rattle.rules.specs.Trees as tree

@@ -34,7 +34,7 @@ module _ (t : List ℕ) (n : ℕ) (l : StatementAt t n) where
   below : (x : ℕ) → sortAt t x ≡ 5 → StatementLevels (sourceStatement (nodeAt source t x)) → StatementAt t x
   below x d h = statement-as (nodeAt source t x) d h
 
-  pub sequence-tree : kindOf t n ≡ 44 → (childA t n < n) × (childB t n < n) × StatementAt t (childA t n)
+  sequence-tree : kindOf t n ≡ 44 → (childA t n < n) × (childB t n < n) × StatementAt t (childA t n)
       × StatementAt t (childB t n) × (copyAt t n ≡ sequenceTree n (copyAt t (childA t n)) (copyAt t (childB t n)))
   unfolding translate statementTree
   sequence-tree d =
@@ -49,7 +49,7 @@ module _ (t : List ℕ) (n : ℕ) (l : StatementAt t n) where
         ap (λ (y : SourceNode). targetTree y 0 0) (h .node) ∙ (λ i. sequenceTree n (a i) (b i)),
       )
 
-  pub branch-tree : kindOf t n ≡ 45
+  branch-tree : kindOf t n ≡ 45
       → (childB t n < n) × (childC t n < n) × ((1 ≤ sortAt t (childA t n)) × (sortAt t (childA t n) ≤ 2))
       × StatementAt t (childB t n) × StatementAt t (childC t n)
       × (copyAt t n ≡ node 45 0 (pos n) 0 (copyAt t (childA t n)) (copyAt t (childB t n)) (copyAt t (childC t n)))
@@ -69,7 +69,7 @@ module _ (t : List ℕ) (n : ℕ) (l : StatementAt t n) where
         ap (λ (y : SourceNode). targetTree y 0 0) (h .node) ∙ (λ i. node 45 0 (pos n) 0 (a i) (b i) (c i)),
       )
 
-  pub while-tree : kindOf t n ≡ 46
+  while-tree : kindOf t n ≡ 46
       → (childB t n < n) × ((1 ≤ sortAt t (childA t n)) × (sortAt t (childA t n) ≤ 2)) × StatementAt t (childB t n)
       × (copyAt t n ≡ node 46 0 (pos n) 0 (copyAt t (childA t n)) (copyAt t (childB t n)) none)
   unfolding translate statementTree
@@ -85,7 +85,7 @@ module _ (t : List ℕ) (n : ℕ) (l : StatementAt t n) where
         ap (λ (y : SourceNode). targetTree y 0 0) (h .node) ∙ (λ i. node 46 0 (pos n) 0 (a i) (b i) none),
       )
 
-  pub let-tree : kindOf t n ≡ 47 → (childA t n < n) × StatementAt t (childA t n)
+  let-tree : kindOf t n ≡ 47 → (childA t n < n) × StatementAt t (childA t n)
       × (copyAt t n ≡ letTree t n (markOf t n) (copyAt t (childA t n)))
   unfolding translate statementTree expressionTree
   let-tree d =

@@ -1,7 +1,7 @@
 -- The records in front of a let's body, those of the body and those behind it are the let's tree.
 use Prim.Native.Nat.{ℕ, _+_}
 use native.Mathlib.Omega.{arith}
-use mathlib.Core.Path.{_≡_, refl, sym, ap, _∙_, subst}
+use mathlib.Core.Path.{_≡_, refl, sym, ap, _∙_}
 use mathlib.Core.List.{List}
 use lib.IntN.{pos}
 use Rattle.rules.specs.Records.{childA}

@@ -42,7 +42,7 @@ fn emit_ending(table: &[u8], out: &mut [u8], at: usize, variable: u8, s: usize) 
     emission::emit_sequence(out, q, p, s)
 }
 
-// What stands in front of a let's body: the block of one cell is recorded.
+// In front of a let's body its block is recorded: five records.
 fn emit_opening(table: &[u8], out: &mut [u8], at: usize, variable: u8, s: usize) -> usize
     requires { ⌜ s ≤ 256 ⌝ ∗ ⌜ 16 * (at + 5) ≤ length (now out) ⌝ }
     ensures bytes { λ _. ⌜ now (out .exit) ≡ withOpening (now (table .entry)) (now (out .entry)) at s variable ⌝ }
@@ -53,7 +53,8 @@ fn emit_opening(table: &[u8], out: &mut [u8], at: usize, variable: u8, s: usize)
     emission::emit_part(table, out, q, 68, 0, 0, 0, 0, s)
 }
 
-// The sequences of a let whose opening starts behind record `first`, then the let's own record.
+// Behind a let's body a sequence for each part in front of it, of which the first starts behind record `first`,
+// then the let's own record.
 fn emit_enclosing(out: &mut [u8], at: usize, first: usize, variable: u8, s: usize) -> usize
     requires { ⌜ s ≤ 256 ⌝ ∗ ⌜ first + 5 ≤ at ⌝ ∗ ⌜ 16 * (at + 4) ≤ length (now out) ⌝ }
     ensures bytes { λ _. ⌜ now (out .exit) ≡ withEnclosing (now (out .entry)) at first s variable ⌝ }
@@ -79,7 +80,7 @@ fn emit_statement(table: &[u8], n: usize, out: &mut [u8], at: usize) -> usize
     }
 }
 
-// Statements A and B.
+// A, then B.
 fn emit_then(table: &[u8], n: usize, out: &mut [u8], at: usize) -> usize
     requires { ⌜ StatementAt (now table) n ⌝ ∗ ⌜ kindOf (now table) n ≡ 44 ⌝
         ∗ ⌜ Room (now out) at (copyAt (now table) n) ⌝ }
@@ -92,7 +93,7 @@ fn emit_then(table: &[u8], n: usize, out: &mut [u8], at: usize) -> usize
     emission::emit_sequence(out, y, x, n)
 }
 
-// Statement B where A holds, else C.
+// B where condition A is true, else C.
 fn emit_branch(table: &[u8], n: usize, out: &mut [u8], at: usize) -> usize
     requires { ⌜ StatementAt (now table) n ⌝ ∗ ⌜ kindOf (now table) n ≡ 45 ⌝
         ∗ ⌜ Room (now out) at (copyAt (now table) n) ⌝ }
@@ -107,7 +108,7 @@ fn emit_branch(table: &[u8], n: usize, out: &mut [u8], at: usize) -> usize
     emission::emit_record(out, z, 45, 0, x, y, z, n as i64)
 }
 
-// Statement B for as long as A holds.
+// B for as long as condition A is true.
 fn emit_repeat(table: &[u8], n: usize, out: &mut [u8], at: usize) -> usize
     requires { ⌜ StatementAt (now table) n ⌝ ∗ ⌜ kindOf (now table) n ≡ 46 ⌝
         ∗ ⌜ Room (now out) at (copyAt (now table) n) ⌝ }
@@ -120,7 +121,7 @@ fn emit_repeat(table: &[u8], n: usize, out: &mut [u8], at: usize) -> usize
     emission::emit_record(out, y, 46, 0, x, y, 0, n as i64)
 }
 
-// Statement A, with a block of one cell for the variable.
+// A, with a new block of one cell for the variable.
 fn emit_let(table: &[u8], n: usize, out: &mut [u8], at: usize) -> usize
     requires { ⌜ StatementAt (now table) n ⌝ ∗ ⌜ kindOf (now table) n ≡ 47 ⌝
         ∗ ⌜ Room (now out) at (copyAt (now table) n) ⌝ }
@@ -132,7 +133,7 @@ fn emit_let(table: &[u8], n: usize, out: &mut [u8], at: usize) -> usize
     emit_enclosing(out, y, at, v, n)
 }
 
-// Child A of statement n, then the end of the variable's block.
+// Child A of statement n, then the end of its variable's block.
 fn emit_inside(table: &[u8], n: usize, out: &mut [u8], at: usize, variable: u8) -> usize
     requires { ⌜ StatementAt (now table) n ⌝ ∗ ⌜ kindOf (now table) n ≡ 47 ⌝
         ∗ ⌜ Room (now out) at (insideTree (now table) n variable) ⌝ }

@@ -5,10 +5,6 @@ use Rattle.emission.proofs.Parts.{number-literal}
 use Rattle.translation.proofs.LetLaws.{enclosing-done}
 use Rattle.translation.proofs.emit_enclosing.Statement.{statement}
 use Rattle.translation.proofs.emit_enclosing.Tie as tie
-use Rattle.translation.proofs.emit_enclosing.Reads as reads
-use Rattle.translation.proofs.emit_enclosing.Lts as lts
-use Rattle.emission.proofs.emit_record.Reads as emit-record-reads
-use Rattle.emission.proofs.emit_sequence.Reads as emit-sequence-reads
 
 add-emit-sequence : tie.Need-add-emit-sequence
 add-emit-sequence c = search needs

@@ -1,6 +1,5 @@
 -- `translation::emit_ending` meets its contract. Assumes nothing.
 use native.Mathlib.Omega.{arith}
-use borrow.Author.Needs.{needs}
 use mathlib.Core.Logic.{inl}
 use mathlib.Core.Path.{refl, _∙_}
 use Rattle.emission.proofs.Emitting.{some}

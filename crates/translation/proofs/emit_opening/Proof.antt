@@ -7,10 +7,6 @@ use denote.Ref.{now}
 use Rattle.translation.proofs.LetLaws.{part-size, opening-part, opening-done}
 use Rattle.translation.proofs.emit_opening.Statement.{statement}
 use Rattle.translation.proofs.emit_opening.Tie as tie
-use Rattle.translation.proofs.emit_opening.Reads as reads
-use Rattle.translation.proofs.emit_opening.Lts as lts
-use Rattle.emission.proofs.emit_part.Reads as emit-part-reads
-use Rattle.translation.proofs.emit_over.Reads as emit-over-reads
 
 emit-over-requires : tie.Need-emit-over-requires
 emit-over-requires c κs = search needs

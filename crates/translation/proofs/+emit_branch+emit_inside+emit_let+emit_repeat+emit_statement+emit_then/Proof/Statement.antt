@@ -1,5 +1,5 @@
 -- `translation::emit_statement` meets its contract, where the calls with a smaller measure meet theirs.
-use Prim.Native.Nat.{ℕ, _<_}
+use Prim.Native.Nat.{ℕ}
 use native.Mathlib.Omega.{arith}
 use mathlib.Core.Path.{_≡_, sym, _∙_}
 use denote.Ref.{now}
