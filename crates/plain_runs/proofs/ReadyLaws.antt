@@ -5,7 +5,7 @@ use mathlib.Core.List.{List}
 use mathlib.Core.Path.{_≡_, refl, subst}
 use mir.Syntax.{w32}
 use mir.Val.{Fits}
-use Rattle.rules.specs.Kinds.{source, statement}
+use Rattle.rules.specs.Kinds.{source, expression, statement}
 use Rattle.rules.specs.Nodes.{SourceNode, sourceStatement}
 use Rattle.rules.specs.Records.{kindOf, markOf, childA, childB, childC}
 use Rattle.rules.specs.Memory.{Memory, Use, made, makeBlock}
@@ -30,7 +30,7 @@ use Rattle.cells.specs.Changes.{EvaluatedFits}
 use Rattle.plain_runs.specs.Running.{Ready}
 use Rattle.statements.proofs.ChangeLaws.{names-fit}
 
-module _ (t : List ℕ) (n : ℕ) (ρ : Variables) (m : Memory) (r : Ready t n ρ m) where
+module _ {t : List ℕ} {n : ℕ} {ρ : Variables} {m : Memory} (r : Ready t n ρ m) where
   pub ready-within : Within t n
   ready-within = statement-within source t n (r .is)
 
@@ -67,38 +67,49 @@ module _ (t : List ℕ) (n : ℕ) (ρ : Variables) (m : Memory) (r : Ready t n �
   pub run-kept : (f : ℕ) → FitsMemory (memoryAfter (run (statementAt t n) ρ m f))
   run-kept f = run-fits (statementAt t n) (r .scope) (r .sound) ρ (r .names) m f (r .fits)
 
-  ready-part : (x : ℕ) (m₁ : Memory) → Under statement t n x → SoundStatement (statementAt t x) (r .scope)
+  -- its parts
+  pub sequence-parts : kindOf t n ≡ 44 → Under statement t n (childA t n) × Under statement t n (childB t n)
+  sequence-parts = sequence-children source t n (r .is)
+
+  pub branch-parts : kindOf t n ≡ 45
+      → Under expression t n (childA t n) × Under statement t n (childB t n) × Under statement t n (childC t n)
+  branch-parts = branch-children source t n (r .is)
+
+  pub while-parts : kindOf t n ≡ 46 → Under expression t n (childA t n) × Under statement t n (childB t n)
+  while-parts = while-children source t n (r .is)
+
+  ready-part : (x : ℕ) {m₁ : Memory} → Under statement t n x → SoundStatement (statementAt t x) (r .scope)
       → FitsMemory m₁ → Ready t x ρ m₁
-  ready-part x m₁ h s k = record { is = h .2; scope = r .scope; sound = s; names = r .names; fits = k }
+  ready-part x h s k = record { is = h .2; scope = r .scope; sound = s; names = r .names; fits = k }
 
   pub ready-first : kindOf t n ≡ 44 → Ready t (childA t n) ρ m
   ready-first e =
-      ready-part (childA t n) m (sequence-children source t n (r .is) e .0)
+      ready-part (childA t n) (sequence-parts e .0)
       (sound-sequence source t n (r .is) (r .scope) (r .sound) e .0) (r .fits)
 
-  pub ready-second : kindOf t n ≡ 44 → (m₁ : Memory) → FitsMemory m₁ → Ready t (childB t n) ρ m₁
-  ready-second e m₁ k =
-      ready-part (childB t n) m₁ (sequence-children source t n (r .is) e .1)
+  pub ready-second : kindOf t n ≡ 44 → {m₁ : Memory} → FitsMemory m₁ → Ready t (childB t n) ρ m₁
+  ready-second e k =
+      ready-part (childB t n) (sequence-parts e .1)
       (sound-sequence source t n (r .is) (r .scope) (r .sound) e .1) k
 
   pub ready-then : kindOf t n ≡ 45 → Ready t (childB t n) ρ m
   ready-then e =
-      ready-part (childB t n) m (branch-children source t n (r .is) e .1)
+      ready-part (childB t n) (branch-parts e .1)
       (sound-branch source t n (r .is) (r .scope) (r .sound) e .0) (r .fits)
 
   pub ready-else : kindOf t n ≡ 45 → Ready t (childC t n) ρ m
   ready-else e =
-      ready-part (childC t n) m (branch-children source t n (r .is) e .2)
+      ready-part (childC t n) (branch-parts e .2)
       (sound-branch source t n (r .is) (r .scope) (r .sound) e .1) (r .fits)
 
-  pub ready-turn : kindOf t n ≡ 46 → (m₁ : Memory) → FitsMemory m₁ → Ready t (childB t n) ρ m₁
-  ready-turn e m₁ k =
-      ready-part (childB t n) m₁ (while-children source t n (r .is) e .1)
+  pub ready-turn : kindOf t n ≡ 46 → {m₁ : Memory} → FitsMemory m₁ → Ready t (childB t n) ρ m₁
+  ready-turn e k =
+      ready-part (childB t n) (while-parts e .1)
       (sound-while source t n (r .is) (r .scope) (r .sound) e) k
 
-  pub ready-inside : kindOf t n ≡ 47 → (k : ℕ) → k < 256 → (m₁ : Memory) → FitsMemory m₁
+  pub ready-inside : kindOf t n ≡ 47 → (k : ℕ) → k < 256 → {m₁ : Memory} → FitsMemory m₁
       → Ready t (childA t n) (extend ρ (markOf t n) k) m₁
-  ready-inside e k l m₁ f =
+  ready-inside e k l f =
       record {
         is = let-child source t n (r .is) e .2;
         scope = adding (r .scope) (markOf t n);

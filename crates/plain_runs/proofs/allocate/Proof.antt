@@ -18,7 +18,7 @@ find-a-requires : tie.Need-find-a-requires
 find-a-requires c κs =
     let s = c .before in
     let T = s .args .table .now in (
-      ready-within T (s .args .n) _ _ (s .pre .0),
+      ready-within (s .pre .0),
       target-place T (childA T (s .args .n))
           (new-children source T (s .args .n) (s .pre .0 .is) (s .pre .1) .0 .2),
     )
@@ -27,7 +27,7 @@ evaluate-b-requires : tie.Need-evaluate-b-requires
 evaluate-b-requires c κs =
     let s = c .before .before .before in
     let T = s .args .table .now in (
-      ready-within T (s .args .n) _ _ (s .pre .0),
+      ready-within (s .pre .0),
       target-expression T (childB T (s .args .n))
           (new-children source T (s .args .n) (s .pre .0 .is) (s .pre .1) .1 .2),
     )
@@ -38,7 +38,7 @@ new-at-requires c κs = tt
 cast-conclude : tie.Need-cast-conclude
 cast-conclude c =
     let s = c .before .before .before .before .before .before in
-    ready-number (s .args .table .now) (s .args .n) _ _ (s .pre .0)
+    ready-number (s .pre .0)
 
 conclude-requires : tie.Need-conclude-requires
 conclude-requires c κs = tt

@@ -12,7 +12,7 @@ test-predicate-requires : tie.Need-test-predicate-requires
 test-predicate-requires c κs =
     let s = c .before in
     let T = s .args .table .now in
-    (ready-within T (s .args .n) _ _ (s .pre .0), assert-child T (s .args .n) (s .pre .0 .is) (s .pre .1) .2)
+    (ready-within (s .pre .0), assert-child T (s .args .n) (s .pre .0 .is) (s .pre .1) .2)
 
 assert-number-requires : tie.Need-assert-number-requires
 assert-number-requires c κs = tt
@@ -20,7 +20,7 @@ assert-number-requires c κs = tt
 cast-conclude : tie.Need-cast-conclude
 cast-conclude c =
     let s = c .before .before .before in
-    ready-number (s .args .table .now) (s .args .n) _ _ (s .pre .0)
+    ready-number (s .pre .0)
 
 conclude-requires : tie.Need-conclude-requires
 conclude-requires c κs = tt
@@ -39,4 +39,5 @@ returns c =
     (c .before .assert-number .ensures) (c .conclude .ensures)
 
 pub assert-spec : {M : Type 1} → statement M
-assert-spec = tie.close (tie.spec test-predicate-requires assert-number-requires cast-conclude conclude-requires returns)
+assert-spec =
+    tie.close (tie.spec test-predicate-requires assert-number-requires cast-conclude conclude-requires returns)

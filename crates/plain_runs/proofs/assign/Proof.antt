@@ -18,7 +18,7 @@ find-a-requires : tie.Need-find-a-requires
 find-a-requires c κs =
     let s = c .before in
     let T = s .args .table .now in (
-      ready-within T (s .args .n) _ _ (s .pre .0),
+      ready-within (s .pre .0),
       target-place T (childA T (s .args .n))
           (assign-children source T (s .args .n) (s .pre .0 .is) (s .pre .1) .0 .2),
     )
@@ -27,7 +27,7 @@ evaluate-b-requires : tie.Need-evaluate-b-requires
 evaluate-b-requires c κs =
     let s = c .before .before .before in
     let T = s .args .table .now in (
-      ready-within T (s .args .n) _ _ (s .pre .0),
+      ready-within (s .pre .0),
       target-expression T (childB T (s .args .n))
           (assign-children source T (s .args .n) (s .pre .0 .is) (s .pre .1) .1 .2),
     )
@@ -41,13 +41,12 @@ store-at-requires c κs =
     rw (c .before .evaluate-b .ensures ∙ evaluated-alike T (childB T (s .args .n)) τ
     (variablesOf (s .args .variables .now)) (memoryOf l)
     (assign-children source T (s .args .n) (s .pre .0 .is) (s .pre .1) .1 .2))
-    (assign-fits T (s .args .n) (variablesOf (s .args .variables .now)) (memoryOf (s .args .mem .now)) (s .pre .0)
-    (s .pre .1))
+    (assign-fits (s .pre .0) (s .pre .1))
 
 cast-conclude : tie.Need-cast-conclude
 cast-conclude c =
     let s = c .before .before .before .before .before .before in
-    ready-number (s .args .table .now) (s .args .n) _ _ (s .pre .0)
+    ready-number (s .pre .0)
 
 conclude-requires : tie.Need-conclude-requires
 conclude-requires c κs = tt

@@ -18,7 +18,7 @@ evaluate-a-requires : tie.Need-evaluate-a-requires
 evaluate-a-requires c κs =
     let s = c .before in
     let T = s .args .table .now in (
-      ready-within T (s .args .n) _ _ (s .pre .0),
+      ready-within (s .pre .0),
       target-expression T (childA T (s .args .n))
           (free-child source T (s .args .n) (s .pre .0 .is) (s .pre .1) .2),
     )
@@ -29,7 +29,7 @@ free-at-requires c κs = tt
 cast-conclude : tie.Need-cast-conclude
 cast-conclude c =
     let s = c .before .before .before .before in
-    ready-number (s .args .table .now) (s .args .n) _ _ (s .pre .0)
+    ready-number (s .pre .0)
 
 conclude-requires : tie.Need-conclude-requires
 conclude-requires c κs = tt

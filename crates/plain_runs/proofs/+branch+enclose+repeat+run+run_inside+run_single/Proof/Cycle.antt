@@ -1,4 +1,4 @@
--- The measure, which is the record number, and what a member may ask of the others: what lies below it.
+-- The measures, by the record number; and the claims: a member is proved at its measure, with the others below it.
 use Prim.Native.Nat.{ℕ, _+_, _*_, _<_}
 use borrow.Fn.Kinds.{In}
 use borrow.Fn.PlainCycle.{Measures, is, falls, and}
@@ -108,7 +108,14 @@ abbrev pub enclose-claims : ℕ → enclose-lts.Claims
 enclose-claims t = (make-reads.Asked, make-reads.Learnt, run-inside-below t, run-inside.Post)
 
 abbrev pub repeat-claims : ℕ → repeat-lts.Claims
-repeat-claims t = (child-b-reads.Asked, child-b-reads.Learnt, test-a-reads.Asked, test-a-reads.Learnt, run-below t, run.Post)
+repeat-claims t = (
+  child-b-reads.Asked,
+  child-b-reads.Learnt,
+  test-a-reads.Asked,
+  test-a-reads.Learnt,
+  run-below t,
+  run.Post,
+)
 
 abbrev pub run-claims : ℕ → run-lts.Claims
 run-claims t = (

@@ -1,10 +1,8 @@
 -- The needs of a let.
 use Prim.Native.Nat.{ℕ}
 use native.Mathlib.Omega.{arith}
-use mathlib.Core.Path.{refl, sym, _∙_}
+use mathlib.Core.Path.{sym, _∙_}
 use borrow.Author.Needs.{needs}
-use Rattle.rules.specs.Layout.{memoryOf}
-use Rattle.evaluation.specs.State.{variablesOf}
 use Rattle.plain_runs.proofs.Laws.{ran-is}
 use Rattle.plain_runs.proofs.ReadyLaws.{ready-number}
 use Rattle.plain_runs.proofs.MemberLaws.{ran-from, let-made, let-unmade, ready-made}
@@ -22,64 +20,37 @@ module _ (t : ℕ) where
 
   run-inside-requires : enclose-lts.Need-run-inside-requires (enclose-claims t) (enclose-at t) enclose.Post
   run-inside-requires c κs =
-      let s = c .before .before .before .before .before .before in
-      let T = s .args .table .now in
-      let n = s .args .n in
-      let ρ = variablesOf (s .args .variables .now) in
-      let l = s .args .mem .now in
-      let f = s .args .fuel in
-      let h = s .pre .1 .0 in
-      let q = s .pre .1 .1 in (
+      let after-k = c .before .before in
+      let after-make = after-k .before .before in
+      let s = after-make .before .before in (
         omega (arith, s .pre .0),
-        ready-made T n ρ (c .before .before .k .given .0 .0) l (c .before .before .before .before .make .last .0)
-            h q (c .before .before .before .before .make .ensures .1)
-            (sym (c .before .before .k .given .1) ∙ c .before .before .before .before .make .ensures .0),
+        ready-made (s .pre .1 .0) (s .pre .1 .1) (after-make .make .ensures .1)
+            (sym (after-k .k .given .1) ∙ after-make .make .ensures .0),
       )
 
   enum-known-c : enclose-lts.Need-enum-known-c (enclose-claims t) (enclose-at t) enclose.Post
   enum-known-c c = search needs
 
   cast-t13 : enclose-lts.Need-cast-t13 (enclose-claims t) (enclose-at t) enclose.Post
-  cast-t13 c =
-      let s = c .before .before .before .before .before in
-      let T = s .args .table .now in
-      let n = s .args .n in
-      let ρ = variablesOf (s .args .variables .now) in
-      let l = s .args .mem .now in
-      let f = s .args .fuel in
-      let h = s .pre .1 .0 in
-      let q = s .pre .1 .1 in
-      ready-number T n ρ (memoryOf l) h
+  cast-t13 c = ready-number (c .before .before .before .before .before .pre .1 .0)
 
   returns : enclose-lts.Need-returns (enclose-claims t) (enclose-at t) enclose.Post
   returns c =
-      let s = c .before .before .before .before .before .before .before in
-      let T = s .args .table .now in
-      let n = s .args .n in
-      let ρ = variablesOf (s .args .variables .now) in
-      let l = s .args .mem .now in
-      let f = s .args .fuel in
-      let h = s .pre .1 .0 in
-      let q = s .pre .1 .1 in
+      let after-k = c .before .before .before in
+      let after-make = after-k .before .before in
+      let s = after-make .before .before in
       ran-is
-      (let-made T n (h .is) ρ q l (c .before .before .before .before .before .make .last .0) f
-      (c .before .before .before .before .before .make .ensures .1) (c .before .before .before .k .given .0 .0)
-      (sym (c .before .before .before .k .given .1) ∙ c .before .before .before .before .before .make .ensures .0))
-      (ran-from (c .before .before .before .before .before .make .ensures .1) (c .run-inside .ensures))
+      (let-made (s .pre .1 .0) (s .pre .1 .1) (after-make .make .ensures .1) (s .args .fuel)
+      (sym (after-k .k .given .1) ∙ after-make .make .ensures .0))
+      (ran-from (after-make .make .ensures .1) (c .run-inside .ensures))
 
   returns-2 : enclose-lts.Need-returns-2 (enclose-claims t) (enclose-at t) enclose.Post
   returns-2 c =
-      let s = c .before .before .before .before .before in
-      let T = s .args .table .now in
-      let n = s .args .n in
-      let ρ = variablesOf (s .args .variables .now) in
-      let l = s .args .mem .now in
-      let f = s .args .fuel in
-      let h = s .pre .1 .0 in
-      let q = s .pre .1 .1 in
-      let-unmade T n (h .is) ρ q l (c .before .before .before .make .last .0) f
-      (c .before .before .before .make .ensures .1) (c .before .c .given .0 .0) _
-      (sym (c .before .c .given .1) ∙ c .before .before .before .make .ensures .0) refl
+      let after-c = c .before in
+      let after-make = after-c .before .before in
+      let s = after-make .before .before in
+      let-unmade (s .pre .1 .0) (s .pre .1 .1) (after-make .make .ensures .1) (s .args .fuel)
+      (after-c .c .given .0 .0) (sym (after-c .c .given .1) ∙ after-make .make .ensures .0)
 
   pub closed : {M : Type 1} → enclose-lts.Closed (enclose-claims t) (enclose-at t) enclose.Post M
   closed =

@@ -4,17 +4,14 @@ use native.Mathlib.Omega.{arith}
 use mathlib.Core.Path.{refl, sym, _∙_}
 use borrow.Author.Needs.{needs}
 use Rattle.rules.specs.Records.{childB}
-use Rattle.rules.specs.Plain.{finished, ended}
 use Rattle.rules.specs.Layout.{memoryOf}
-use Rattle.rules.specs.Kinds.{source}
-use Rattle.rules.proofs.StatementArms.{while-children}
+use Rattle.rules.specs.declared.Test.the-variants as test
 use Rattle.evaluation.specs.State.{variablesOf}
-use Rattle.endings.specs.Ending.{result}
 use Rattle.statements.proofs.ChangeLaws.{becomes-same}
 use Rattle.plain_runs.proofs.Laws.{ran-is}
-use Rattle.plain_runs.proofs.ReadyLaws.{ready-within, ready-number, ready-turn}
-use Rattle.plain_runs.proofs.MemberLaws.{ran-from, ran-same, turn-yes, turn-no, turn-stop, turn-out, Remaining}
-use Rattle.plain_runs.proofs.MemberLaws.{part-ends, part-finishes, part-spends}
+use Rattle.plain_runs.proofs.ReadyLaws.{ready-within, ready-number, while-parts, ready-turn}
+use Rattle.plain_runs.proofs.MemberLaws.{ran-from, ran-finished, ran-ended, turn-by, turn-out, Remaining}
+use Rattle.plain_runs.proofs.MemberLaws.{Part, part-ends, part-finishes, part-spends}
 use Rattle.plain_runs.proofs.repeat.Reads as repeat
 use Rattle.plain_runs.proofs.+branch+enclose+repeat+run+run_inside+run_single.Lts-repeat as repeat-lts
 use Rattle.plain_runs.proofs.+branch+enclose+repeat+run+run_inside+run_single.Proof.Cycle.{repeat-at}
@@ -29,16 +26,7 @@ abbrev μ-loop : repeat-lts.MeasureT-loop
 
 module _ (t : ℕ) where
   child-b-requires : repeat-lts.Need-child-b-requires (repeat-claims t) (repeat-at t) repeat.Post Inv-loop μ-loop
-  child-b-requires c κs =
-      let s = c .before in
-      let T = s .args .table .now in
-      let n = s .args .n in
-      let ρ = variablesOf (s .args .variables .now) in
-      let l = s .args .mem .now in
-      let f = s .args .fuel in
-      let h = s .pre .1 .0 in
-      let q = s .pre .1 .1 in
-      ready-within T n ρ (memoryOf l) h
+  child-b-requires c κs = ready-within (c .before .pre .1 .0)
 
   loop-holds : repeat-lts.Need-loop-holds (repeat-claims t) (repeat-at t) repeat.Post Inv-loop μ-loop
   loop-holds c = record { rest = refl; bytes = becomes-same refl; fits = c .before .before .pre .1 .0 .fits }
@@ -48,199 +36,108 @@ module _ (t : ℕ) where
 
   test-a-requires : repeat-lts.Need-test-a-requires (repeat-claims t) (repeat-at t) repeat.Post Inv-loop μ-loop
   test-a-requires c κs =
-      let s = c .before .before .before .before .before in
-      let T = s .args .table .now in
-      let n = s .args .n in
-      let ρ = variablesOf (s .args .variables .now) in
-      let l = s .args .mem .now in
-      let f = s .args .fuel in
-      let h = s .pre .1 .0 in
-      let q = s .pre .1 .1 in
-      (ready-within T n ρ (memoryOf l) h, while-children source T n (h .is) q .0 .2)
+      let h = c .before .before .before .before .before .pre .1 in
+      (ready-within (h .0), while-parts (h .0) (h .1) .0 .2)
 
   enum-told : repeat-lts.Need-enum-told (repeat-claims t) (repeat-at t) repeat.Post Inv-loop μ-loop
   enum-told c = search needs
 
   run-requires : repeat-lts.Need-run-requires (repeat-claims t) (repeat-at t) repeat.Post Inv-loop μ-loop
   run-requires c κs =
-      let s = c .before .before .before .before .before .before .before .before .before in
-      let T = s .args .table .now in
-      let n = s .args .n in
-      let ρ = variablesOf (s .args .variables .now) in
-      let l = s .args .mem .now in
-      let f = s .args .fuel in
-      let h = s .pre .1 .0 in
-      let q = s .pre .1 .1 in
-      rw (c .before .before .before .before .before .before .before .child-b .ensures) (
-        omega (arith, while-children source T n (h .is) q .1 .1, s .pre .0),
-        ready-turn T n ρ (memoryOf l) h q
-            (memoryOf (c .before .before .before .before .before .before .loop .mem))
-            (c .before .before .before .before .before .before .loop .inv .fits),
+      let after-loop = c .before .before .before .before .before .before in
+      let after-child-b = after-loop .before in
+      let s = after-child-b .before .before in
+      let h = s .pre .1 in
+      rw (after-child-b .child-b .ensures) (
+        omega (arith, while-parts (h .0) (h .1) .1 .1, s .pre .0),
+        ready-turn (h .0) (h .1) (after-loop .loop .inv .fits),
       )
 
+  -- a turn whose condition is true, where its child ran
+  turn : (c : repeat-lts.After-run (repeat-claims t) (repeat-at t) repeat.Post Inv-loop μ-loop)
+      → let after-loop = c .before .before .before .before .before .before .before in
+      let s = after-loop .before .before .before in
+      Part (s .args .table .now) (s .args .n) (variablesOf (s .args .variables .now)) (s .args .mem .now)
+      (s .args .fuel) (s .args .n) (after-loop .loop .mem) (after-loop .loop .left)
+      (childB (s .args .table .now) (s .args .n)) (s .args .n) (after-loop .loop .left - 1) (c .run .result)
+      (c .run .last .1 .1 .1 .1 .0)
+  turn c =
+      let after-enum-told = c .before .before in
+      let after-test-a = after-enum-told .before .before in
+      let after-loop-test = after-test-a .before .before in
+      let after-loop = after-loop-test .before in
+      let after-child-b = after-loop .before in
+      let h = after-child-b .before .before .pre .1 in
+      record {
+        earlier = after-loop .loop .inv;
+        ran = rw (after-child-b .child-b .ensures) at (c .run .ensures);
+        leads =
+            turn-by (h .0) (h .1) (memoryOf (after-loop .loop .mem)) (after-loop .loop .left)
+            (after-loop-test .loop-test .taken) test.Yes
+            (sym (after-test-a .test-a .ensures) ∙ after-enum-told .enum-told .given .1);
+      }
+
   returns : repeat-lts.Need-returns (repeat-claims t) (repeat-at t) repeat.Post Inv-loop μ-loop
-  returns c =
-      let s = c .before .before .before .before .before .before .before .before .before .before .before .before in
-      let T = s .args .table .now in
-      let n = s .args .n in
-      let ρ = variablesOf (s .args .variables .now) in
-      let l = s .args .mem .now in
-      let f = s .args .fuel in
-      let h = s .pre .1 .0 in
-      let q = s .pre .1 .1 in
-      part-ends T n ρ l f n (c .before .before .before .before .before .before .before .before .before .loop .mem)
-      (c .before .before .before .before .before .before .before .before .before .loop .left)
-      (c .before .before .before .before .before .before .before .before .before .loop .inv) (childB T n) n
-      (c .before .before .before .before .before .before .before .before .before .loop .left - 1)
-      (c .before .before .run .result) (c .before .before .run .last .1 .1 .1 .1 .0)
-      (rw (c .before .before .before .before .before .before .before .before .before .before .child-b .ensures) at
-      (c .before .before .run .ensures))
-      (turn-yes T n (h .is) ρ q
-      (memoryOf (c .before .before .before .before .before .before .before .before .before .loop .mem))
-      (c .before .before .before .before .before .before .before .before .before .loop .left)
-      (c .before .before .before .before .before .before .before .before .loop-test .taken)
-      (sym (c .before .before .before .before .before .before .test-a .ensures)
-      ∙ c .before .before .before .before .enum-told .given .1))
-      (c .if1 .taken)
+  returns c = part-ends (turn (c .before .before)) (c .if1 .taken)
 
   loop-less : repeat-lts.Need-loop-less (repeat-claims t) (repeat-at t) repeat.Post Inv-loop μ-loop
   loop-less c =
-      let s = c .before .before .before .before .before .before .before .before .before .before .before .before in
-      let T = s .args .table .now in
-      let n = s .args .n in
-      let ρ = variablesOf (s .args .variables .now) in
-      let l = s .args .mem .now in
-      let f = s .args .fuel in
-      let h = s .pre .1 .0 in
-      let q = s .pre .1 .1 in
-      part-spends T n ρ l f n
-      (c .before .before .before .before .before .before .before .before .before .loop .mem)
-      (c .before .before .before .before .before .before .before .before .before .loop .left)
-      (c .before .before .before .before .before .before .before .before .before .loop .inv) (childB T n) n
-      (c .before .before .before .before .before .before .before .before .before .loop .left - 1)
-      (c .before .before .run .result) (c .before .before .run .last .1 .1 .1 .1 .0)
-      (rw (c .before .before .before .before .before .before .before .before .before .before .child-b .ensures) at
-      (c .before .before .run .ensures))
-      (turn-yes T n (h .is) ρ q
-      (memoryOf (c .before .before .before .before .before .before .before .before .before .loop .mem))
-      (c .before .before .before .before .before .before .before .before .before .loop .left)
-      (c .before .before .before .before .before .before .before .before .loop-test .taken)
-      (sym (c .before .before .before .before .before .before .test-a .ensures)
-      ∙ c .before .before .before .before .enum-told .given .1))
-      (c .if1 .left) (omega (arith, c .before .before .before .before .before .before .before .before .loop-test .taken))
+      let after-loop-test = c .before .before .before .before .before .before .before .before in
+      part-spends (turn (c .before .before)) (c .if1 .left) (omega (arith, after-loop-test .loop-test .taken))
 
   loop-again : repeat-lts.Need-loop-again (repeat-claims t) (repeat-at t) repeat.Post Inv-loop μ-loop
   loop-again c =
-      let s = c .before .before .before .before .before .before .before .before .before .before .before .before in
-      let T = s .args .table .now in
-      let n = s .args .n in
-      let ρ = variablesOf (s .args .variables .now) in
-      let l = s .args .mem .now in
-      let f = s .args .fuel in
-      let h = s .pre .1 .0 in
-      let q = s .pre .1 .1 in
-      part-finishes T n ρ l f n
-      (c .before .before .before .before .before .before .before .before .before .loop .mem)
-      (c .before .before .before .before .before .before .before .before .before .loop .left)
-      (c .before .before .before .before .before .before .before .before .before .loop .inv) (childB T n) n
-      (c .before .before .before .before .before .before .before .before .before .loop .left - 1)
-      (c .before .before .run .result) (c .before .before .run .last .1 .1 .1 .1 .0)
-      (rw (c .before .before .before .before .before .before .before .before .before .before .child-b .ensures) at
-      (c .before .before .run .ensures))
-      (turn-yes T n (h .is) ρ q
-      (memoryOf (c .before .before .before .before .before .before .before .before .before .loop .mem))
-      (c .before .before .before .before .before .before .before .before .before .loop .left)
-      (c .before .before .before .before .before .before .before .before .loop-test .taken)
-      (sym (c .before .before .before .before .before .before .test-a .ensures)
-      ∙ c .before .before .before .before .enum-told .given .1))
-      (c .if1 .left)
-      (ready-turn T n ρ (memoryOf l) h q
-      (memoryOf (c .before .before .before .before .before .before .before .before .before .loop .mem))
-      (c .before .before .before .before .before .before .before .before .before .loop .inv .fits))
+      let after-loop = c .before .before .before .before .before .before .before .before .before in
+      let h = after-loop .before .before .before .pre .1 in
+      part-finishes (turn (c .before .before)) (c .if1 .left)
+      (ready-turn (h .0) (h .1) (after-loop .loop .inv .fits))
 
   enum-told-2 : repeat-lts.Need-enum-told-2 (repeat-claims t) (repeat-at t) repeat.Post Inv-loop μ-loop
   enum-told-2 c = search needs
 
   returns-2 : repeat-lts.Need-returns-2 (repeat-claims t) (repeat-at t) repeat.Post Inv-loop μ-loop
   returns-2 c =
-      let s = c .before .before .before .before .before .before .before .before in
-      let T = s .args .table .now in
-      let n = s .args .n in
-      let ρ = variablesOf (s .args .variables .now) in
-      let l = s .args .mem .now in
-      let f = s .args .fuel in
-      let h = s .pre .1 .0 in
-      let q = s .pre .1 .1 in
-      let m = memoryOf (c .before .before .before .before .before .loop .mem) in
+      let after-test-a = c .before .before in
+      let after-loop-test = after-test-a .before .before in
+      let loop = after-loop-test .before .loop in
+      let h = after-loop-test .before .before .before .before .pre .1 in
       ran-is
-      (c .before .before .before .before .before .loop .inv .rest
-      ∙ turn-no T n (h .is) ρ q m (c .before .before .before .before .before .loop .left)
-      (c .before .before .before .before .loop-test .taken)
-      (sym (c .before .before .test-a .ensures) ∙ c .enum-told2 .given .1))
-      (ran-from (c .before .before .before .before .before .loop .inv .bytes)
-      (ran-same (finished m (c .before .before .before .before .before .loop .left - 1)) _ refl refl))
+      (loop .inv .rest
+      ∙ turn-by (h .0) (h .1) (memoryOf (loop .mem)) (loop .left) (after-loop-test .loop-test .taken) test.No
+      (sym (after-test-a .test-a .ensures) ∙ c .enum-told2 .given .1))
+      (ran-from (loop .inv .bytes) (ran-finished (loop .mem) (loop .left - 1)))
 
   enum-known-k : repeat-lts.Need-enum-known-k (repeat-claims t) (repeat-at t) repeat.Post Inv-loop μ-loop
   enum-known-k c = search needs
 
   cast-t18 : repeat-lts.Need-cast-t18 (repeat-claims t) (repeat-at t) repeat.Post Inv-loop μ-loop
-  cast-t18 c =
-      let s = c .before .before .before .before .before .before .before .before .before in
-      let T = s .args .table .now in
-      let n = s .args .n in
-      let ρ = variablesOf (s .args .variables .now) in
-      let l = s .args .mem .now in
-      let f = s .args .fuel in
-      let h = s .pre .1 .0 in
-      let q = s .pre .1 .1 in
-      ready-number T n ρ (memoryOf l) h
+  cast-t18 c = ready-number (c .before .before .before .before .before .before .before .before .before .pre .1 .0)
 
   returns-3 : repeat-lts.Need-returns-3 (repeat-claims t) (repeat-at t) repeat.Post Inv-loop μ-loop
   returns-3 c =
-      let s = c .before .before .before .before .before .before .before .before .before in
-      let T = s .args .table .now in
-      let n = s .args .n in
-      let ρ = variablesOf (s .args .variables .now) in
-      let l = s .args .mem .now in
-      let f = s .args .fuel in
-      let h = s .pre .1 .0 in
-      let q = s .pre .1 .1 in
-      let m = memoryOf (c .before .before .before .before .before .before .loop .mem) in
+      let after-k = c .before in
+      let after-test-a = after-k .before .before in
+      let after-loop-test = after-test-a .before .before in
+      let loop = after-loop-test .before .loop in
+      let s = after-loop-test .before .before .before .before in
+      let k = after-k .k .given .0 .0 in
       ran-is
-      (c .before .before .before .before .before .before .loop .inv .rest
-      ∙ turn-stop T n (h .is) ρ q m (c .before .before .before .before .before .before .loop .left)
-      (c .before .before .before .before .before .loop-test .taken) (c .before .k .given .0 .0)
-      (sym (c .before .before .before .test-a .ensures) ∙ c .before .k .given .1))
-      (ran-from (c .before .before .before .before .before .before .loop .inv .bytes)
-      (ran-same
-      (ended (c .before .k .given .0 .0) n m (c .before .before .before .before .before .before .loop .left - 1))
-      _ refl refl))
+      (loop .inv .rest
+      ∙ turn-by (s .pre .1 .0) (s .pre .1 .1) (memoryOf (loop .mem)) (loop .left) (after-loop-test .loop-test .taken)
+      (test.Stopped k) (sym (after-test-a .test-a .ensures) ∙ after-k .k .given .1))
+      (ran-from (loop .inv .bytes) (ran-ended (loop .mem) k (s .args .n) (loop .left - 1)))
 
   cast-t19 : repeat-lts.Need-cast-t19 (repeat-claims t) (repeat-at t) repeat.Post Inv-loop μ-loop
-  cast-t19 c =
-      let s = c .before .before .before .before in
-      let T = s .args .table .now in
-      let n = s .args .n in
-      let ρ = variablesOf (s .args .variables .now) in
-      let l = s .args .mem .now in
-      let f = s .args .fuel in
-      let h = s .pre .1 .0 in
-      let q = s .pre .1 .1 in
-      ready-number T n ρ (memoryOf l) h
+  cast-t19 c = ready-number (c .before .before .before .before .pre .1 .0)
 
   returns-4 : repeat-lts.Need-returns-4 (repeat-claims t) (repeat-at t) repeat.Post Inv-loop μ-loop
   returns-4 c =
+      let loop = c .before .loop in
       let s = c .before .before .before .before in
-      let T = s .args .table .now in
-      let n = s .args .n in
-      let ρ = variablesOf (s .args .variables .now) in
-      let l = s .args .mem .now in
-      let f = s .args .fuel in
-      let h = s .pre .1 .0 in
-      let q = s .pre .1 .1 in
-      let m = memoryOf (c .before .loop .mem) in
-      ran-is (c .before .loop .inv .rest ∙ turn-out T n (h .is) ρ q m (c .before .loop .left) (c .loop-test .left))
-      (ran-from (c .before .loop .inv .bytes) (ran-same (ended 32 n m 0) _ refl refl))
+      ran-is
+      (loop .inv .rest
+      ∙ turn-out (s .pre .1 .0) (s .pre .1 .1) (memoryOf (loop .mem)) (loop .left) (c .loop-test .left))
+      (ran-from (loop .inv .bytes) (ran-ended (loop .mem) 32 (s .args .n) 0))
 
   pub closed : {M : Type 1} → repeat-lts.Closed (repeat-claims t) (repeat-at t) repeat.Post M
   closed =

@@ -1,19 +1,16 @@
--- The needs of a statement, and the sequences.
+-- The needs of a statement, whose sequences are a loop.
 use Prim.Native.Nat.{ℕ, _≤_}
 use native.Mathlib.Omega.{arith}
 use mathlib.Core.Path.{refl, sym, _∙_}
 use Rattle.rules.specs.Records.{childA, childB}
 use Rattle.rules.specs.Layout.{memoryOf}
-use Rattle.rules.specs.Kinds.{source}
-use Rattle.rules.proofs.StatementArms.{sequence-children}
 use Rattle.rules.proofs.PlainArms.{run-sequence}
 use Rattle.evaluation.specs.State.{variablesOf}
-use Rattle.endings.specs.Ending.{result}
 use Rattle.statements.proofs.ChangeLaws.{becomes-same}
 use Rattle.plain_runs.specs.Running.{Ready}
 use Rattle.plain_runs.proofs.Laws.{ran-is}
-use Rattle.plain_runs.proofs.ReadyLaws.{ready-within, ready-first}
-use Rattle.plain_runs.proofs.MemberLaws.{ran-from, Remaining, part-ends, part-finishes, ready-later}
+use Rattle.plain_runs.proofs.ReadyLaws.{ready-within, sequence-parts, ready-first, ready-second}
+use Rattle.plain_runs.proofs.MemberLaws.{ran-from, Remaining, Part, part-ends, part-finishes}
 use Rattle.plain_runs.proofs.run.Reads as run
 use Rattle.plain_runs.proofs.+branch+enclose+repeat+run+run_inside+run_single.Lts-run as run-lts
 use Rattle.plain_runs.proofs.+branch+enclose+repeat+run+run_inside+run_single.Proof.Cycle.{run-at, run-claims}
@@ -27,150 +24,96 @@ abbrev μ-loop : run-lts.MeasureT-loop
 μ-loop table n variables temporaries mem₀ fuel at₀ left₀ mem at left = at
 
 module _ (t : ℕ) where
-  loop-holds : run-lts.Need-loop-holds (run-claims t)
-      (run-at t) run.Post Inv-loop μ-loop
+  loop-holds : run-lts.Need-loop-holds (run-claims t) (run-at t) run.Post Inv-loop μ-loop
   loop-holds c =
       let h = c .pre .1 in
       (record { rest = refl; bytes = becomes-same refl; fits = h .fits }, h, omega arith)
 
-  kind-requires : run-lts.Need-kind-requires (run-claims t)
-      (run-at t) run.Post Inv-loop μ-loop
-  kind-requires c κs =
-      let after-loop = c .before in
-      let s = after-loop .before in
-      let T = s .args .table .now in
-      let ρ = variablesOf (s .args .variables .now) in
-      let l = after-loop .loop .mem in
-      let m = after-loop .loop .at in
-      let h = after-loop .loop .inv .1 in
-      ready-within T m ρ (memoryOf l) h
+  kind-requires : run-lts.Need-kind-requires (run-claims t) (run-at t) run.Post Inv-loop μ-loop
+  kind-requires c κs = ready-within (c .before .loop .inv .1)
 
-  child-a-requires : run-lts.Need-child-a-requires (run-claims t)
-      (run-at t) run.Post Inv-loop μ-loop
-  child-a-requires c κs =
-      let after-loop = c .before .before .before .before in
-      let s = after-loop .before in
-      let T = s .args .table .now in
-      let ρ = variablesOf (s .args .variables .now) in
-      let l = after-loop .loop .mem in
-      let m = after-loop .loop .at in
-      let h = after-loop .loop .inv .1 in
-      ready-within T m ρ (memoryOf l) h
+  child-a-requires : run-lts.Need-child-a-requires (run-claims t) (run-at t) run.Post Inv-loop μ-loop
+  child-a-requires c κs = ready-within (c .before .before .before .before .loop .inv .1)
 
-  run-requires : run-lts.Need-run-requires (run-claims t)
-      (run-at t) run.Post Inv-loop μ-loop
+  run-requires : run-lts.Need-run-requires (run-claims t) (run-at t) run.Post Inv-loop μ-loop
   run-requires c κs =
       let after-child-a = c .before in
       let after-if1 = after-child-a .before .before in
       let after-kind = after-if1 .before in
       let after-loop = after-kind .before .before in
-      let s = after-loop .before in
-      let T = s .args .table .now in
-      let ρ = variablesOf (s .args .variables .now) in
-      let l = after-loop .loop .mem in
-      let m = after-loop .loop .at in
       let h = after-loop .loop .inv .1 in
       let q = sym (after-kind .kind .ensures) ∙ after-if1 .if1 .taken in
       rw (after-child-a .child-a .ensures) (
-        omega (arith, sequence-children source T m (h .is) q .0 .1, after-loop .loop .inv .2, s .pre .0),
-        ready-first T m ρ (memoryOf l) h q,
+        omega (arith, sequence-parts h q .0 .1, after-loop .loop .inv .2, after-loop .before .pre .0),
+        ready-first h q,
       )
 
-  returns : run-lts.Need-returns (run-claims t)
-      (run-at t) run.Post Inv-loop μ-loop
-  returns c =
-      let after-run = c .before .before in
-      let after-child-a = after-run .before .before in
+  -- a sequence whose first child ran
+  first : (c : run-lts.After-run (run-claims t) (run-at t) run.Post Inv-loop μ-loop)
+      → let after-loop = c .before .before .before .before .before .before .before in
+      let s = after-loop .before in
+      let T = s .args .table .now in
+      let m = after-loop .loop .at in
+      Part T (s .args .n) (variablesOf (s .args .variables .now)) (s .args .mem .now) (s .args .fuel) m
+      (after-loop .loop .mem) (after-loop .loop .left) (childA T m) (childB T m) (after-loop .loop .left)
+      (c .run .result) (c .run .last .1 .1 .1 .1 .0)
+  first c =
+      let after-child-a = c .before .before in
       let after-if1 = after-child-a .before .before in
       let after-kind = after-if1 .before in
       let after-loop = after-kind .before .before in
       let s = after-loop .before in
-      let T = s .args .table .now in
-      let n = s .args .n in
-      let ρ = variablesOf (s .args .variables .now) in
-      let a = s .args .mem .now in
-      let f = s .args .fuel in
-      let l = after-loop .loop .mem in
-      let m = after-loop .loop .at in
-      let h = after-loop .loop .inv .1 in
-      let q = sym (after-kind .kind .ensures) ∙ after-if1 .if1 .taken in
-      let w = rw (after-child-a .child-a .ensures) at (after-run .run .ensures) in
-      part-ends T n ρ a f m l (after-loop .loop .left) (after-loop .loop .inv .0) (childA T m) (childB T m)
-      (after-loop .loop .left) (after-run .run .result) _ w
-      (run-sequence T m (h .is) ρ (memoryOf l) (after-loop .loop .left) q)
-      (c .if2 .taken)
+      record {
+        earlier = after-loop .loop .inv .0;
+        ran = rw (after-child-a .child-a .ensures) at (c .run .ensures);
+        leads =
+            run-sequence (s .args .table .now) (after-loop .loop .at) (after-loop .loop .inv .1 .is)
+            (variablesOf (s .args .variables .now)) (memoryOf (after-loop .loop .mem)) (after-loop .loop .left)
+            (sym (after-kind .kind .ensures) ∙ after-if1 .if1 .taken);
+      }
 
-  child-b-requires : run-lts.Need-child-b-requires (run-claims t)
-      (run-at t) run.Post Inv-loop μ-loop
+  returns : run-lts.Need-returns (run-claims t) (run-at t) run.Post Inv-loop μ-loop
+  returns c = part-ends (first (c .before .before)) (c .if2 .taken)
+
+  child-b-requires : run-lts.Need-child-b-requires (run-claims t) (run-at t) run.Post Inv-loop μ-loop
   child-b-requires c κs =
-      let after-loop = c .before .before .before .before .before .before .before .before .before .before in
-      let s = after-loop .before in
-      let T = s .args .table .now in
-      let ρ = variablesOf (s .args .variables .now) in
-      let l = after-loop .loop .mem in
-      let m = after-loop .loop .at in
-      let h = after-loop .loop .inv .1 in
-      ready-within T m ρ (memoryOf l) h
+      ready-within (c .before .before .before .before .before .before .before .before .before .before .loop .inv .1)
 
-  loop-less : run-lts.Need-loop-less (run-claims t)
-      (run-at t) run.Post Inv-loop μ-loop
+  loop-less : run-lts.Need-loop-less (run-claims t) (run-at t) run.Post Inv-loop μ-loop
   loop-less c =
-      let after-run = c .before .before .before .before in
-      let after-child-a = after-run .before .before in
-      let after-if1 = after-child-a .before .before in
+      let after-if1 = c .before .before .before .before .before .before .before .before in
       let after-kind = after-if1 .before in
-      let after-loop = after-kind .before .before in
-      let s = after-loop .before in
-      let T = s .args .table .now in
-      let m = after-loop .loop .at in
-      let h = after-loop .loop .inv .1 in
       let q = sym (after-kind .kind .ensures) ∙ after-if1 .if1 .taken in
-      omega (arith, c .child-b .ensures, sequence-children source T m (h .is) q .1 .1)
+      omega (arith, c .child-b .ensures, sequence-parts (after-kind .before .before .loop .inv .1) q .1 .1)
 
-  loop-again : run-lts.Need-loop-again (run-claims t)
-      (run-at t) run.Post Inv-loop μ-loop
+  loop-again : run-lts.Need-loop-again (run-claims t) (run-at t) run.Post Inv-loop μ-loop
   loop-again c =
       let after-run = c .before .before .before .before in
-      let after-child-a = after-run .before .before in
-      let after-if1 = after-child-a .before .before in
+      let after-if1 = after-run .before .before .before .before in
       let after-kind = after-if1 .before in
       let after-loop = after-kind .before .before in
-      let s = after-loop .before in
-      let T = s .args .table .now in
-      let n = s .args .n in
-      let ρ = variablesOf (s .args .variables .now) in
-      let a = s .args .mem .now in
-      let f = s .args .fuel in
-      let l = after-loop .loop .mem in
-      let m = after-loop .loop .at in
       let h = after-loop .loop .inv .1 in
       let q = sym (after-kind .kind .ensures) ∙ after-if1 .if1 .taken in
-      let w = rw (after-child-a .child-a .ensures) at (after-run .run .ensures) in
+      let remaining = part-finishes (first after-run) (c .before .before .if2 .left) (ready-first h q) in
       rw (c .child-b .ensures) (
-        part-finishes T n ρ a f m l (after-loop .loop .left) (after-loop .loop .inv .0) (childA T m) (childB T m)
-            (after-loop .loop .left) (after-run .run .result) _ w
-            (run-sequence T m (h .is) ρ (memoryOf l) (after-loop .loop .left) q)
-            (c .before .before .if2 .left) (ready-first T m ρ (memoryOf l) h q),
-        ready-later T m ρ (after-loop .loop .left) (after-run .run .result) l _ h q w,
-        omega (arith, sequence-children source T m (h .is) q .1 .1, after-loop .loop .inv .2),
+        remaining,
+        ready-second h q (remaining .fits),
+        omega (arith, sequence-parts h q .1 .1, after-loop .loop .inv .2),
       )
 
-  run-single-requires : run-lts.Need-run-single-requires (run-claims t)
-      (run-at t) run.Post Inv-loop μ-loop
+  run-single-requires : run-lts.Need-run-single-requires (run-claims t) (run-at t) run.Post Inv-loop μ-loop
   run-single-requires c κs =
       let after-if1 = c .before in
       let after-kind = after-if1 .before in
-      let after-loop = after-kind .before .before in
-      let s = after-loop .before in (
-        omega (arith, after-loop .loop .inv .2, s .pre .0),
+      let after-loop = after-kind .before .before in (
+        omega (arith, after-loop .loop .inv .2, after-loop .before .pre .0),
         (after-loop .loop .inv .1, λ e. after-if1 .if1 .left (after-kind .kind .ensures ∙ e)),
       )
 
-  returns-2 : run-lts.Need-returns-2 (run-claims t)
-      (run-at t) run.Post Inv-loop μ-loop
+  returns-2 : run-lts.Need-returns-2 (run-claims t) (run-at t) run.Post Inv-loop μ-loop
   returns-2 c =
-      let after-loop = c .before .before .before .before .before in
-      ran-is (after-loop .loop .inv .0 .rest) (ran-from (after-loop .loop .inv .0 .bytes) (c .run-single .ensures))
+      let remaining = c .before .before .before .before .before .loop .inv .0 in
+      ran-is (remaining .rest) (ran-from (remaining .bytes) (c .run-single .ensures))
 
   pub closed : {M : Type 1} → run-lts.Closed (run-claims t) (run-at t) run.Post M
   closed =

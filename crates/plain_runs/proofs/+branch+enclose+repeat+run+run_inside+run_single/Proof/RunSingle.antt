@@ -1,15 +1,15 @@
--- The needs of the dispatcher.
+-- The needs of a statement that is no sequence: the dispatcher.
 use Prim.Native.Nat.{ℕ}
 use native.Mathlib.Omega.{arith}
-use mathlib.Core.Path.{refl, sym, _∙_}
-use Rattle.rules.specs.Plain.{finished}
+use mathlib.Core.Path.{_≡_, sym, _∙_}
+use Rattle.rules.specs.Records.{kindOf}
 use Rattle.rules.specs.Layout.{memoryOf}
 use Rattle.rules.proofs.PlainArms.{statement-kinds, run-skip}
 use Rattle.evaluation.specs.State.{variablesOf}
-use Rattle.endings.specs.Ending.{result}
+use Rattle.plain_runs.specs.Running.{Ready}
 use Rattle.plain_runs.proofs.Laws.{ran-is}
 use Rattle.plain_runs.proofs.ReadyLaws.{ready-within}
-use Rattle.plain_runs.proofs.MemberLaws.{ran-same}
+use Rattle.plain_runs.proofs.MemberLaws.{ran-finished}
 use Rattle.plain_runs.proofs.run_single.Reads as run-single
 use Rattle.plain_runs.proofs.+branch+enclose+repeat+run+run_inside+run_single.Lts-run_single as run-single-lts
 use Rattle.plain_runs.proofs.+branch+enclose+repeat+run+run_inside+run_single.Proof.Cycle.{run-single-at}
@@ -17,69 +17,44 @@ use Rattle.plain_runs.proofs.+branch+enclose+repeat+run+run_inside+run_
 
 module _ (t : ℕ) where
   kind-requires : run-single-lts.Need-kind-requires (run-single-claims t) (run-single-at t) run-single.Post
-  kind-requires c κs =
-      let s = c .before in
-      let T = s .args .table .now in
-      let n = s .args .n in
-      let ρ = variablesOf (s .args .variables .now) in
-      let l = s .args .mem .now in
-      let f = s .args .fuel in
-      ready-within T n ρ (memoryOf l) (s .pre .1 .0)
+  kind-requires c κs = ready-within (c .before .pre .1 .0)
+
+  -- the statement's kind is the number that was read
+  of-kind : (c : run-single-lts.After-kind (run-single-claims t) (run-single-at t) run-single.Post) {k : ℕ}
+      → c .kind .result ≡ k
+      → let a = c .before .before .args in
+      Ready (a .table .now) (a .n) (variablesOf (a .variables .now)) (memoryOf (a .mem .now))
+      × (kindOf (a .table .now) (a .n) ≡ k)
+  of-kind c e = (c .before .before .pre .1 .0, sym (c .kind .ensures) ∙ e)
 
   assign-requires : run-single-lts.Need-assign-requires (run-single-claims t) (run-single-at t) run-single.Post
-  assign-requires c κs =
-      (c .before .before .before .before .pre .1 .0, sym (c .before .before .kind .ensures) ∙ c .before .match .keys2)
+  assign-requires c κs = of-kind (c .before .before) (c .before .match .keys2)
 
   allocate-requires : run-single-lts.Need-allocate-requires (run-single-claims t) (run-single-at t) run-single.Post
-  allocate-requires c κs =
-      (c .before .before .before .before .pre .1 .0, sym (c .before .before .kind .ensures) ∙ c .before .match .keys3)
+  allocate-requires c κs = of-kind (c .before .before) (c .before .match .keys3)
 
   release-requires : run-single-lts.Need-release-requires (run-single-claims t) (run-single-at t) run-single.Post
-  release-requires c κs =
-      (c .before .before .before .before .pre .1 .0, sym (c .before .before .kind .ensures) ∙ c .before .match .keys4)
+  release-requires c κs = of-kind (c .before .before) (c .before .match .keys4)
 
   branch-requires : run-single-lts.Need-branch-requires (run-single-claims t) (run-single-at t) run-single.Post
-  branch-requires c κs = (
-    omega (arith, c .before .before .before .before .pre .0),
-    (
-      c .before .before .before .before .pre .1 .0,
-      sym (c .before .before .kind .ensures)
-          ∙ c .before .match .keys5,
-    ),
-  )
+  branch-requires c κs =
+      (omega (arith, c .before .before .before .before .pre .0), of-kind (c .before .before) (c .before .match .keys5))
 
   repeat-requires : run-single-lts.Need-repeat-requires (run-single-claims t) (run-single-at t) run-single.Post
-  repeat-requires c κs = (
-    omega (arith, c .before .before .before .before .pre .0),
-    (
-      c .before .before .before .before .pre .1 .0,
-      sym (c .before .before .kind .ensures)
-          ∙ c .before .match .keys6,
-    ),
-  )
+  repeat-requires c κs =
+      (omega (arith, c .before .before .before .before .pre .0), of-kind (c .before .before) (c .before .match .keys6))
 
   enclose-requires : run-single-lts.Need-enclose-requires (run-single-claims t) (run-single-at t) run-single.Post
-  enclose-requires c κs = (
-    omega (arith, c .before .before .before .before .pre .0),
-    (
-      c .before .before .before .before .pre .1 .0,
-      sym (c .before .before .kind .ensures)
-          ∙ c .before .match .keys7,
-    ),
-  )
+  enclose-requires c κs =
+      (omega (arith, c .before .before .before .before .pre .0), of-kind (c .before .before) (c .before .match .keys7))
 
   assert-requires : run-single-lts.Need-assert-requires (run-single-claims t) (run-single-at t) run-single.Post
   assert-requires c κs =
       let s = c .before .before .before .before in
-      let T = s .args .table .now in
-      let n = s .args .n in
-      let ρ = variablesOf (s .args .variables .now) in
-      let l = s .args .mem .now in
-      let f = s .args .fuel in
       let k = c .before .before .kind .ensures in
       let r = c .before .match .rest in (
         s .pre .1 .0,
-        statement-kinds T n (s .pre .1 .0 .is)
+        statement-kinds (s .args .table .now) (s .args .n) (s .pre .1 .0 .is)
             (λ e. r .0 .0 .0 .0 .0 .0 .1 (k ∙ e)) (λ e. r .0 .0 .0 .0 .0 .1 (k ∙ e)) (λ e. r .0 .0 .0 .0 .1 (k ∙ e))
             (λ e. r .0 .0 .0 .1 (k ∙ e)) (s .pre .1 .1) (λ e. r .0 .0 .1 (k ∙ e)) (λ e. r .0 .1 (k ∙ e))
             (λ e. r .1 (k ∙ e)),
@@ -88,13 +63,11 @@ module _ (t : ℕ) where
   returns : run-single-lts.Need-returns (run-single-claims t) (run-single-at t) run-single.Post
   returns c =
       let s = c .before .before .before in
-      let T = s .args .table .now in
-      let n = s .args .n in
-      let ρ = variablesOf (s .args .variables .now) in
       let l = s .args .mem .now in
-      let f = s .args .fuel in
-      ran-is (run-skip T n (s .pre .1 .0 .is) ρ (memoryOf l) f (sym (c .before .kind .ensures) ∙ c .match .keys1))
-      (ran-same (finished (memoryOf l) f) (result 0 0 f) refl refl)
+      ran-is
+      (run-skip (s .args .table .now) (s .args .n) (s .pre .1 .0 .is) (variablesOf (s .args .variables .now))
+      (memoryOf l) (s .args .fuel) (of-kind (c .before) (c .match .keys1) .1))
+      (ran-finished l (s .args .fuel))
 
   returns-2 : run-single-lts.Need-returns-2 (run-single-claims t) (run-single-at t) run-single.Post
   returns-2 c = c .assign .ensures

@@ -1,4 +1,4 @@
--- The measure, which is the record number, and what a member may ask of the others: what lies below it.
+-- The measures, by the record number; and the claims: a member is proved at its measure, with the others below it.
 use Prim.Native.Nat.{ℕ, _+_, _*_, _<_}
 use borrow.Fn.Kinds.{In}
 use borrow.Fn.PlainCycle.{Measures, is, falls, and}
