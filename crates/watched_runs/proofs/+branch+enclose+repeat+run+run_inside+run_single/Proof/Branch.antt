@@ -1,11 +1,10 @@
 -- The needs of a branch.
 use Prim.Native.Nat.{ℕ}
 use native.Mathlib.Omega.{arith}
-use borrow.Author.Needs.{needs}
 use mathlib.Core.Path.{sym, _∙_}
+use borrow.Author.Needs.{needs}
 use Rattle.rules.specs.declared.Test.the-variants as test
 use Rattle.rules.proofs.TargetFields.{numberAt}
-use Rattle.evaluation.specs.State.{variablesOf}
 use Rattle.watched_statements.specs.Watching.{lent}
 use Rattle.watched_statements.proofs.Laws.{ran-is, ran-ended}
 use Rattle.watched_statements.proofs.ReadyLaws.{ready-within, branch-parts, ready-then, ready-else}
@@ -17,31 +16,15 @@ use Rattle.watched_runs.proofs.+branch+enclose+repeat+run+run_inside+ru
 
 module _ (t : ℕ) where
   child-b-requires : branch-lts.Need-child-b-requires (branch-claims t) (branch-at t) branch.Post
-  child-b-requires c κs =
-      let s = c .before in
-      let T = s .args .table .now in
-      let n = s .args .n in
-      let ρ = variablesOf (s .args .variables .now) in
-      let x = lent (s .args .mem .now) (s .args .obs .now) (s .args .temporaries .now) in
-      let h = s .pre .1 .0 in
-      ready-within T n ρ x h
+  child-b-requires c κs = ready-within _ _ _ _ (c .before .pre .1 .0)
 
   child-c-requires : branch-lts.Need-child-c-requires (branch-claims t) (branch-at t) branch.Post
-  child-c-requires c κs =
-      let s = c .before .before .before in
-      let T = s .args .table .now in
-      let n = s .args .n in
-      let ρ = variablesOf (s .args .variables .now) in
-      let x = lent (s .args .mem .now) (s .args .obs .now) (s .args .temporaries .now) in
-      let h = s .pre .1 .0 in
-      ready-within T n ρ x h
+  child-c-requires c κs = ready-within _ _ _ _ (c .before .before .before .pre .1 .0)
 
   test-requires : branch-lts.Need-test-requires (branch-claims t) (branch-at t) branch.Post
   test-requires c κs =
-      let s = c .before .before .before .before .before .before in
-      let h = s .pre .1 .0 in
-      let q = s .pre .1 .1 in
-      (h .is, q)
+      let h = c .before .before .before .before .before .before .pre .1 in
+      (h .0 .is, h .1)
 
   enum-told : branch-lts.Need-enum-told (branch-claims t) (branch-at t) branch.Post
   enum-told c = search needs
@@ -50,14 +33,9 @@ module _ (t : ℕ) where
   run-requires c κs =
       let after-child-b = c .before .before .before .before .before .before .before .before .before .before in
       let s = after-child-b .before .before in
-      let T = s .args .table .now in
-      let n = s .args .n in
-      let ρ = variablesOf (s .args .variables .now) in
-      let x = lent (s .args .mem .now) (s .args .obs .now) (s .args .temporaries .now) in
-      let h = s .pre .1 .0 in
-      let q = s .pre .1 .1 in
+      let h = s .pre .1 in
       rw (after-child-b .child-b .ensures)
-      (omega (arith, branch-parts T n ρ x h q .0 .1, s .pre .0), ready-then T n ρ x h q)
+      (omega (arith, branch-parts _ _ _ _ (h .0) (h .1) .0 .1, s .pre .0), ready-then _ _ _ _ (h .0) (h .1))
 
   enum-told-2 : branch-lts.Need-enum-told-2 (branch-claims t) (branch-at t) branch.Post
   enum-told-2 c = search needs
@@ -66,24 +44,16 @@ module _ (t : ℕ) where
   run-requires-2 c κs =
       let after-child-c = c .before .before .before .before .before .before .before .before in
       let s = after-child-c .before .before .before .before in
-      let T = s .args .table .now in
-      let n = s .args .n in
-      let ρ = variablesOf (s .args .variables .now) in
-      let x = lent (s .args .mem .now) (s .args .obs .now) (s .args .temporaries .now) in
-      let h = s .pre .1 .0 in
-      let q = s .pre .1 .1 in
+      let h = s .pre .1 in
       rw (after-child-c .child-c .ensures)
-      (omega (arith, branch-parts T n ρ x h q .1 .1, s .pre .0), ready-else T n ρ x h q)
+      (omega (arith, branch-parts _ _ _ _ (h .0) (h .1) .1 .1, s .pre .0), ready-else _ _ _ _ (h .0) (h .1))
 
   enum-known-k : branch-lts.Need-enum-known-k (branch-claims t) (branch-at t) branch.Post
   enum-known-k c = search needs
 
-  statement-of-requires : branch-lts.Need-statement-of-requires (branch-claims t)
-      (branch-at t) branch.Post
+  statement-of-requires : branch-lts.Need-statement-of-requires (branch-claims t) (branch-at t) branch.Post
   statement-of-requires c κs =
-      let s = c .before .before .before .before .before .before .before .before .before .before in
-      let h = s .pre .1 .0 in
-      h .is
+      c .before .before .before .before .before .before .before .before .before .before .pre .1 .0 .is
 
   returns : branch-lts.Need-returns (branch-claims t) (branch-at t) branch.Post
   returns c =
@@ -91,15 +61,8 @@ module _ (t : ℕ) where
       let after-test = after-enum-told .before .before in
       let after-child-b = after-test .before .before .before .before .before in
       let s = after-child-b .before .before in
-      let T = s .args .table .now in
-      let n = s .args .n in
-      let ρ = variablesOf (s .args .variables .now) in
-      let x = lent (s .args .mem .now) (s .args .obs .now) (s .args .temporaries .now) in
-      let f = s .args .fuel in
-      let h = s .pre .1 .0 in
-      let q = s .pre .1 .1 in
       ran-is
-      (branch-by T n (h .is) ρ x q f test.Yes
+      (branch-by (s .pre .1 .0) (s .pre .1 .1) (s .args .fuel) test.Yes
       (sym (after-test .test .ensures) ∙ after-enum-told .enum-told .given .1))
       (rw (after-child-b .child-b .ensures) at (c .run .ensures))
 
@@ -109,15 +72,8 @@ module _ (t : ℕ) where
       let after-test = after-enum-told2 .before .before in
       let after-child-c = after-test .before .before .before in
       let s = after-child-c .before .before .before .before in
-      let T = s .args .table .now in
-      let n = s .args .n in
-      let ρ = variablesOf (s .args .variables .now) in
-      let x = lent (s .args .mem .now) (s .args .obs .now) (s .args .temporaries .now) in
-      let f = s .args .fuel in
-      let h = s .pre .1 .0 in
-      let q = s .pre .1 .1 in
       ran-is
-      (branch-by T n (h .is) ρ x q f test.No
+      (branch-by (s .pre .1 .0) (s .pre .1 .1) (s .args .fuel) test.No
       (sym (after-test .test .ensures) ∙ after-enum-told2 .enum-told2 .given .1))
       (rw (after-child-c .child-c .ensures) at (c .run2 .ensures))
 
@@ -126,20 +82,15 @@ module _ (t : ℕ) where
       let after-k = c .before .before in
       let after-test = after-k .before .before in
       let s = after-test .before .before .before .before .before .before .before in
-      let T = s .args .table .now in
-      let n = s .args .n in
-      let ρ = variablesOf (s .args .variables .now) in
       let x = lent (s .args .mem .now) (s .args .obs .now) (s .args .temporaries .now) in
-      let f = s .args .fuel in
-      let h = s .pre .1 .0 in
-      let q = s .pre .1 .1 in
       let k = after-k .k .given .0 .0 in
       rw (c .statement-of .ensures)
-      (ran-is (branch-by T n (h .is) ρ x q f (test.Stopped k) (sym (after-test .test .ensures) ∙ after-k .k .given .1))
-      (ran-ended x k (numberAt T n) f))
+      (ran-is
+      (branch-by (s .pre .1 .0) (s .pre .1 .1) (s .args .fuel) (test.Stopped k)
+      (sym (after-test .test .ensures) ∙ after-k .k .given .1))
+      (ran-ended x k (numberAt (s .args .table .now) (s .args .n)) (s .args .fuel)))
 
   pub closed : {M : Type 1} → branch-lts.Closed (branch-claims t) (branch-at t) branch.Post M
   closed =
-      branch-lts.spec (branch-claims t) (branch-at t) branch.Post child-b-requires child-c-requires
-      test-requires enum-told run-requires enum-told-2 run-requires-2 enum-known-k statement-of-requires returns
-      returns-2 returns-3
+      branch-lts.spec (branch-claims t) (branch-at t) branch.Post child-b-requires child-c-requires test-requires
+      enum-told run-requires enum-told-2 run-requires-2 enum-known-k statement-of-requires returns returns-2 returns-3

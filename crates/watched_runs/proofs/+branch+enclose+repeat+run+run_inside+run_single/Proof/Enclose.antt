@@ -1,10 +1,8 @@
 -- The needs of a let.
 use Prim.Native.Nat.{ℕ}
 use native.Mathlib.Omega.{arith}
+use mathlib.Core.Path.{sym, _∙_}
 use borrow.Author.Needs.{needs}
-use mathlib.Core.Path.{refl, sym, _∙_}
-use Rattle.evaluation.specs.State.{variablesOf}
-use Rattle.watched_statements.specs.Watching.{lent}
 use Rattle.watched_statements.proofs.Laws.{kept-memory, ran-is, ran-from}
 use Rattle.watched_statements.proofs.ReadyLaws.{ready-made}
 use Rattle.watched_runs.proofs.MemberLaws.{let-made, let-unmade}
@@ -15,53 +13,35 @@ use Rattle.watched_runs.proofs.+branch+enclose+repeat+run+run_inside+ru
 
 module _ (t : ℕ) where
   make-requires : enclose-lts.Need-make-requires (enclose-claims t) (enclose-at t) enclose.Post
-  make-requires c κs =
-      tt
+  make-requires c κs = tt
 
   enum-known-k : enclose-lts.Need-enum-known-k (enclose-claims t) (enclose-at t) enclose.Post
   enum-known-k c = search needs
 
-  run-inside-requires : enclose-lts.Need-run-inside-requires (enclose-claims t)
-      (enclose-at t) enclose.Post
+  run-inside-requires : enclose-lts.Need-run-inside-requires (enclose-claims t) (enclose-at t) enclose.Post
   run-inside-requires c κs =
       let after-k = c .before .before .before .before in
       let after-make = after-k .before .before in
-      let s = after-make .before .before in
-      let T = s .args .table .now in
-      let n = s .args .n in
-      let ρ = variablesOf (s .args .variables .now) in
-      let x = lent (s .args .mem .now) (s .args .obs .now) (s .args .temporaries .now) in
-      let h = s .pre .1 .0 in
-      let q = s .pre .1 .1 in
-      let k = after-k .k .given .0 .0 in
-      let e = sym (after-k .k .given .1) ∙ after-make .make .ensures .0 in
-      (omega (arith, s .pre .0), ready-made T n ρ x h q k (after-make .make .last .0) (after-make .make .ensures .1) e)
+      let s = after-make .before .before in (
+        omega (arith, s .pre .0),
+        ready-made _ _ _ _ (s .pre .1 .0) (s .pre .1 .1) _ _ (after-make .make .ensures .1)
+            (sym (after-k .k .given .1) ∙ after-make .make .ensures .0),
+      )
 
   enum-known-c : enclose-lts.Need-enum-known-c (enclose-claims t) (enclose-at t) enclose.Post
   enum-known-c c = search needs
 
-  statement-of-requires : enclose-lts.Need-statement-of-requires (enclose-claims t)
-      (enclose-at t) enclose.Post
-  statement-of-requires c κs =
-      let s = c .before .before .before .before .before in
-      let h = s .pre .1 .0 in
-      h .is
+  statement-of-requires : enclose-lts.Need-statement-of-requires (enclose-claims t) (enclose-at t) enclose.Post
+  statement-of-requires c κs = c .before .before .before .before .before .pre .1 .0 .is
 
   returns : enclose-lts.Need-returns (enclose-claims t) (enclose-at t) enclose.Post
   returns c =
       let after-k = c .before .before .before .before .before in
       let after-make = after-k .before .before in
       let s = after-make .before .before in
-      let T = s .args .table .now in
-      let n = s .args .n in
-      let ρ = variablesOf (s .args .variables .now) in
-      let x = lent (s .args .mem .now) (s .args .obs .now) (s .args .temporaries .now) in
-      let f = s .args .fuel in
-      let h = s .pre .1 .0 in
-      let q = s .pre .1 .1 in
-      let k = after-k .k .given .0 .0 in
-      let e = sym (after-k .k .given .1) ∙ after-make .make .ensures .0 in
-      ran-is (let-made T n (h .is) ρ x q (after-make .make .last .0) f (after-make .make .ensures .1) k e)
+      ran-is
+      (let-made (s .pre .1 .0) (s .pre .1 .1) (after-make .make .ensures .1) (s .args .fuel)
+      (sym (after-k .k .given .1) ∙ after-make .make .ensures .0))
       (ran-from (kept-memory _ _ (after-make .make .ensures .1)) (c .run-inside .ensures))
 
   returns-2 : enclose-lts.Need-returns-2 (enclose-claims t) (enclose-at t) enclose.Post
@@ -69,17 +49,9 @@ module _ (t : ℕ) where
       let after-c = c .before .before in
       let after-make = after-c .before .before in
       let s = after-make .before .before in
-      let T = s .args .table .now in
-      let n = s .args .n in
-      let ρ = variablesOf (s .args .variables .now) in
-      let x = lent (s .args .mem .now) (s .args .obs .now) (s .args .temporaries .now) in
-      let f = s .args .fuel in
-      let h = s .pre .1 .0 in
-      let q = s .pre .1 .1 in
-      let e = sym (after-c .c .given .1) ∙ after-make .make .ensures .0 in
       rw (c .statement-of .ensures)
-      (let-unmade T n (h .is) ρ x q (after-make .make .last .0) f (after-make .make .ensures .1)
-      (after-c .c .given .0 .0) _ e refl)
+      (let-unmade (s .pre .1 .0) (s .pre .1 .1) (after-make .make .ensures .1) (s .args .fuel)
+      (after-c .c .given .0 .0) (sym (after-c .c .given .1) ∙ after-make .make .ensures .0))
 
   pub closed : {M : Type 1} → enclose-lts.Closed (enclose-claims t) (enclose-at t) enclose.Post M
   closed =

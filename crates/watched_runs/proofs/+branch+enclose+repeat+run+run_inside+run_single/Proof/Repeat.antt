@@ -1,18 +1,17 @@
 -- The needs of a while.
 use Prim.Native.Nat.{ℕ, _-_}
 use native.Mathlib.Omega.{arith}
-use borrow.Author.Needs.{needs}
 use mathlib.Core.Path.{refl, sym, _∙_}
-use Rattle.rules.specs.Kinds.{target}
+use borrow.Author.Needs.{needs}
 use Rattle.rules.specs.Records.{childB}
 use Rattle.rules.specs.declared.Test.the-variants as test
-use Rattle.rules.proofs.StatementArms.{while-children}
 use Rattle.rules.proofs.TargetFields.{numberAt}
 use Rattle.evaluation.specs.State.{variablesOf}
 use Rattle.watched_statements.specs.Watching.{lent}
 use Rattle.watched_statements.proofs.Laws.{kept-same, ran-is, ran-from, ran-finished, ran-ended}
 use Rattle.watched_statements.proofs.ReadyLaws.{ready-within, ready-turn}
-use Rattle.watched_runs.proofs.MemberLaws.{turn-by, turn-out, Remaining, part-ends, part-finishes, part-spends}
+use Rattle.watched_runs.proofs.MemberLaws.{while-parts, turn-by, turn-out, Remaining}
+use Rattle.watched_runs.proofs.MemberLaws.{Part, part-ends, part-finishes, part-spends}
 use Rattle.watched_runs.proofs.repeat.Reads as repeat
 use Rattle.watched_runs.proofs.+branch+enclose+repeat+run+run_inside+run_single.Lts-repeat as repeat-lts
 use Rattle.watched_runs.proofs.+branch+enclose+repeat+run+run_inside+run_single.Proof.Cycle.{repeat-at}
@@ -26,213 +25,132 @@ abbrev μ-loop : repeat-lts.MeasureT-loop
 μ-loop table n variables temporaries₀ mem₀ obs₀ fuel b left₀ temporaries mem obs left = left
 
 module _ (t : ℕ) where
-  child-b-requires : repeat-lts.Need-child-b-requires (repeat-claims t)
-      (repeat-at t) repeat.Post Inv-loop μ-loop
-  child-b-requires c κs =
-      let s = c .before in
-      let T = s .args .table .now in
-      let n = s .args .n in
-      let ρ = variablesOf (s .args .variables .now) in
-      let x = lent (s .args .mem .now) (s .args .obs .now) (s .args .temporaries .now) in
-      let h = s .pre .1 .0 in
-      ready-within T n ρ x h
+  child-b-requires : repeat-lts.Need-child-b-requires (repeat-claims t) (repeat-at t) repeat.Post Inv-loop μ-loop
+  child-b-requires c κs = ready-within _ _ _ _ (c .before .pre .1 .0)
 
-  loop-holds : repeat-lts.Need-loop-holds (repeat-claims t)
-      (repeat-at t) repeat.Post Inv-loop μ-loop
-  loop-holds c =
-      record { rest = refl; bytes = kept-same _; fits = c .before .before .pre .1 .0 .fits }
+  loop-holds : repeat-lts.Need-loop-holds (repeat-claims t) (repeat-at t) repeat.Post Inv-loop μ-loop
+  loop-holds c = record { rest = refl; bytes = kept-same _; fits = c .before .before .pre .1 .0 .fits }
 
-  sub-left : repeat-lts.Need-sub-left (repeat-claims t)
-      (repeat-at t) repeat.Post Inv-loop μ-loop
-  sub-left c =
-      omega (arith, c .loop-test .taken)
+  sub-left : repeat-lts.Need-sub-left (repeat-claims t) (repeat-at t) repeat.Post Inv-loop μ-loop
+  sub-left c = omega (arith, c .loop-test .taken)
 
-  test-a-requires : repeat-lts.Need-test-a-requires (repeat-claims t)
-      (repeat-at t) repeat.Post Inv-loop μ-loop
+  test-a-requires : repeat-lts.Need-test-a-requires (repeat-claims t) (repeat-at t) repeat.Post Inv-loop μ-loop
   test-a-requires c κs =
-      let s = c .before .before .before .before .before .before in
-      let T = s .args .table .now in
-      let n = s .args .n in
-      let ρ = variablesOf (s .args .variables .now) in
-      let x = lent (s .args .mem .now) (s .args .obs .now) (s .args .temporaries .now) in
-      let h = s .pre .1 .0 in
-      let q = s .pre .1 .1 in
-      (ready-within T n ρ x h, while-children target T n (h .is) q .0 .2)
+      let h = c .before .before .before .before .before .before .pre .1 in
+      (ready-within _ _ _ _ (h .0), while-parts (h .0) (h .1) .0 .2)
 
-  enum-told : repeat-lts.Need-enum-told (repeat-claims t)
-      (repeat-at t) repeat.Post Inv-loop μ-loop
+  enum-told : repeat-lts.Need-enum-told (repeat-claims t) (repeat-at t) repeat.Post Inv-loop μ-loop
   enum-told c = search needs
 
-  run-requires : repeat-lts.Need-run-requires (repeat-claims t)
-      (repeat-at t) repeat.Post Inv-loop μ-loop
+  run-requires : repeat-lts.Need-run-requires (repeat-claims t) (repeat-at t) repeat.Post Inv-loop μ-loop
   run-requires c κs =
       let after-loop = c .before .before .before .before .before .before .before .before .before in
       let after-child-b = after-loop .before in
       let s = after-child-b .before .before in
-      let T = s .args .table .now in
-      let n = s .args .n in
-      let ρ = variablesOf (s .args .variables .now) in
-      let x = lent (s .args .mem .now) (s .args .obs .now) (s .args .temporaries .now) in
-      let h = s .pre .1 .0 in
-      let q = s .pre .1 .1 in
-      let y = lent (after-loop .loop .mem) (after-loop .loop .obs) (after-loop .loop .temporaries) in
+      let h = s .pre .1 in
       rw (after-child-b .child-b .ensures) (
-        omega (arith, while-children target T n (h .is) q .1 .1, s .pre .0),
-        ready-turn T n ρ x h q y (after-loop .loop .inv .fits),
+        omega (arith, while-parts (h .0) (h .1) .1 .1, s .pre .0),
+        ready-turn _ _ _ _ (h .0) (h .1) _ (after-loop .loop .inv .fits),
       )
 
-  returns : repeat-lts.Need-returns (repeat-claims t)
-      (repeat-at t) repeat.Post Inv-loop μ-loop
-  returns c =
-      let after-run = c .before .before in
-      let after-enum-told = after-run .before .before .before .before in
+  -- a turn whose condition is true, where its child ran
+  turn : (c : repeat-lts.After-run (repeat-claims t) (repeat-at t) repeat.Post Inv-loop μ-loop)
+      → let after-loop = c .before .before .before .before .before .before .before .before .before .before in
+      let loop = after-loop .loop in
+      let s = after-loop .before .before .before in
+      let n = s .args .n in
+      let last = c .run .last .1 .1 .1 in
+      Part (s .args .table .now) n (variablesOf (s .args .variables .now))
+      (lent (s .args .mem .now) (s .args .obs .now) (s .args .temporaries .now)) (s .args .fuel) n
+      (lent (loop .mem) (loop .obs) (loop .temporaries)) (loop .left) (childB (s .args .table .now) n) n
+      (loop .left - 1) (c .run .result) (lent (last .1 .0) (last .1 .1 .0) (last .0))
+  turn c =
+      let after-enum-told = c .before .before .before .before in
       let after-test-a = after-enum-told .before .before in
       let after-loop-test = after-test-a .before .before .before in
-      let after-loop = after-loop-test .before in
-      let after-child-b = after-loop .before in
-      let s = after-child-b .before .before in
-      let T = s .args .table .now in
-      let n = s .args .n in
-      let ρ = variablesOf (s .args .variables .now) in
-      let x = lent (s .args .mem .now) (s .args .obs .now) (s .args .temporaries .now) in
-      let f = s .args .fuel in
-      let h = s .pre .1 .0 in
-      let q = s .pre .1 .1 in
-      let y = lent (after-loop .loop .mem) (after-loop .loop .obs) (after-loop .loop .temporaries) in
-      part-ends T n ρ x f n y (after-loop .loop .left) (after-loop .loop .inv) (childB T n) n (after-loop .loop .left - 1)
-      (after-run .run .result) _
-      (rw (after-child-b .child-b .ensures) at (after-run .run .ensures))
-      (turn-by T n (h .is) ρ y q (after-loop .loop .left) (after-loop-test .loop-test .taken) test.Yes
-      (sym (after-test-a .test-a .ensures) ∙ after-enum-told .enum-told .given .1)) (c .if1 .taken)
+      let after-child-b = after-loop-test .before .before in
+      let loop = after-loop-test .before .loop in
+      let h = after-child-b .before .before .pre .1 in
+      record {
+        earlier = loop .inv;
+        ran = rw (after-child-b .child-b .ensures) at (c .run .ensures);
+        leads =
+            turn-by (h .0) (h .1) (lent (loop .mem) (loop .obs) (loop .temporaries)) (loop .left)
+            (after-loop-test .loop-test .taken) test.Yes
+            (sym (after-test-a .test-a .ensures) ∙ after-enum-told .enum-told .given .1);
+      }
 
-  loop-less : repeat-lts.Need-loop-less (repeat-claims t)
-      (repeat-at t) repeat.Post Inv-loop μ-loop
+  returns : repeat-lts.Need-returns (repeat-claims t) (repeat-at t) repeat.Post Inv-loop μ-loop
+  returns c = part-ends (turn (c .before .before)) (c .if1 .taken)
+
+  loop-less : repeat-lts.Need-loop-less (repeat-claims t) (repeat-at t) repeat.Post Inv-loop μ-loop
   loop-less c =
-      let after-run = c .before .before in
-      let after-enum-told = after-run .before .before .before .before in
-      let after-test-a = after-enum-told .before .before in
-      let after-loop-test = after-test-a .before .before .before in
-      let after-loop = after-loop-test .before in
-      let after-child-b = after-loop .before in
-      let s = after-child-b .before .before in
-      let T = s .args .table .now in
-      let n = s .args .n in
-      let ρ = variablesOf (s .args .variables .now) in
-      let x = lent (s .args .mem .now) (s .args .obs .now) (s .args .temporaries .now) in
-      let f = s .args .fuel in
-      let h = s .pre .1 .0 in
-      let q = s .pre .1 .1 in
-      let y = lent (after-loop .loop .mem) (after-loop .loop .obs) (after-loop .loop .temporaries) in
-      part-spends T n ρ x f n y (after-loop .loop .left) (after-loop .loop .inv) (childB T n) n (after-loop .loop .left - 1)
-      (after-run .run .result) _
-      (rw (after-child-b .child-b .ensures) at (after-run .run .ensures))
-      (turn-by T n (h .is) ρ y q (after-loop .loop .left) (after-loop-test .loop-test .taken) test.Yes
-      (sym (after-test-a .test-a .ensures) ∙ after-enum-told .enum-told .given .1)) (c .if1 .left)
-      (omega (arith, after-loop-test .loop-test .taken))
+      let after-test-a = c .before .before .before .before .before .before .before .before in
+      part-spends (turn (c .before .before)) (c .if1 .left)
+      (omega (arith, after-test-a .before .before .before .loop-test .taken))
 
-  loop-again : repeat-lts.Need-loop-again (repeat-claims t)
-      (repeat-at t) repeat.Post Inv-loop μ-loop
+  loop-again : repeat-lts.Need-loop-again (repeat-claims t) (repeat-at t) repeat.Post Inv-loop μ-loop
   loop-again c =
-      let after-run = c .before .before in
-      let after-enum-told = after-run .before .before .before .before in
-      let after-test-a = after-enum-told .before .before in
-      let after-loop-test = after-test-a .before .before .before in
-      let after-loop = after-loop-test .before in
-      let after-child-b = after-loop .before in
-      let s = after-child-b .before .before in
-      let T = s .args .table .now in
-      let n = s .args .n in
-      let ρ = variablesOf (s .args .variables .now) in
-      let x = lent (s .args .mem .now) (s .args .obs .now) (s .args .temporaries .now) in
-      let f = s .args .fuel in
-      let h = s .pre .1 .0 in
-      let q = s .pre .1 .1 in
-      let y = lent (after-loop .loop .mem) (after-loop .loop .obs) (after-loop .loop .temporaries) in
-      part-finishes T n ρ x f n y (after-loop .loop .left) (after-loop .loop .inv) (childB T n) n (after-loop .loop .left - 1)
-      (after-run .run .result) _
-      (rw (after-child-b .child-b .ensures) at (after-run .run .ensures))
-      (turn-by T n (h .is) ρ y q (after-loop .loop .left) (after-loop-test .loop-test .taken) test.Yes
-      (sym (after-test-a .test-a .ensures) ∙ after-enum-told .enum-told .given .1)) (c .if1 .left)
-      (ready-turn T n ρ x h q y (after-loop .loop .inv .fits))
+      let after-test-a = c .before .before .before .before .before .before .before .before in
+      let after-loop = after-test-a .before .before .before .before in
+      let h = after-loop .before .before .before .pre .1 in
+      part-finishes (turn (c .before .before)) (c .if1 .left)
+      (ready-turn _ _ _ _ (h .0) (h .1) _ (after-loop .loop .inv .fits))
 
-  enum-told-2 : repeat-lts.Need-enum-told-2 (repeat-claims t)
-      (repeat-at t) repeat.Post Inv-loop μ-loop
+  enum-told-2 : repeat-lts.Need-enum-told-2 (repeat-claims t) (repeat-at t) repeat.Post Inv-loop μ-loop
   enum-told-2 c = search needs
 
-  returns-2 : repeat-lts.Need-returns-2 (repeat-claims t)
-      (repeat-at t) repeat.Post Inv-loop μ-loop
+  returns-2 : repeat-lts.Need-returns-2 (repeat-claims t) (repeat-at t) repeat.Post Inv-loop μ-loop
   returns-2 c =
       let after-test-a = c .before .before in
       let after-loop-test = after-test-a .before .before .before in
-      let after-loop = after-loop-test .before in
-      let s = after-loop .before .before .before in
-      let T = s .args .table .now in
-      let n = s .args .n in
-      let ρ = variablesOf (s .args .variables .now) in
-      let h = s .pre .1 .0 in
-      let q = s .pre .1 .1 in
-      let y = lent (after-loop .loop .mem) (after-loop .loop .obs) (after-loop .loop .temporaries) in
+      let loop = after-loop-test .before .loop in
+      let h = after-loop-test .before .before .before .before .pre .1 in
+      let y = lent (loop .mem) (loop .obs) (loop .temporaries) in
       ran-is
-      (after-loop .loop .inv .rest
-      ∙ turn-by T n (h .is) ρ y q (after-loop .loop .left) (after-loop-test .loop-test .taken) test.No
+      (loop .inv .rest
+      ∙ turn-by (h .0) (h .1) y (loop .left) (after-loop-test .loop-test .taken) test.No
       (sym (after-test-a .test-a .ensures) ∙ c .enum-told2 .given .1))
-      (ran-from (after-loop .loop .inv .bytes) (ran-finished y (after-loop .loop .left - 1)))
+      (ran-from (loop .inv .bytes) (ran-finished y (loop .left - 1)))
 
-  enum-known-k : repeat-lts.Need-enum-known-k (repeat-claims t)
-      (repeat-at t) repeat.Post Inv-loop μ-loop
+  enum-known-k : repeat-lts.Need-enum-known-k (repeat-claims t) (repeat-at t) repeat.Post Inv-loop μ-loop
   enum-known-k c = search needs
 
   statement-of-requires : repeat-lts.Need-statement-of-requires (repeat-claims t)
       (repeat-at t) repeat.Post Inv-loop μ-loop
   statement-of-requires c κs =
-      let s = c .before .before .before .before .before .before .before .before .before .before in
-      let h = s .pre .1 .0 in
-      h .is
+      c .before .before .before .before .before .before .before .before .before .before .pre .1 .0 .is
 
-  returns-3 : repeat-lts.Need-returns-3 (repeat-claims t)
-      (repeat-at t) repeat.Post Inv-loop μ-loop
+  returns-3 : repeat-lts.Need-returns-3 (repeat-claims t) (repeat-at t) repeat.Post Inv-loop μ-loop
   returns-3 c =
       let after-k = c .before .before in
       let after-test-a = after-k .before .before in
       let after-loop-test = after-test-a .before .before .before in
-      let after-loop = after-loop-test .before in
-      let s = after-loop .before .before .before in
-      let T = s .args .table .now in
-      let n = s .args .n in
-      let ρ = variablesOf (s .args .variables .now) in
-      let h = s .pre .1 .0 in
-      let q = s .pre .1 .1 in
-      let y = lent (after-loop .loop .mem) (after-loop .loop .obs) (after-loop .loop .temporaries) in
+      let loop = after-loop-test .before .loop in
+      let s = after-loop-test .before .before .before .before in
+      let y = lent (loop .mem) (loop .obs) (loop .temporaries) in
       let k = after-k .k .given .0 .0 in
       rw (c .statement-of .ensures)
       (ran-is
-      (after-loop .loop .inv .rest
-      ∙ turn-by T n (h .is) ρ y q (after-loop .loop .left) (after-loop-test .loop-test .taken) (test.Stopped k)
+      (loop .inv .rest
+      ∙ turn-by (s .pre .1 .0) (s .pre .1 .1) y (loop .left) (after-loop-test .loop-test .taken) (test.Stopped k)
       (sym (after-test-a .test-a .ensures) ∙ after-k .k .given .1))
-      (ran-from (after-loop .loop .inv .bytes) (ran-ended y k (numberAt T n) (after-loop .loop .left - 1))))
+      (ran-from (loop .inv .bytes)
+      (ran-ended y k (numberAt (s .args .table .now) (s .args .n)) (loop .left - 1))))
 
   statement-of-requires-2 : repeat-lts.Need-statement-of-requires-2 (repeat-claims t)
       (repeat-at t) repeat.Post Inv-loop μ-loop
-  statement-of-requires-2 c κs =
-      let s = c .before .before .before .before in
-      let h = s .pre .1 .0 in
-      h .is
+  statement-of-requires-2 c κs = c .before .before .before .before .pre .1 .0 .is
 
-  returns-4 : repeat-lts.Need-returns-4 (repeat-claims t)
-      (repeat-at t) repeat.Post Inv-loop μ-loop
+  returns-4 : repeat-lts.Need-returns-4 (repeat-claims t) (repeat-at t) repeat.Post Inv-loop μ-loop
   returns-4 c =
-      let after-loop = c .before .before in
-      let s = after-loop .before .before .before in
-      let T = s .args .table .now in
-      let n = s .args .n in
-      let ρ = variablesOf (s .args .variables .now) in
-      let h = s .pre .1 .0 in
-      let q = s .pre .1 .1 in
-      let y = lent (after-loop .loop .mem) (after-loop .loop .obs) (after-loop .loop .temporaries) in
+      let loop = c .before .before .loop in
+      let s = c .before .before .before .before .before in
+      let y = lent (loop .mem) (loop .obs) (loop .temporaries) in
       rw (c .statement-of2 .ensures)
-      (ran-is (after-loop .loop .inv .rest ∙ turn-out T n (h .is) ρ y q (after-loop .loop .left)
-      (c .before .loop-test .left))
-      (ran-from (after-loop .loop .inv .bytes) (ran-ended y 32 (numberAt T n) 0)))
+      (ran-is
+      (loop .inv .rest ∙ turn-out (s .pre .1 .0) (s .pre .1 .1) y (loop .left) (c .before .loop-test .left))
+      (ran-from (loop .inv .bytes) (ran-ended y 32 (numberAt (s .args .table .now) (s .args .n)) 0)))
 
   pub closed : {M : Type 1} → repeat-lts.Closed (repeat-claims t) (repeat-at t) repeat.Post M
   closed =

@@ -1,10 +1,8 @@
--- The needs of the dispatcher.
+-- The needs of a statement that is no sequence: the dispatcher.
 use Prim.Native.Nat.{ℕ}
 use native.Mathlib.Omega.{arith}
 use mathlib.Core.Logic.{inl, inr}
 use mathlib.Core.Path.{sym, _∙_}
-use Rattle.evaluation.specs.State.{variablesOf}
-use Rattle.watched_statements.specs.Watching.{lent}
 use Rattle.watched_statements.proofs.ReadyLaws.{ready-within}
 use Rattle.watched_runs.proofs.run_single.Reads as run-single
 use Rattle.watched_runs.proofs.+branch+enclose+repeat+run+run_inside+run_single.Lts-run_single as run-single-lts
@@ -13,13 +11,7 @@ use Rattle.watched_runs.proofs.+branch+enclose+repeat+run+run_inside+ru
 
 module _ (t : ℕ) where
   kind-requires : run-single-lts.Need-kind-requires (run-single-claims t) (run-single-at t) run-single.Post
-  kind-requires c κs =
-      let s = c .before in
-      let T = s .args .table .now in
-      let n = s .args .n in
-      let ρ = variablesOf (s .args .variables .now) in
-      let x = lent (s .args .mem .now) (s .args .obs .now) (s .args .temporaries .now) in
-      ready-within T n ρ x (s .pre .1 .0)
+  kind-requires c κs = ready-within _ _ _ _ (c .before .pre .1 .0)
 
   branch-requires : run-single-lts.Need-branch-requires (run-single-claims t) (run-single-at t) run-single.Post
   branch-requires c κs =
@@ -59,25 +51,17 @@ module _ (t : ℕ) where
         ),
       )
 
-  returns : run-single-lts.Need-returns (run-single-claims t)
-      (run-single-at t) run-single.Post
-  returns c =
-      c .branch .ensures
+  returns : run-single-lts.Need-returns (run-single-claims t) (run-single-at t) run-single.Post
+  returns c = c .branch .ensures
 
-  returns-2 : run-single-lts.Need-returns-2 (run-single-claims t)
-      (run-single-at t) run-single.Post
-  returns-2 c =
-      c .repeat .ensures
+  returns-2 : run-single-lts.Need-returns-2 (run-single-claims t) (run-single-at t) run-single.Post
+  returns-2 c = c .repeat .ensures
 
-  returns-3 : run-single-lts.Need-returns-3 (run-single-claims t)
-      (run-single-at t) run-single.Post
-  returns-3 c =
-      c .enclose .ensures
+  returns-3 : run-single-lts.Need-returns-3 (run-single-claims t) (run-single-at t) run-single.Post
+  returns-3 c = c .enclose .ensures
 
-  returns-4 : run-single-lts.Need-returns-4 (run-single-claims t)
-      (run-single-at t) run-single.Post
-  returns-4 c =
-      c .step .ensures
+  returns-4 : run-single-lts.Need-returns-4 (run-single-claims t) (run-single-at t) run-single.Post
+  returns-4 c = c .step .ensures
 
   pub closed : {M : Type 1} → run-single-lts.Closed (run-single-claims t) (run-single-at t) run-single.Post M
   closed =
