@@ -16,7 +16,7 @@ use Rattle.translation.proofs.Compounds.{branch-read, statement-has, co
 use Rattle.translation.proofs.Rooms.{room-a, room-b, room-c, room-own}
 use Rattle.translation.proofs.+emit_branch+emit_inside+emit_let+emit_repeat+emit_statement+emit_then as cycle
 use cycle.Lts-emit_branch as lts
-use cycle.Proof.Descent.{branch-at, statement-below}
+use cycle.Proof.Cycle.{branch-at, statement-below}
 use Rattle.translation.proofs.emit_branch.Reads as emit-branch
 use Rattle.translation.proofs.emit_statement.Reads as emit-statement
 use Rattle.tables.proofs.child_a.Reads as child-a-reads
@@ -152,8 +152,8 @@ returns t c =
     (rw (number-literal n (number-small T n (s .pre .1 .0))) at (w .emit-record .ensures .0))
     (w .emit-record .ensures .1))
 
-pub met : {M : Type 1} (t : ℕ) → lts.Closed (claims t) (branch-at t) emit-branch.Post M
-met t =
+pub closed : {M : Type 1} (t : ℕ) → lts.Closed (claims t) (branch-at t) emit-branch.Post M
+closed t =
     lts.spec (claims t) (branch-at t) emit-branch.Post
     (child-a-requires t)
     (child-b-requires t)

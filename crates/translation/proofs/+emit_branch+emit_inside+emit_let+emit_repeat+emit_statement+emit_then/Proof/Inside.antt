@@ -14,7 +14,7 @@ use Rattle.translation.proofs.Compounds.{inside-read, statement-has}
 use Rattle.translation.proofs.Rooms.{room-a, room-b, room-own}
 use Rattle.translation.proofs.+emit_branch+emit_inside+emit_let+emit_repeat+emit_statement+emit_then as cycle
 use cycle.Lts-emit_inside as lts
-use cycle.Proof.Descent.{inside-at, statement-below}
+use cycle.Proof.Cycle.{inside-at, statement-below}
 use Rattle.translation.proofs.emit_inside.Reads as emit-inside
 use Rattle.translation.proofs.emit_statement.Reads as emit-statement
 use Rattle.tables.proofs.child_a.Reads as child-a-reads
@@ -102,8 +102,8 @@ returns t c =
     (y .emit-ending .ensures) (subst (Room (now (s .args .out)) (s .args .at)) (l .2) (s .pre .1 .1 .1))
     (z .emit-sequence .ensures .0) (z .emit-sequence .ensures .1))
 
-pub met : {M : Type 1} (t : ℕ) → lts.Closed (claims t) (inside-at t) emit-inside.Post M
-met t =
+pub closed : {M : Type 1} (t : ℕ) → lts.Closed (claims t) (inside-at t) emit-inside.Post M
+closed t =
     lts.spec (claims t) (inside-at t) emit-inside.Post
     (child-a-requires t)
     (emit-statement-requires t)

@@ -14,7 +14,7 @@ use Rattle.translation.proofs.Compounds.{let-read}
 use Rattle.translation.proofs.LetLaws.{let-done}
 use Rattle.translation.proofs.+emit_branch+emit_inside+emit_let+emit_repeat+emit_statement+emit_then as cycle
 use cycle.Lts-emit_let as lts
-use cycle.Proof.Descent.{let-at, inside-below}
+use cycle.Proof.Cycle.{let-at, inside-below}
 use Rattle.translation.proofs.emit_let.Reads as emit-let
 use Rattle.translation.proofs.emit_inside.Reads as emit-inside
 use Rattle.tables.proofs.mark.Reads as mark-reads
@@ -105,8 +105,8 @@ returns t c =
     (x .emit-opening .ensures .0) (x .emit-opening .ensures .1) (y .emit-inside .ensures)
     (z .emit-enclosing .ensures .0) (z .emit-enclosing .ensures .1))
 
-pub met : {M : Type 1} (t : ℕ) → lts.Closed (claims t) (let-at t) emit-let.Post M
-met t =
+pub closed : {M : Type 1} (t : ℕ) → lts.Closed (claims t) (let-at t) emit-let.Post M
+closed t =
     lts.spec (claims t) (let-at t) emit-let.Post
     (mark-requires t)
     (emit-opening-requires t)

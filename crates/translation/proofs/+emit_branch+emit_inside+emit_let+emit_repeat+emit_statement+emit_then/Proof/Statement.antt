@@ -8,7 +8,7 @@ use Rattle.simple_statements.specs.Statements.{Simple}
 use Rattle.simple_statements.proofs.Statements.{statement-law}
 use Rattle.translation.proofs.+emit_branch+emit_inside+emit_let+emit_repeat+emit_statement+emit_then as cycle
 use cycle.Lts-emit_statement as lts
-use cycle.Proof.Descent.{statement-at, then-below, branch-below, repeat-below, let-below}
+use cycle.Proof.Cycle.{statement-at, then-below, branch-below, repeat-below, let-below}
 use Rattle.translation.proofs.emit_statement.Reads as emit-statement
 use Rattle.translation.proofs.emit_then.Reads as emit-then
 use Rattle.translation.proofs.emit_branch.Reads as emit-branch
@@ -112,8 +112,8 @@ same-length-5 t c = c .before .out5 .given
 returns-5 : (t : ℕ) → lts.Need-returns-5 (claims t) (statement-at t) emit-statement.Post
 returns-5 t c = c .before .before .emit-simple .ensures
 
-pub met : {M : Type 1} (t : ℕ) → lts.Closed (claims t) (statement-at t) emit-statement.Post M
-met t =
+pub closed : {M : Type 1} (t : ℕ) → lts.Closed (claims t) (statement-at t) emit-statement.Post M
+closed t =
     lts.spec (claims t) (statement-at t) emit-statement.Post
     (kind-requires t)
     (emit-then-requires t)

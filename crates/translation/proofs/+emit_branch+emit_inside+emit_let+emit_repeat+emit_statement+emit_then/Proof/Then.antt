@@ -13,7 +13,7 @@ use Rattle.translation.proofs.Compounds.{sequence-read, statement-has}
 use Rattle.translation.proofs.Rooms.{room-a, room-b, room-own}
 use Rattle.translation.proofs.+emit_branch+emit_inside+emit_let+emit_repeat+emit_statement+emit_then as cycle
 use cycle.Lts-emit_then as lts
-use cycle.Proof.Descent.{then-at, statement-below}
+use cycle.Proof.Cycle.{then-at, statement-below}
 use Rattle.translation.proofs.emit_then.Reads as emit-then
 use Rattle.translation.proofs.emit_statement.Reads as emit-statement
 use Rattle.tables.proofs.child_a.Reads as child-a-reads
@@ -110,8 +110,8 @@ returns t c =
     (subst (Room (now (s .args .out)) (s .args .at)) (l .4) (s .pre .1 .1 .1))
     (z .emit-sequence .ensures .0) (z .emit-sequence .ensures .1))
 
-pub met : {M : Type 1} (t : ℕ) → lts.Closed (claims t) (then-at t) emit-then.Post M
-met t =
+pub closed : {M : Type 1} (t : ℕ) → lts.Closed (claims t) (then-at t) emit-then.Post M
+closed t =
     lts.spec (claims t) (then-at t) emit-then.Post
     (child-a-requires t)
     (child-b-requires t)
