@@ -40,6 +40,32 @@ within t n s h =
     let r = stands source t n s h in
     (r .from-one, r .within)
 
+module _ (t : List ℕ) (n : ℕ) where
+  pub expression-below : Stands t n term → kindOf t n ≡ 20
+      → sortOfNode target (nodeAt target t (childA t n)) ≡ sortNumber expression
+  expression-below h d = target-expression t (childA t n) (stands-at source t n 20 term h d .a .2)
+
+  pub combined-below : Stands t n term → kindOf t n ≡ 24
+      → Below t n term (childA t n) × Below t n term (childB t n)
+  combined-below h d =
+      let f = stands-at source t n 24 term h d in
+      (f .a, f .b)
+
+  pub valid-below : Stands t n predicate → kindOf t n ≡ 30 → Below t n term (childA t n)
+  valid-below h d = stands-at source t n 30 predicate h d .a
+
+  pub initialised-below : Stands t n predicate → kindOf t n ≡ 31 → Below t n term (childA t n)
+  initialised-below h d = stands-at source t n 31 predicate h d .a
+
+  pub compared-below : Stands t n predicate → kindOf t n ≡ 32
+      → Below t n term (childA t n) × Below t n term (childB t n)
+  compared-below h d =
+      let f = stands-at source t n 32 predicate h d in
+      (f .a, f .b)
+
+  pub negated-below : Stands t n predicate → kindOf t n ≡ 33 → Below t n predicate (childA t n)
+  negated-below h d = stands-at source t n 33 predicate h d .a
+
 -- B, where A leaves it open
 abbrev pub byJoint : Joint → Evaluated → Evaluated
 byJoint (joint.Decided e) b = e
@@ -87,10 +113,6 @@ module _ (t : List ℕ) (ρ : Variables) (m : Memory) where
   askedOf q e = onValue e evaluated.Stopped (queryMemory (queryOf q) m)
 
   module _ (n : ℕ) where
-    pub expression-below : Stands t n term → kindOf t n ≡ 20
-        → sortOfNode target (nodeAt target t (childA t n)) ≡ sortNumber expression
-    expression-below h d = target-expression t (childA t n) (stands-at source t n 20 term h d .a .2)
-
     pub value-arm : {r : Evaluated} {j : ℕ} (τ : Temporaries) → Stands t n term → kindOf t n ≡ 20 → j ≡ childA t n
         → r ≡ evaluate (asExpression (nodeAt target t j)) (temporaryOf τ) ρ m → r ≡ termAt n
     unfolding evaluateTerm
@@ -128,12 +150,6 @@ module _ (t : List ℕ) (ρ : Variables) (m : Memory) where
         → r ≡ askedOf q x → r ≡ termAt n
     asked-arm h e x q r = r ∙ ap₂ askedOf q (x ∙ ap termAt e) ∙ sym (h .value)
 
-    pub combined-below : Stands t n term → kindOf t n ≡ 24
-        → Below t n term (childA t n) × Below t n term (childB t n)
-    combined-below h d =
-        let f = stands-at source t n 24 term h d in
-        (f .a, f .b)
-
     pub combined-arm : {r x y : Evaluated} {o i j : ℕ} → Stands t n term → kindOf t n ≡ 24 → o ≡ markOf t n
         → i ≡ childA t n → x ≡ termAt i → j ≡ childB t n → y ≡ termAt j → r ≡ operated (operatorOf o) x y
         → r ≡ termAt n
@@ -142,12 +158,6 @@ module _ (t : List ℕ) (ρ : Variables) (m : Memory) where
         r
         ∙ (λ i. operated (operatorOf (o i)) ((x ∙ ap termAt e) i) ((y ∙ ap termAt f) i))
         ∙ sym (by-term (stands-at source t n 24 term h d .node))
-
-    pub valid-below : Stands t n predicate → kindOf t n ≡ 30 → Below t n term (childA t n)
-    valid-below h d = stands-at source t n 30 predicate h d .a
-
-    pub initialised-below : Stands t n predicate → kindOf t n ≡ 31 → Below t n term (childA t n)
-    initialised-below h d = stands-at source t n 31 predicate h d .a
 
     pub valid-arm : {r x : Evaluated} {j : ℕ} → Stands t n predicate → kindOf t n ≡ 30 → j ≡ childA t n
         → x ≡ termAt j → r ≡ askedOf 1 x → r ≡ predicateAt n
@@ -161,12 +171,6 @@ module _ (t : List ℕ) (ρ : Variables) (m : Memory) where
     initialised-arm h d e x r =
         r ∙ ap (askedOf 2) (x ∙ ap termAt e) ∙ sym (by-predicate (stands-at source t n 31 predicate h d .node))
 
-    pub compared-below : Stands t n predicate → kindOf t n ≡ 32
-        → Below t n term (childA t n) × Below t n term (childB t n)
-    compared-below h d =
-        let f = stands-at source t n 32 predicate h d in
-        (f .a, f .b)
-
     pub compared-arm : {r x y : Evaluated} {o i j : ℕ} → Stands t n predicate → kindOf t n ≡ 32 → o ≡ markOf t n
         → i ≡ childA t n → x ≡ termAt i → j ≡ childB t n → y ≡ termAt j → r ≡ operated (operatorOf o) x y
         → r ≡ predicateAt n
@@ -175,9 +179,6 @@ module _ (t : List ℕ) (ρ : Variables) (m : Memory) where
         r
         ∙ (λ i. operated (operatorOf (o i)) ((x ∙ ap termAt e) i) ((y ∙ ap termAt f) i))
         ∙ sym (by-predicate (stands-at source t n 32 predicate h d .node))
-
-    pub negated-below : Stands t n predicate → kindOf t n ≡ 33 → Below t n predicate (childA t n)
-    negated-below h d = stands-at source t n 33 predicate h d .a
 
     pub negated-arm : {r x : Evaluated} {j : ℕ} → Stands t n predicate → kindOf t n ≡ 33 → j ≡ childA t n
         → x ≡ predicateAt j → r ≡ onValue x evaluated.Stopped opposite → r ≡ predicateAt n

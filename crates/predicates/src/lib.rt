@@ -88,42 +88,20 @@ fn evaluate_term(
         (variablesOf (now (variables .entry))) (memoryOf (now (mem .entry))) ⌝ }
 {
     let k = tables::kind(&table[..], n);
+    let a = tables::child_a(&table[..], n);
     match k {
-        20 => evaluation::evaluate_operand(
-            table,
-            tables::child_a(&table[..], n),
-            variables,
-            temporaries,
-            mem,
-        ),
-        24 => combine(
-            tables::mark(&table[..], n),
-            evaluate_term(
-                table,
-                tables::child_a(&table[..], n),
-                variables,
-                temporaries,
-                mem,
-            ),
-            evaluate_term(
-                table,
-                tables::child_b(&table[..], n),
-                variables,
-                temporaries,
-                mem,
-            ),
-        ),
-        _ => evaluation_answers::restate(ask(
-            mem,
-            k - 18,
-            evaluate_term(
-                table,
-                tables::child_a(&table[..], n),
-                variables,
-                temporaries,
-                mem,
-            ),
-        )),
+        20 => evaluation::evaluate_operand(table, a, variables, temporaries, mem),
+        24 => {
+            let operator = tables::mark(&table[..], n);
+            let b = tables::child_b(&table[..], n);
+            let x = evaluate_term(table, a, variables, temporaries, mem);
+            let y = evaluate_term(table, b, variables, temporaries, mem);
+            combine(operator, x, y)
+        }
+        _ => {
+            let x = evaluate_term(table, a, variables, temporaries, mem);
+            evaluation_answers::restate(ask(mem, k - 18, x))
+        }
     }
 }
 
@@ -140,71 +118,27 @@ pub fn evaluate_predicate(
         (variablesOf (now (variables .entry))) (memoryOf (now (mem .entry))) ⌝ }
 {
     let k = tables::kind(&table[..], n);
+    let a = tables::child_a(&table[..], n);
+    let b = tables::child_b(&table[..], n);
     match k {
-        30 => ask(
-            mem,
-            1,
-            evaluate_term(
-                table,
-                tables::child_a(&table[..], n),
-                variables,
-                temporaries,
-                mem,
-            ),
-        ),
-        31 => ask(
-            mem,
-            2,
-            evaluate_term(
-                table,
-                tables::child_a(&table[..], n),
-                variables,
-                temporaries,
-                mem,
-            ),
-        ),
-        32 => combine(
-            tables::mark(&table[..], n),
-            evaluate_term(
-                table,
-                tables::child_a(&table[..], n),
-                variables,
-                temporaries,
-                mem,
-            ),
-            evaluate_term(
-                table,
-                tables::child_b(&table[..], n),
-                variables,
-                temporaries,
-                mem,
-            ),
-        ),
-        33 => oppose(evaluate_predicate(
-            table,
-            tables::child_a(&table[..], n),
-            variables,
-            temporaries,
-            mem,
-        )),
-        _ => match join(
-            k == 35,
-            evaluate_predicate(
-                table,
-                tables::child_a(&table[..], n),
-                variables,
-                temporaries,
-                mem,
-            ),
-        ) {
-            Joint::Decided(e) => e,
-            Joint::Open => evaluation_answers::restate(evaluate_predicate(
-                table,
-                tables::child_b(&table[..], n),
-                variables,
-                temporaries,
-                mem,
-            )),
-        },
+        30 => ask(mem, 1, evaluate_term(table, a, variables, temporaries, mem)),
+        31 => ask(mem, 2, evaluate_term(table, a, variables, temporaries, mem)),
+        32 => {
+            let operator = tables::mark(&table[..], n);
+            let x = evaluate_term(table, a, variables, temporaries, mem);
+            let y = evaluate_term(table, b, variables, temporaries, mem);
+            combine(operator, x, y)
+        }
+        33 => oppose(evaluate_predicate(table, a, variables, temporaries, mem)),
+        _ => {
+            let x = evaluate_predicate(table, a, variables, temporaries, mem);
+            match join(k == 35, x) {
+                Joint::Decided(e) => e,
+                Joint::Open => {
+                    let y = evaluate_predicate(table, b, variables, temporaries, mem);
+                    evaluation_answers::restate(y)
+                }
+            }
+        }
     }
 }
