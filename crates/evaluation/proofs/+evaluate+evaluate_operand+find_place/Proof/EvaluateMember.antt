@@ -69,7 +69,7 @@ module _ (t : ℕ) where
     restate-reads.Learnt,
   )
 
-  -- what the entry and the kind say, for the arms below
+  -- what the entry and the kind say
   abbrev Start : Type 0
   Start = lts.Start claims entry reads.Post
 

@@ -48,6 +48,7 @@ module _ (t : ℕ) where
     read-temporary-reads.Learnt,
   )
 
+  -- what the entry and the kind say
   abbrev Start : Type 0
   Start = lts.Start claims entry reads.Post
 
@@ -73,7 +74,7 @@ module _ (t : ℕ) where
       → kindOf (now (k .before .before .args .table)) (k .before .before .args .n) ≡ v
   kind-is k e = sym (k .kind .ensures) ∙ e
 
-  -- and the place a temporary
+  -- past the other arms it is what a temporary points to
   is-temporary-place : (c : Rest)
       → let s = c .before .before .before in kindOf (now (s .args .table)) (s .args .n) ≡ 12
   is-temporary-place c =
