@@ -257,8 +257,8 @@ module _ (t : ℕ) where
       (i .child-a3 .ensures) (a .evaluate-operand .ensures) refl refl
       (sym (ap (λ (u : Evaluated). operated (operatorOf (markOf T n)) u v) (x .k2 .given .1)))
 
-  pub evaluate-closed : {M : Type 1} → lts.Closed claims entry reads.Post M
-  evaluate-closed = lts.spec claims entry reads.Post
+  pub closed : {M : Type 1} → lts.Closed claims entry reads.Post M
+  closed = lts.spec claims entry reads.Post
       kind-requires
       literal-requires
       child-a-requires

@@ -66,8 +66,8 @@ module _ (t : ℕ) where
   returns-2 : lts.Need-returns-2 claims entry reads.Post
   returns-2 c = c .restate .ensures ∙ c .before .evaluate .ensures
 
-  pub operand-closed : {M : Type 1} → lts.Closed claims entry reads.Post M
-  operand-closed = lts.spec claims entry reads.Post
+  pub closed : {M : Type 1} → lts.Closed claims entry reads.Post M
+  closed = lts.spec claims entry reads.Post
       settle-requires
       enum-known-e
       enum-told

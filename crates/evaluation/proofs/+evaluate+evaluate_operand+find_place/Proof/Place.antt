@@ -158,8 +158,8 @@ module _ (t : ℕ) where
       (is-temporary-place m)
       (v .mark2 .ensures) (a .read-temporary .ensures) (c .point2 .ensures)
 
-  pub place-closed : {M : Type 1} → lts.Closed claims entry reads.Post M
-  place-closed = lts.spec claims entry reads.Post
+  pub closed : {M : Type 1} → lts.Closed claims entry reads.Post M
+  closed = lts.spec claims entry reads.Post
       kind-requires
       mark-requires
       cast-v
