@@ -1,4 +1,4 @@
--- `observation::delete_block` meets its contract. Assumes nothing.
+-- `deleted_blocks::delete_block` meets its contract. Assumes nothing.
 use borrow.Author.Needs.{needs}
 use Rattle.deleted_blocks.proofs.delete_block.Statement.{statement}
 use Rattle.deleted_blocks.proofs.delete_block.Tie as tie

@@ -1,4 +1,4 @@
--- `observation::delete_named` meets its contract. Assumes nothing.
+-- `deleted_blocks::delete_named` meets its contract. Assumes nothing.
 use borrow.Author.Needs.{needs}
 use Rattle.deleted_blocks.proofs.delete_named.Statement.{statement}
 use Rattle.deleted_blocks.proofs.delete_named.Tie as tie
