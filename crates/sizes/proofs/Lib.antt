@@ -1,3 +1,4 @@
 -- Facts about sizes.
 pub mod Sizes
 pub mod SizeSteps
+pub mod Counts

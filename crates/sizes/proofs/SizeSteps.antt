@@ -1,31 +1,19 @@
 -- The steps of counting: each child's size is at most the record's, and the sizes add up.
-use Prim.Native.Nat.{ℕ, zero, suc, _+_, _*_, _≤_, _<_}
+use Prim.Native.Nat.{ℕ, _*_, _≤_, _<_}
 use native.Mathlib.Omega.{arith}
-use mathlib.Core.Bool.{Bool, true, _&&_}
-use mathlib.Core.Path.{_≡_, refl, sym, ap, _∙_, subst}
-use mathlib.Core.List.{List, [], _∷_}
-use borrow.Author.Tests.{leb-true}
-use lib.Dec.{leb}
-use lib.ListN.{length, getD}
+use mathlib.Core.Bool.{Bool, true, false, cond, _&&_}
+use mathlib.Core.Path.{_≡_, sym, ap, _∙_}
+use mathlib.Core.List.{List}
+use lib.Dec.{leb, eqb}
 use Rattle.rules.specs.Records.{kindOf, childA, childB, childC}
 use Rattle.rules.specs.Translation.{treeSize}
-use Rattle.rules.proofs.KindViews.{and-split}
 use Rattle.sizes.specs.Trees.{treeAt, Sorted}
-use Rattle.sizes.specs.Counts.{sizeFrom, copiesOfA, copiesOfB}
+use Rattle.sizes.specs.Counts.{sizeFrom}
 use Rattle.sizes.proofs.Sizes.{none-at, SizeLaw}
 
-abbrev somes : List ℕ → Bool
-somes [] = true
-somes (x ∷ xs) = leb 1 x && somes xs
-
-some-at : (l : List ℕ) (k : ℕ) → somes l ≡ true → k < length l → 1 ≤ getD l k 0
-some-at [] k h p = absurd (omega arith)
-some-at (x ∷ xs) zero h p = leb-true 1 x (and-split (leb 1 x) (somes xs) h .0)
-some-at (x ∷ xs) (suc k) h p = some-at xs k (and-split (leb 1 x) (somes xs) h .1) (omega arith)
-
-times-least : (m x : ℕ) → 1 ≤ m → x ≤ m * x
-times-least zero x h = absurd (omega arith)
-times-least (suc m) x h = omega arith
+copies-least : (twice : Bool) (x : ℕ) → x ≤ cond twice 2 1 * x
+copies-least true x = omega arith
+copies-least false x = omega arith
 
 pub size-none : (t : List ℕ) (n : ℕ) → n ≡ 0 → _≡_ {A = ℕ} 0 (treeSize (treeAt t n 0 0))
 size-none t n e = ap treeSize (none-at t n 0 0 e)
@@ -34,19 +22,11 @@ size-none t n e = ap treeSize (none-at t n 0 0 e)
 module _ (t : List ℕ) (n : ℕ) (l : SizeLaw t n) (small : treeSize (treeAt t n 0 0) ≤ 4096) where
   least-a : treeSize (treeAt t (childA t n) 0 0) ≤ 4096
   least-a =
-      omega (
-        arith,
-        l .size 0 0,
-        times-least _ (treeSize (treeAt t (childA t n) 0 0)) (some-at copiesOfA (kindOf t n) refl (l .small-kind)),
-      )
+      let k = kindOf t n in
+      omega (arith, l .size 0 0, copies-least (leb 41 k && leb k 43) (treeSize (treeAt t (childA t n) 0 0)))
 
   least-b : treeSize (treeAt t (childB t n) 0 0) ≤ 4096
-  least-b =
-      omega (
-        arith,
-        l .size 0 0,
-        times-least _ (treeSize (treeAt t (childB t n) 0 0)) (some-at copiesOfB (kindOf t n) refl (l .small-kind)),
-      )
+  least-b = omega (arith, l .size 0 0, copies-least (eqb (kindOf t n) 42) (treeSize (treeAt t (childB t n) 0 0)))
 
   pub size-a : (x : ℕ) → x ≡ childA t n → (x < n) × Sorted t x × (treeSize (treeAt t x 0 0) ≤ 4096)
   size-a x e = rw e (l .a-below, l .a-sorted, least-a)

@@ -152,35 +152,6 @@ size-arm t n i v while = omega arith
 size-arm t n i v letIn = omega arith
 size-arm t n i v assert = omega (arith, predicate-level (asPredicate (nodeAt source t (childA t n))) n 0)
 
-kind-small : {s : Sort} {k : ℕ} → SourceKind s k → k < 49
-kind-small literal = omega arith
-kind-small read = omega arith
-kind-small address = omega arith
-kind-small operation = omega arith
-kind-small shifted = omega arith
-kind-small variable = omega arith
-kind-small pointed = omega arith
-kind-small value = omega arith
-kind-small base = omega arith
-kind-small offset = omega arith
-kind-small blockLength = omega arith
-kind-small combined = omega arith
-kind-small valid = omega arith
-kind-small initialised = omega arith
-kind-small compared = omega arith
-kind-small negated = omega arith
-kind-small both = omega arith
-kind-small either = omega arith
-kind-small skip = omega arith
-kind-small assign = omega arith
-kind-small new = omega arith
-kind-small free = omega arith
-kind-small sequence = omega arith
-kind-small branch = omega arith
-kind-small while = omega arith
-kind-small letIn = omega arith
-kind-small assert = omega arith
-
 -- no field of a source record but the mark has a number
 hasNoNumber : Field → Bool
 hasNoNumber unnamed = true
@@ -217,7 +188,6 @@ field-child t n (number g) x p q h = absurd (false≢true q)
 -- what a record that stands says of its translation's size
 pub record SizeLaw (t : List ℕ) (n : ℕ) : Type 0 where
   pub within : Within t n
-  pub small-kind : kindOf t n < 49
   pub a-below : childA t n < n
   pub b-below : childB t n < n
   pub c-below : childC t n < n
@@ -241,7 +211,6 @@ size-law t n s w =
     let c = field-child t n (f .c) (childC t n) (w .from-one) (u .1) (w .holds .c) in
     record {
       within = (w .from-one, w .within);
-      small-kind = kind-small (w .kind);
       a-below = a .below;
       b-below = b .below;
       c-below = c .below;

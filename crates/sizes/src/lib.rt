@@ -1,188 +1,47 @@
 // How many records a record is translated to, by recursion on the record number.
 ghost use mathlib.Core.Path.{_≡_};
-ghost use Prim.Native.Nat.{_≤_, _<_};
-ghost use lib.ListN.{getD};
+ghost use Prim.Native.Nat.{_≤_};
 ghost use Rattle.rules.specs.Translation.{treeSize};
 ghost use Rattle.sizes.specs.Counts.{ownRecords, copiesOfA, copiesOfB, sizeFrom};
 ghost use Rattle.sizes.specs.Trees.{treeAt, Sorted};
 
+// How many records are a kind's own, not its children's.
 fn own_records(kind: u8) -> usize
-    requires { ⌜ kind < 49 ⌝ }
-    ensures { λ r. ⌜ r ≡ getD ownRecords kind 0 ⌝ }
+    ensures { λ r. ⌜ r ≡ ownRecords kind ⌝ }
 {
-    let counts: [usize; 49] = [
-        0,
-        1,
-        1,
-        1,
-        1,
-        1,
-        0,
-        0,
-        0,
-        0,
-        1,
-        1,
-        0,
-        0,
-        0,
-        0,
-        0,
-        0,
-        0,
-        0,
-        1,
-        2,
-        2,
-        2,
-        3,
-        0,
-        0,
-        0,
-        0,
-        0,
-        2,
-        2,
-        3,
-        2,
-        3,
-        3,
-        0,
-        0,
-        0,
-        0,
-        1,
-        5,
-        13,
-        5,
-        1,
-        1,
-        1,
-        14,
-        2,
-    ];
-    counts[kind as usize]
+    match kind {
+        21..=23 | 30 | 31 | 33 | 48 => 2,
+        24 | 32 | 34 | 35 => 3,
+        41 | 43 => 5,
+        42 => 13,
+        47 => 14,
+        _ => 1,
+    }
 }
 
+// How often the translation has child A's records.
 fn copies_of_a(kind: u8) -> usize
-    requires { ⌜ kind < 49 ⌝ }
-    ensures { λ r. ⌜ r ≡ getD copiesOfA kind 0 ⌝ }
+    ensures { λ r. ⌜ r ≡ copiesOfA kind ⌝ }
 {
-    let counts: [usize; 49] = [
-        1,
-        1,
-        1,
-        1,
-        1,
-        1,
-        1,
-        1,
-        1,
-        1,
-        1,
-        1,
-        1,
-        1,
-        1,
-        1,
-        1,
-        1,
-        1,
-        1,
-        1,
-        1,
-        1,
-        1,
-        1,
-        1,
-        1,
-        1,
-        1,
-        1,
-        1,
-        1,
-        1,
-        1,
-        1,
-        1,
-        1,
-        1,
-        1,
-        1,
-        1,
-        2,
-        2,
-        2,
-        1,
-        1,
-        1,
-        1,
-        1,
-    ];
-    counts[kind as usize]
+    match kind {
+        41..=43 => 2,
+        _ => 1,
+    }
 }
 
+// How often it has child B's.
 fn copies_of_b(kind: u8) -> usize
-    requires { ⌜ kind < 49 ⌝ }
-    ensures { λ r. ⌜ r ≡ getD copiesOfB kind 0 ⌝ }
+    ensures { λ r. ⌜ r ≡ copiesOfB kind ⌝ }
 {
-    let counts: [usize; 49] = [
-        1,
-        1,
-        1,
-        1,
-        1,
-        1,
-        1,
-        1,
-        1,
-        1,
-        1,
-        1,
-        1,
-        1,
-        1,
-        1,
-        1,
-        1,
-        1,
-        1,
-        1,
-        1,
-        1,
-        1,
-        1,
-        1,
-        1,
-        1,
-        1,
-        1,
-        1,
-        1,
-        1,
-        1,
-        1,
-        1,
-        1,
-        1,
-        1,
-        1,
-        1,
-        1,
-        2,
-        1,
-        1,
-        1,
-        1,
-        1,
-        1,
-    ];
-    counts[kind as usize]
+    match kind {
+        42 => 2,
+        _ => 1,
+    }
 }
 
 // The records that a record of a kind is translated to, with those of its children.
 fn total(kind: u8, a: usize, b: usize, c: usize) -> usize
-    requires { ⌜ kind < 49 ⌝ ∗ ⌜ sizeFrom kind a b c ≤ 4096 ⌝ }
+    requires { ⌜ sizeFrom kind a b c ≤ 4096 ⌝ }
     ensures { λ r. ⌜ r ≡ sizeFrom kind a b c ⌝ }
 {
     own_records(kind) + copies_of_a(kind) * a + copies_of_b(kind) * b + c

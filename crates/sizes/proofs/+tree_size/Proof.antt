@@ -111,7 +111,7 @@ tree-size-total-requires t c κs =
     (k .before .before .before .before .before .tree-size .ensures)
     (k .before .before .before .tree-size2 .ensures) (k .before .tree-size3 .ensures) in
     let small = s .pre .1 .1 in
-    (rw (k .kind .ensures) (law t e .small-kind), omega arith)
+    omega arith
 
 tree-size-returns-2 : (t : ℕ) → tree-size-lts.Need-returns-2 (tree-size-claims t) (tree-size-at t) tree-size.Post
 tree-size-returns-2 t c =

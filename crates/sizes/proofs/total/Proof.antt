@@ -20,7 +20,7 @@ copies-of-a-requires c κs = search needs
 mul-result : tie.Need-mul-result
 mul-result c =
     let s = c .before .before in
-    let p = s .pre .1 in
+    let p = s .pre in
     let own = c .before .own-records .ensures in
     let e = ap (λ (x : ℕ). x * s .args .a) (c .copies-of-a .ensures) in
     record { fits = omega arith }
@@ -28,7 +28,7 @@ mul-result c =
 add-result : tie.Need-add-result
 add-result c =
     let s = c .before .before in
-    let p = s .pre .1 in
+    let p = s .pre in
     let own = c .before .own-records .ensures in
     let e = ap (λ (x : ℕ). x * s .args .a) (c .copies-of-a .ensures) in
     record { fits = omega arith }
@@ -39,7 +39,7 @@ copies-of-b-requires c κs = search needs
 mul-result-2 : tie.Need-mul-result-2
 mul-result-2 c =
     let s = c .before .before .before in
-    let p = s .pre .1 in
+    let p = s .pre in
     let own = c .before .before .own-records .ensures in
     let e = ap (λ (x : ℕ). x * s .args .a) (c .before .copies-of-a .ensures) in
     let f = ap (λ (x : ℕ). x * s .args .b) (c .copies-of-b .ensures) in
@@ -48,7 +48,7 @@ mul-result-2 c =
 add-result-2 : tie.Need-add-result-2
 add-result-2 c =
     let s = c .before .before .before in
-    let p = s .pre .1 in
+    let p = s .pre in
     let own = c .before .before .own-records .ensures in
     let e = ap (λ (x : ℕ). x * s .args .a) (c .before .copies-of-a .ensures) in
     let f = ap (λ (x : ℕ). x * s .args .b) (c .copies-of-b .ensures) in
@@ -57,7 +57,7 @@ add-result-2 c =
 add-result-3 : tie.Need-add-result-3
 add-result-3 c =
     let s = c .before .before .before in
-    let p = s .pre .1 in
+    let p = s .pre in
     let own = c .before .before .own-records .ensures in
     let e = ap (λ (x : ℕ). x * s .args .a) (c .before .copies-of-a .ensures) in
     let f = ap (λ (x : ℕ). x * s .args .b) (c .copies-of-b .ensures) in
@@ -66,7 +66,7 @@ add-result-3 c =
 returns : tie.Need-returns
 returns c =
     let s = c .before .before .before in
-    let p = s .pre .1 in
+    let p = s .pre in
     let own = c .before .before .own-records .ensures in
     let e = ap (λ (x : ℕ). x * s .args .a) (c .before .copies-of-a .ensures) in
     let f = ap (λ (x : ℕ). x * s .args .b) (c .copies-of-b .ensures) in
