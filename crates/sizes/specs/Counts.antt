@@ -10,8 +10,8 @@ ownRecords k =
     cond (isUnary k || eqb k 48) 2 (cond (isBinary k || isJoint k) 3 (cond (eqb k 41 || eqb k 43) 5
     (cond (eqb k 42) 13 (cond (eqb k 47) 14 1))))
 
--- the copies of A's records and of B's: "41, 42 or 43 in a list is the statement itself with its own further copy of its
--- children", B of 41 standing in that copy alone
+-- the copies of A's records and of B's: "41, 42 or 43 in a list is the statement itself with its own further copy of
+-- its children", B of 41 standing in that copy alone
 abbrev pub copiesOfA : ℕ → ℕ
 copiesOfA k = cond (leb 41 k && leb k 43) 2 1
 

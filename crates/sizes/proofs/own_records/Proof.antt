@@ -43,7 +43,8 @@ returns-10 c = own-observed (c .before .before .before .args .kind) (c .before .
 
 returns-11 : tie.Need-returns-11
 returns-11 c =
-    own-next (c .before .before .before .before .before .args .kind) 30 refl refl (c .before .if3 .left) (c .if4 .taken)
+    let m = c .before .before .before .before in
+    own-next (m .before .args .kind) 30 refl refl (c .before .if3 .left) (c .if4 .taken)
 
 pub own-records-spec : {M : Type 1} → statement M
 own-records-spec =
