@@ -1,64 +1,97 @@
--- What each arm of the emission of terms and predicates starts from, in the values that the code has read.
-use Prim.Native.Nat.{ℕ, suc, _+_, _*_, _≤_, _<_}
+-- What the emission of a term or a predicate starts from, kind by kind, in the values that the code has read.
+use Prim.Native.Nat.{ℕ, suc, _+_, _<_}
 use native.Mathlib.Omega.{arith}
-use mathlib.Core.Path.{_≡_, refl, sym, ap, _∙_, subst}
+use mathlib.Core.Bool.{Bool, true, false}
+use mathlib.Core.Logic.{_⊎_, inl, inr}
+use mathlib.Core.Path.{_≡_, refl, sym, _∙_, subst}
 use mathlib.Core.List.{List}
 use lib.IntN.{pos}
-use lib.ListN.{length, getD}
+use lib.ListN.{length}
+use borrow.Author.Tests.{ne-eqb}
 use Rattle.rules.specs.Records.{kindOf, markOf, childA, childB}
-use Rattle.rules.specs.Translation.{RecordTree, none, node, treeSize, rootNumber}
-use Rattle.emission.specs.Emission.{recordOf, withRecord, Room, Emitted, Copied, sequenceTree, partTree}
+use Rattle.rules.specs.Checker.{isUnary}
+use Rattle.rules.specs.Translation.{RecordTree, none, node}
+use Rattle.tables.specs.Within.{Within}
+use Rattle.emission.specs.Emission.{Room, Emitted, Copied, sequenceTree, partTree}
 use Rattle.sizes.specs.Trees.{treeAt}
-use Rattle.assertions.specs.Tests.{LevelsAt, Branched, testShapes, lastKinds, lastFields}
+use Rattle.assertions.specs.Tests.{LevelsAt, Branched, lastKind, lastField}
 use Rattle.emission.proofs.Emitting.{emitted-none, emitted-node, Some, some, root-some, field-some}
 use Rattle.emission.proofs.Parts.{emitted-sequence}
-use Rattle.assertions.proofs.Tests.{ValueTest, OneTest, TwoTest, BothTest, skipTree, TestOf, TestLaw, test-at}
-use Rattle.assertions.proofs.Tests.{last-test}
+use Rattle.assertions.proofs.Tests.{BinaryTest, skipTree, TestOf, test-at}
 
 abbrev pub ValueAt : List ℕ → ℕ → ℕ → ℕ → ℕ → Type 0
 ValueAt t n s v a = Copied t a × (v < 64) × (treeAt t n s v ≡ partTree t s 61 v a 0 0)
 
-abbrev pub OneAt : List ℕ → ℕ → ℕ → ℕ → ℕ → ℕ → ℕ → Type 0
-OneAt t n s v k a w =
+abbrev pub UnaryAt : List ℕ → ℕ → ℕ → ℕ → ℕ → ℕ → ℕ → ℕ → Type 0
+UnaryAt t n s v k c a w =
     (a < n) × LevelsAt t a w × (suc v < 64)
-    × (treeAt t n s v
-    ≡ sequenceTree s (treeAt t a s w) (partTree t s (getD lastKinds k 0) v 0 0 (getD lastFields k 0)))
+    × (treeAt t n s v ≡ sequenceTree s (treeAt t a s w) (partTree t s k v 0 0 c))
 
-abbrev pub TwoAt : List ℕ → ℕ → ℕ → ℕ → ℕ → ℕ → ℕ → ℕ → ℕ → Type 0
-TwoAt t n s v a b m w x =
+abbrev pub BinaryAt : List ℕ → ℕ → ℕ → ℕ → ℕ → ℕ → ℕ → ℕ → ℕ → Type 0
+BinaryAt t n s v a b m w x =
     (a < n) × (b < n) × LevelsAt t a w × LevelsAt t b x × (suc (suc v) < 64)
     × (treeAt t n s v ≡ sequenceTree s (treeAt t a s w) (sequenceTree s (treeAt t b s x) (partTree t s 63 v 0 0 m)))
 
-abbrev pub BranchAt : List ℕ → ℕ → ℕ → ℕ → ℕ → ℕ → RecordTree → RecordTree → Type 0
-BranchAt t n s v a b y z =
+abbrev pub JointAt : List ℕ → ℕ → ℕ → ℕ → ℕ → ℕ → RecordTree → RecordTree → Type 0
+JointAt t n s v a b y z =
     (a < n) × (b < n) × LevelsAt t a v × LevelsAt t b v × (v < 64)
     × (treeAt t n s v ≡ sequenceTree s (treeAt t a s v) (node 66 v (pos s) 0 none y z))
 
 module _ (t : List ℕ) (n s v : ℕ) (l : LevelsAt t n v) where
-  shape-is : (h k x : ℕ) → k ≡ kindOf t n → h ≡ getD testShapes k 0 → h ≡ x → TestOf t n s v (kindOf t n) x
-  shape-is h k x e f g =
-      subst (TestOf t n s v (kindOf t n)) (sym (ap (λ (j : ℕ). getD testShapes j 0) e) ∙ sym f ∙ g)
-      (test-at t n s v l .test)
+  pub within : Within t n
+  within = test-at t n s v l .law .within
 
-  pub value-at : (h k a : ℕ) → k ≡ kindOf t n → h ≡ getD testShapes k 0 → h ≡ 0 → a ≡ childA t n → ValueAt t n s v a
-  value-at h k a e f g p = rw p (shape-is h k 0 e f g)
+  of-kind : (k : ℕ) → kindOf t n ≡ k → TestOf t n s v k
+  of-kind k e = subst (TestOf t n s v) e (test-at t n s v l .test)
 
-  pub one-at : (h k a w : ℕ) → k ≡ kindOf t n → h ≡ getD testShapes k 0 → h ≡ 1 → a ≡ childA t n → w ≡ suc v
-      → OneAt t n s v k a w
-  one-at h k a w e f g p q = rw (e, p, q) (shape-is h k 1 e f g)
+  pub value-at : {a : ℕ} → kindOf t n ≡ 20 → a ≡ childA t n → ValueAt t n s v a
+  value-at e p = let r = of-kind 20 e in rw p (r .1, r .2, r .3)
 
-  pub two-at : (h k a b m w x : ℕ) → k ≡ kindOf t n → h ≡ getD testShapes k 0 → h ≡ 2 → a ≡ childA t n
-      → b ≡ childB t n → m ≡ markOf t n → w ≡ suc v → x ≡ suc (suc v) → TwoAt t n s v a b m w x
-  two-at h k a b m w x e f g p q r i j = rw (p, q, r, i, j) (shape-is h k 2 e f g)
+  pub unary-at : {k c a w : ℕ} → isUnary (kindOf t n) ≡ true → k ≡ lastKind (kindOf t n) → c ≡ lastField (kindOf t n)
+      → a ≡ childA t n → w ≡ suc v → UnaryAt t n s v k c a w
+  unary-at e f g p q = rw (f, g, p, q) (rw e at (test-at t n s v l .test))
 
-  pub both-at : (h k a b : ℕ) → k ≡ kindOf t n → h ≡ getD testShapes k 0 → h ≡ 3 → a ≡ childA t n → b ≡ childB t n
-      → BranchAt t n s v a b (treeAt t b s v) (skipTree t s)
-  both-at h k a b e f g p q = rw (p, q) (shape-is h k 3 e f g)
+  binary-test : (kindOf t n ≡ 24) ⊎ (kindOf t n ≡ 32) → BinaryTest t n s v
+  binary-test (inl e) = of-kind 24 e
+  binary-test (inr e) = of-kind 32 e
 
-  pub either-at : (h k a b : ℕ) → k ≡ kindOf t n → h ≡ getD testShapes k 0 → (h ≡ 0 → ⊥) → (h ≡ 1 → ⊥) → (h ≡ 2 → ⊥)
-      → (h ≡ 3 → ⊥) → a ≡ childA t n → b ≡ childB t n → BranchAt t n s v a b (skipTree t s) (treeAt t b s v)
-  either-at h k a b e f g₀ g₁ g₂ g₃ p q =
-      rw (p, q) (last-test t n s v (kindOf t n) h g₀ g₁ g₂ g₃ (shape-is h k h e f refl))
+  pub binary-at : {a b m w x : ℕ} → (kindOf t n ≡ 24) ⊎ (kindOf t n ≡ 32) → a ≡ childA t n → b ≡ childB t n
+      → m ≡ markOf t n → w ≡ suc v → x ≡ suc (suc v) → BinaryAt t n s v a b m w x
+  binary-at e p q r i j = rw (p, q, r, i, j) (binary-test e)
+
+  pub both-at : {a b : ℕ} → kindOf t n ≡ 34 → a ≡ childA t n → b ≡ childB t n
+      → JointAt t n s v a b (treeAt t b s v) (skipTree t s)
+  both-at e p q = rw (p, q) (of-kind 34 e)
+
+  pub either-at : {a b : ℕ} → kindOf t n ≡ 35 → a ≡ childA t n → b ≡ childB t n
+      → JointAt t n s v a b (skipTree t s) (treeAt t b s v)
+  either-at e p q = rw (p, q) (of-kind 35 e)
+
+  -- past the kinds that are named
+  pub last-unary : {k : ℕ} → k ≡ kindOf t n → (k ≡ 20 → ⊥) → ((k ≡ 24) ⊎ (k ≡ 32) → ⊥) → (k ≡ 34 → ⊥)
+      → (k ≡ 35 → ⊥) → isUnary (kindOf t n) ≡ true
+  last-unary {k = k} e a b c d = subst (λ (j : ℕ). isUnary j ≡ true) e (go (isUnary k) refl)
+    where
+      go : (u : Bool) → isUnary k ≡ u → isUnary k ≡ true
+      go true h = h
+      go false h =
+          absurd
+          (a
+          ((rw (
+            h,
+            ne-eqb k 24 (λ x. b (inl x)),
+            ne-eqb k 32 (λ x. b (inr x)),
+            ne-eqb k 34 c,
+            ne-eqb k 35 d,
+          ) at (of-kind k (sym e)))
+          .0))
+
+pub either-kind : {j k x y : ℕ} → j ≡ k → (j ≡ x) ⊎ (j ≡ y) → (k ≡ x) ⊎ (k ≡ y)
+either-kind e (inl p) = inl (sym e ∙ p)
+either-kind e (inr p) = inr (sym e ∙ p)
+
+pub no-query : (k : ℕ) → (k ≡ 30 → ⊥) → (k ≡ 31 → ⊥) → (k ≡ 21 → ⊥) → (k ≡ 22 → ⊥) → (k ≡ 23 → ⊥) → 0 ≡ lastField k
+no-query k a b c d e = rw (ne-eqb k 30 a, ne-eqb k 31 b, ne-eqb k 21 c, ne-eqb k 22 d, ne-eqb k 23 e) refl
 
 -- a 66 over two trees, behind another
 pub emitted-branch : {o o₁ o₂ o₃ o₄ : List ℕ} {at x y z r m s : ℕ} {a b c : RecordTree} → Some a → Some b → Some c

@@ -1,15 +1,15 @@
 -- The tree of a term or a predicate by its kind.
-use Prim.Native.Nat.{ℕ, zero, suc, _+_, _≤_, _<_}
+use Prim.Native.Nat.{ℕ, suc, _≤_, _<_}
 use native.Mathlib.Omega.{arith}
 use mathlib.Core.Bool.{Bool, true, false, _||_}
-use mathlib.Core.Logic.{_⊎_, inl, inr}
+use mathlib.Core.Logic.{inr}
 use mathlib.Core.Path.{_≡_, refl, sym, ap, _∙_, subst}
 use mathlib.Core.List.{List}
 use borrow.Author.Tests.{leb-true, eqb-true}
 use lib.Dec.{leb, eqb}
-use lib.IntN.{ℤ, pos}
-use lib.ListN.{getD}
+use lib.IntN.{pos}
 use Rattle.rules.specs.Records.{kindOf, markOf, childA, childB}
+use Rattle.rules.specs.Checker.{isUnary, isBinary}
 use Rattle.rules.specs.Kinds.{source, Sort, expression, place, term, predicate, statement, between}
 use Rattle.rules.specs.Nodes.{SourceNode, expressionNode, placeNode, termNode, predicateNode, statementNode, junk}
 use Rattle.rules.specs.Nodes.{nodeSort, asTerm, asPredicate, operatorOf, nodeAt}
@@ -23,7 +23,7 @@ use Rattle.rules.proofs.FormLaws.{FormHolds}
 use Rattle.rules.proofs.Standing.{Stands, stands, stands-at}
 use Rattle.sizes.specs.Trees.{targetTree, treeAt, copyAt, sortAt}
 use Rattle.emission.specs.Emission.{Copied, sequenceTree, partTree}
-use Rattle.assertions.specs.Tests.{TermLevels, PredicateLevels, Levels, LevelsAt, testShapes, lastKinds, lastFields}
+use Rattle.assertions.specs.Tests.{TermLevels, PredicateLevels, Levels, LevelsAt, lastKind, lastField}
 use Rattle.emission.proofs.Copying.{operator-back}
 use Rattle.emission.proofs.Emitting.{Some, some, statement-some}
 use Rattle.sizes.proofs.Sizes.{none-at, SizeLaw, size-law, tree-as}
@@ -58,39 +58,42 @@ term-operator m h = go (between 1 5 m) refl h
         operator-back m (leb-true 1 m (r .0)) (omega (arith, leb-true m 5 (r .1)))
     go false e h = let q = eqb-true m 8 h in operator-back m (omega arith) (omega arith)
 
--- what each shape says of record n
-abbrev pub ValueTest : List ℕ → ℕ → ℕ → ℕ → Type 0
-ValueTest t n s v = Copied t (childA t n) × (v < 64) × (treeAt t n s v ≡ partTree t s 61 v (childA t n) 0 0)
+-- what each kind says of record n
+abbrev pub ValueTest : List ℕ → ℕ → ℕ → ℕ → ℕ → Type 0
+ValueTest t n s v k =
+    (k ≡ 20) × Copied t (childA t n) × (v < 64) × (treeAt t n s v ≡ partTree t s 61 v (childA t n) 0 0)
 
-abbrev pub OneTest : List ℕ → ℕ → ℕ → ℕ → ℕ → Type 0
-OneTest t n s v k =
+abbrev pub UnaryTest : List ℕ → ℕ → ℕ → ℕ → ℕ → ℕ → Type 0
+UnaryTest t n s v k c =
     (childA t n < n) × LevelsAt t (childA t n) (suc v) × (suc v < 64)
-    × (treeAt t n s v
-    ≡ sequenceTree s (treeAt t (childA t n) s (suc v))
-    (partTree t s (getD lastKinds k 0) v 0 0 (getD lastFields k 0)))
+    × (treeAt t n s v ≡ sequenceTree s (treeAt t (childA t n) s (suc v)) (partTree t s k v 0 0 c))
 
-abbrev pub TwoTest : List ℕ → ℕ → ℕ → ℕ → Type 0
-TwoTest t n s v =
+abbrev pub BinaryTest : List ℕ → ℕ → ℕ → ℕ → Type 0
+BinaryTest t n s v =
     (childA t n < n) × (childB t n < n) × LevelsAt t (childA t n) (suc v) × LevelsAt t (childB t n) (suc (suc v))
     × (suc (suc v) < 64)
     × (treeAt t n s v
     ≡ sequenceTree s (treeAt t (childA t n) s (suc v))
     (sequenceTree s (treeAt t (childB t n) s (suc (suc v))) (partTree t s 63 v 0 0 (markOf t n))))
 
-abbrev pub BothTest : List ℕ → ℕ → ℕ → ℕ → RecordTree → RecordTree → Type 0
-BothTest t n s v b c =
+abbrev pub JointTest : List ℕ → ℕ → ℕ → ℕ → RecordTree → RecordTree → Type 0
+JointTest t n s v b c =
     (childA t n < n) × (childB t n < n) × LevelsAt t (childA t n) v × LevelsAt t (childB t n) v × (v < 64)
     × (treeAt t n s v ≡ sequenceTree s (treeAt t (childA t n) s v) (node 66 v (pos s) 0 none b c))
 
 abbrev pub skipTree : List ℕ → ℕ → RecordTree
 skipTree t s = partTree t s 40 0 0 0 0
 
-abbrev pub TestOf : List ℕ → ℕ → ℕ → ℕ → ℕ → ℕ → Type 0
-TestOf t n s v k zero = ValueTest t n s v
-TestOf t n s v k (suc zero) = OneTest t n s v k
-TestOf t n s v k (suc (suc zero)) = TwoTest t n s v
-TestOf t n s v k (suc (suc (suc zero))) = BothTest t n s v (treeAt t (childB t n) s v) (skipTree t s)
-TestOf t n s v k (suc (suc (suc (suc h)))) = BothTest t n s v (skipTree t s) (treeAt t (childB t n) s v)
+-- where the kind is unary, binary, 34, 35 or none of these
+abbrev pub TestWhere : List ℕ → ℕ → ℕ → ℕ → ℕ → Bool → Bool → Bool → Bool → Type 0
+TestWhere t n s v k true b c d = UnaryTest t n s v (lastKind k) (lastField k)
+TestWhere t n s v k false true c d = BinaryTest t n s v
+TestWhere t n s v k false false true d = JointTest t n s v (treeAt t (childB t n) s v) (skipTree t s)
+TestWhere t n s v k false false false true = JointTest t n s v (skipTree t s) (treeAt t (childB t n) s v)
+TestWhere t n s v k false false false false = ValueTest t n s v k
+
+abbrev pub TestOf : List ℕ → ℕ → ℕ → ℕ → ℕ → Type 0
+TestOf t n s v k = TestWhere t n s v k (isUnary k) (isBinary k) (eqb k 34) (eqb k 35)
 
 module _ (t : List ℕ) (n s v : ℕ) (l : LevelsAt t n v) where
   levels : {y : SourceNode} → nodeAt source t n ≡ y → Levels y v
@@ -108,6 +111,20 @@ module _ (t : List ℕ) (n s v : ℕ) (l : LevelsAt t n v) where
   abbrev observed : ℕ → ℕ → RecordTree → RecordTree → RecordTree
   observed k c w none′ = sequenceTree s w (node k v (pos s) c none′ none′ none)
 
+  -- a query of a term
+  queried : (k c : ℕ) → childA t n < n → sortAt t (childA t n) ≡ 3
+      → (suc v < 64) × TermLevels (asTerm (nodeAt source t (childA t n))) (suc v)
+      → treeAt t n s v
+      ≡ sequenceTree s (statementTree (translateTerm (asTerm (nodeAt source t (childA t n))) s (suc v)))
+      (node k v (pos s) c none none none)
+      → UnaryTest t n s v k c
+  queried k c below sort l e = (
+    below,
+    levels-as-term (nodeAt source t (childA t n)) (suc v) sort (l .1),
+    l .0,
+    e ∙ (λ i. observed k c (tree-as term (nodeAt source t (childA t n)) s (suc v) sort i) (nothing i)),
+  )
+
   abbrev operated : RecordTree → RecordTree → ℕ → RecordTree → RecordTree
   operated a b m none′ = sequenceTree s a (sequenceTree s b (node 63 v (pos s) m none′ none′ none))
 
@@ -118,7 +135,7 @@ module _ (t : List ℕ) (n s v : ℕ) (l : LevelsAt t n v) where
   disjoined a b none′ = sequenceTree s a (node 66 v (pos s) 0 none (node 40 0 (pos s) 0 none′ none′ none) b)
 
   test-arm : {r : Sort} {k : ℕ} → SourceKind r k → FormHolds source t n (formAt source k)
-      → TestOf t n s v k (getD testShapes k 0)
+      → TestOf t n s v k
   unfolding translateTerm translatePredicate statementTree
   test-arm literal h = elim (levels (h .node)) [ ]
   test-arm read h = elim (levels (h .node)) [ ]
@@ -128,36 +145,16 @@ module _ (t : List ℕ) (n s v : ℕ) (l : LevelsAt t n v) where
   test-arm variable h = elim (levels (h .node)) [ ]
   test-arm pointed h = elim (levels (h .node)) [ ]
   test-arm value h = (
+    refl,
     inr (some-of (childA t n) (h .a .2) (omega arith) (omega arith)),
     levels (h .node),
     tree-of (h .node)
         ∙ (λ i. node 61 v (pos s) 0 (tree-as expression (nodeAt source t (childA t n)) 0 0 (h .a .2) i)
         (nothing i) none),
   )
-  test-arm base h =
-      let l = levels (h .node) in (
-        h .a .1,
-        levels-as-term (nodeAt source t (childA t n)) (suc v) (h .a .2) (l .1),
-        l .0,
-        tree-of (h .node) ∙ (λ i. observed 64 3
-            (tree-as term (nodeAt source t (childA t n)) s (suc v) (h .a .2) i) (nothing i)),
-      )
-  test-arm offset h =
-      let l = levels (h .node) in (
-        h .a .1,
-        levels-as-term (nodeAt source t (childA t n)) (suc v) (h .a .2) (l .1),
-        l .0,
-        tree-of (h .node) ∙ (λ i. observed 64 4
-            (tree-as term (nodeAt source t (childA t n)) s (suc v) (h .a .2) i) (nothing i)),
-      )
-  test-arm blockLength h =
-      let l = levels (h .node) in (
-        h .a .1,
-        levels-as-term (nodeAt source t (childA t n)) (suc v) (h .a .2) (l .1),
-        l .0,
-        tree-of (h .node) ∙ (λ i. observed 64 5
-            (tree-as term (nodeAt source t (childA t n)) s (suc v) (h .a .2) i) (nothing i)),
-      )
+  test-arm base h = queried 64 3 (h .a .1) (h .a .2) (levels (h .node)) (tree-of (h .node))
+  test-arm offset h = queried 64 4 (h .a .1) (h .a .2) (levels (h .node)) (tree-of (h .node))
+  test-arm blockLength h = queried 64 5 (h .a .1) (h .a .2) (levels (h .node)) (tree-of (h .node))
   test-arm combined h =
       let l = levels (h .node) in (
         h .a .1,
@@ -170,22 +167,8 @@ module _ (t : List ℕ) (n s v : ℕ) (l : LevelsAt t n v) where
             (tree-as term (nodeAt source t (childB t n)) s (suc (suc v)) (h .b .2) i)
             (term-operator (markOf t n) (h .mark) i) (nothing i)),
       )
-  test-arm valid h =
-      let l = levels (h .node) in (
-        h .a .1,
-        levels-as-term (nodeAt source t (childA t n)) (suc v) (h .a .2) (l .1),
-        l .0,
-        tree-of (h .node) ∙ (λ i. observed 64 1
-            (tree-as term (nodeAt source t (childA t n)) s (suc v) (h .a .2) i) (nothing i)),
-      )
-  test-arm initialised h =
-      let l = levels (h .node) in (
-        h .a .1,
-        levels-as-term (nodeAt source t (childA t n)) (suc v) (h .a .2) (l .1),
-        l .0,
-        tree-of (h .node) ∙ (λ i. observed 64 2
-            (tree-as term (nodeAt source t (childA t n)) s (suc v) (h .a .2) i) (nothing i)),
-      )
+  test-arm valid h = queried 64 1 (h .a .1) (h .a .2) (levels (h .node)) (tree-of (h .node))
+  test-arm initialised h = queried 64 2 (h .a .1) (h .a .2) (levels (h .node)) (tree-of (h .node))
   test-arm compared h =
       let l = levels (h .node) in (
         h .a .1,
@@ -241,7 +224,7 @@ module _ (t : List ℕ) (n s v : ℕ) (l : LevelsAt t n v) where
 -- what a term or a predicate says of record n
 pub record TestLaw (t : List ℕ) (n s v : ℕ) : Type 0 where
   pub law : SizeLaw t n
-  pub test : TestOf t n s v (kindOf t n) (getD testShapes (kindOf t n) 0)
+  pub test : TestOf t n s v (kindOf t n)
 
 pub test-at : (t : List ℕ) (n s v : ℕ) → LevelsAt t n v → TestLaw t n s v
 test-at t n s v l = go (nodeAt source t n) refl l
@@ -260,15 +243,6 @@ test-at t n s v l = go (nodeAt source t n) refl l
         (stands-at source t n (kindOf t n) predicate (ap nodeSort e) refl)
     go (statementNode x) e h = elim h [ ]
     go junk e h = elim h [ ]
-
--- past the other shapes
-pub last-test : (t : List ℕ) (n s v k h : ℕ) → (h ≡ 0 → ⊥) → (h ≡ 1 → ⊥) → (h ≡ 2 → ⊥) → (h ≡ 3 → ⊥)
-    → TestOf t n s v k h → BothTest t n s v (skipTree t s) (treeAt t (childB t n) s v)
-last-test t n s v k zero a b c d x = absurd (a refl)
-last-test t n s v k (suc zero) a b c d x = absurd (b refl)
-last-test t n s v k (suc (suc zero)) a b c d x = absurd (c refl)
-last-test t n s v k (suc (suc (suc zero))) a b c d x = absurd (d refl)
-last-test t n s v k (suc (suc (suc (suc h)))) a b c d x = x
 
 -- a term or a predicate has a record
 pub test-some : (t : List ℕ) (n s v : ℕ) → LevelsAt t n v → Some (treeAt t n s v)

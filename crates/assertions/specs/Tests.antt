@@ -1,14 +1,16 @@
 -- What is emitted for terms and predicates, and at which levels they may stand.
-use Prim.Native.Nat.{ℕ, suc, _+_, _<_}
-use mathlib.Core.List.{List, [], _∷_}
+use Prim.Native.Nat.{ℕ, suc, _+_, _≤_, _<_}
+use mathlib.Core.Bool.{cond}
+use mathlib.Core.List.{List}
 use mathlib.Core.Path.{_≡_}
+use lib.Dec.{eqb}
 use lib.IntN.{pos}
 use Rattle.rules.specs.Kinds.{source}
 use Rattle.rules.specs.Nodes.{SourceNode, expressionNode, placeNode, termNode, predicateNode, statementNode, junk, nodeAt}
 use Rattle.rules.specs.Trees.{Term, value, asked, combined, Predicate, holds, compared, negated, both, either}
 use Rattle.rules.specs.Translation.{RecordTree}
 use Rattle.sizes.specs.Trees.{treeAt}
-use Rattle.emission.specs.Emission.{recordOf, withRecord, sequenceTree, partTree}
+use Rattle.emission.specs.Emission.{recordOf, withRecord, Room, sequenceTree, partTree}
 
 -- the temporaries that a term or predicate at level v names are below 64
 abbrev pub TermLevels : Term → ℕ → Type 0
@@ -35,30 +37,17 @@ Levels junk v = ⊥
 abbrev pub LevelsAt : List ℕ → ℕ → ℕ → Type 0
 LevelsAt t n v = Levels (nodeAt source t n) v
 
--- terms and predicates by kind: 0 an expression, 1 one child, 2 two, 3 and, 4 or; then the last record of one child's
-abbrev pub testShapes : List ℕ
-testShapes =
-    5 ∷ 5 ∷ 5 ∷ 5 ∷ 5 ∷ 5 ∷ 5 ∷ 5 ∷ 5 ∷ 5
-    ∷ 5 ∷ 5 ∷ 5 ∷ 5 ∷ 5 ∷ 5 ∷ 5 ∷ 5 ∷ 5 ∷ 5
-    ∷ 0 ∷ 1 ∷ 1 ∷ 1 ∷ 2 ∷ 5 ∷ 5 ∷ 5 ∷ 5 ∷ 5
-    ∷ 1 ∷ 1 ∷ 2 ∷ 1 ∷ 3 ∷ 4 ∷ 5 ∷ 5 ∷ 5 ∷ 5
-    ∷ 5 ∷ 5 ∷ 5 ∷ 5 ∷ 5 ∷ 5 ∷ 5 ∷ 5 ∷ 5 ∷ []
+-- record n is one, under statement s, and there is room for its records
+abbrev pub Ready : List ℕ → ℕ → List ℕ → ℕ → ℕ → ℕ → Type 0
+Ready t n o at s v = LevelsAt t n v × (s ≤ 256) × Room o at (treeAt t n s v)
 
-abbrev pub lastKinds : List ℕ
-lastKinds =
-    0 ∷ 0 ∷ 0 ∷ 0 ∷ 0 ∷ 0 ∷ 0 ∷ 0 ∷ 0 ∷ 0
-    ∷ 0 ∷ 0 ∷ 0 ∷ 0 ∷ 0 ∷ 0 ∷ 0 ∷ 0 ∷ 0 ∷ 0
-    ∷ 0 ∷ 64 ∷ 64 ∷ 64 ∷ 0 ∷ 0 ∷ 0 ∷ 0 ∷ 0 ∷ 0
-    ∷ 64 ∷ 64 ∷ 0 ∷ 65 ∷ 0 ∷ 0 ∷ 0 ∷ 0 ∷ 0 ∷ 0
-    ∷ 0 ∷ 0 ∷ 0 ∷ 0 ∷ 0 ∷ 0 ∷ 0 ∷ 0 ∷ 0 ∷ []
+-- "21–23, 30, 31: child at n+1; 64. .. 33: child at n+1; 65": the last record's kind, and its field C, the query
+abbrev pub lastKind : ℕ → ℕ
+lastKind k = cond (eqb k 33) 65 64
 
-abbrev pub lastFields : List ℕ
-lastFields =
-    0 ∷ 0 ∷ 0 ∷ 0 ∷ 0 ∷ 0 ∷ 0 ∷ 0 ∷ 0 ∷ 0
-    ∷ 0 ∷ 0 ∷ 0 ∷ 0 ∷ 0 ∷ 0 ∷ 0 ∷ 0 ∷ 0 ∷ 0
-    ∷ 0 ∷ 3 ∷ 4 ∷ 5 ∷ 0 ∷ 0 ∷ 0 ∷ 0 ∷ 0 ∷ 0
-    ∷ 1 ∷ 2 ∷ 0 ∷ 0 ∷ 0 ∷ 0 ∷ 0 ∷ 0 ∷ 0 ∷ 0
-    ∷ 0 ∷ 0 ∷ 0 ∷ 0 ∷ 0 ∷ 0 ∷ 0 ∷ 0 ∷ 0 ∷ []
+abbrev pub lastField : ℕ → ℕ
+lastField k =
+    cond (eqb k 30) 1 (cond (eqb k 31) 2 (cond (eqb k 21) 3 (cond (eqb k 22) 4 (cond (eqb k 23) 5 0))))
 
 -- a 66 and the sequence over it: B ends with record `yes`, C with the last
 pub record Branched (before : List ℕ) (at first yes m s : ℕ) (after : List ℕ) (r : ℕ) : Type 0 where

@@ -1,183 +1,37 @@
 // The records of an assertion: its terms and predicates by recursion on the record number, each at a level.
+ghost use mathlib.Core.Logic.{_⊎_};
 ghost use mathlib.Core.Path.{_≡_};
-ghost use Prim.Native.Nat.{_+_, _*_, _≤_, _<_};
-ghost use lib.ListN.{length, getD};
+ghost use mathlib.Core.Bool.{true};
+ghost use Prim.Native.Nat.{_+_, _*_, _≤_};
+ghost use lib.ListN.{length};
+ghost use Rattle.rules.specs.Records.{kindOf};
+ghost use Rattle.rules.specs.Checker.{isUnary};
 ghost use Rattle.emission.specs.Emission.{Room, Emitted};
 ghost use Rattle.sizes.specs.Trees.{treeAt};
-ghost use Rattle.assertions.specs.Tests.{LevelsAt, testShapes, lastKinds, lastFields, Branched, assertTree};
+ghost use Rattle.assertions.specs.Tests.{LevelsAt, Ready, lastKind, lastField, Branched, assertTree};
 
-fn test_shape(kind: u8) -> u8
-    requires { ⌜ kind < 49 ⌝ }
-    ensures { λ r. ⌜ r ≡ getD testShapes kind 0 ⌝ }
-{
-    let shapes: [u8; 49] = [
-        5,
-        5,
-        5,
-        5,
-        5,
-        5,
-        5,
-        5,
-        5,
-        5,
-        5,
-        5,
-        5,
-        5,
-        5,
-        5,
-        5,
-        5,
-        5,
-        5,
-        0,
-        1,
-        1,
-        1,
-        2,
-        5,
-        5,
-        5,
-        5,
-        5,
-        1,
-        1,
-        2,
-        1,
-        3,
-        4,
-        5,
-        5,
-        5,
-        5,
-        5,
-        5,
-        5,
-        5,
-        5,
-        5,
-        5,
-        5,
-        5,
-    ];
-    shapes[kind as usize]
-}
-
+// The kind of the last record of 21 to 23, 30, 31 and 33: a query, or not.
 fn last_kind(kind: u8) -> u8
-    requires { ⌜ kind < 49 ⌝ }
-    ensures { λ r. ⌜ r ≡ getD lastKinds kind 0 ⌝ }
+    ensures { λ r. ⌜ r ≡ lastKind kind ⌝ }
 {
-    let kinds: [u8; 49] = [
-        0,
-        0,
-        0,
-        0,
-        0,
-        0,
-        0,
-        0,
-        0,
-        0,
-        0,
-        0,
-        0,
-        0,
-        0,
-        0,
-        0,
-        0,
-        0,
-        0,
-        0,
-        64,
-        64,
-        64,
-        0,
-        0,
-        0,
-        0,
-        0,
-        0,
-        64,
-        64,
-        0,
-        65,
-        0,
-        0,
-        0,
-        0,
-        0,
-        0,
-        0,
-        0,
-        0,
-        0,
-        0,
-        0,
-        0,
-        0,
-        0,
-    ];
-    kinds[kind as usize]
+    match kind {
+        33 => 65,
+        _ => 64,
+    }
 }
 
+// That record's field C: the number of the query.
 fn last_field(kind: u8) -> usize
-    requires { ⌜ kind < 49 ⌝ }
-    ensures { λ r. ⌜ r ≡ getD lastFields kind 0 ⌝ }
+    ensures { λ r. ⌜ r ≡ lastField kind ⌝ }
 {
-    let fields: [usize; 49] = [
-        0,
-        0,
-        0,
-        0,
-        0,
-        0,
-        0,
-        0,
-        0,
-        0,
-        0,
-        0,
-        0,
-        0,
-        0,
-        0,
-        0,
-        0,
-        0,
-        0,
-        0,
-        3,
-        4,
-        5,
-        0,
-        0,
-        0,
-        0,
-        0,
-        0,
-        1,
-        2,
-        0,
-        0,
-        0,
-        0,
-        0,
-        0,
-        0,
-        0,
-        0,
-        0,
-        0,
-        0,
-        0,
-        0,
-        0,
-        0,
-        0,
-    ];
-    fields[kind as usize]
+    match kind {
+        30 => 1,
+        31 => 2,
+        21 => 3,
+        22 => 4,
+        23 => 5,
+        _ => 0,
+    }
 }
 
 // Kind 66 over the last two parts, behind the one that ends with record `first`.
@@ -189,54 +43,83 @@ fn emit_branch(out: &mut [u8], at: usize, first: usize, yes: usize, mark: u8, s:
     emission::emit_sequence(out, x, first, s)
 }
 
+// An expression.
+fn emit_value(table: &[u8], n: usize, out: &mut [u8], at: usize, s: usize, level: u8) -> usize
+    requires { ⌜ Ready (now table) n (now out) at s level × (kindOf (now table) n ≡ 20) ⌝ }
+    ensures { λ r. ⌜ Emitted (now (out .entry)) at (treeAt (now (table .entry)) n s level) (now (out .exit)) r ⌝ }
+{
+    let a = tables::child_a(table, n);
+    emission::emit_part(table, out, at, 61, level, a, 0, 0, s)
+}
+
 // A term or a predicate at a level, under statement s.
 fn emit_test(table: &[u8], n: usize, out: &mut [u8], at: usize, s: usize, level: u8) -> usize
-    requires { ⌜ LevelsAt (now table) n level ⌝ ∗ ⌜ s ≤ 256 ⌝ ∗ ⌜ Room (now out) at (treeAt (now table) n s level) ⌝ }
+    requires { ⌜ Ready (now table) n (now out) at s level ⌝ }
+    ensures { λ r. ⌜ Emitted (now (out .entry)) at (treeAt (now (table .entry)) n s level) (now (out .exit)) r ⌝ }
+{
+    match tables::kind(table, n) {
+        20 => emit_value(table, n, out, at, s, level),
+        24 | 32 => emit_binary(table, n, out, at, s, level),
+        34 => emit_both(table, n, out, at, s, level),
+        35 => emit_either(table, n, out, at, s, level),
+        _ => emit_unary(table, n, out, at, s, level),
+    }
+}
+
+// One that asks for, or negates, what its child says.
+fn emit_unary(table: &[u8], n: usize, out: &mut [u8], at: usize, s: usize, level: u8) -> usize
+    requires { ⌜ Ready (now table) n (now out) at s level × (isUnary (kindOf (now table) n) ≡ true) ⌝ }
     ensures { λ r. ⌜ Emitted (now (out .entry)) at (treeAt (now (table .entry)) n s level) (now (out .exit)) r ⌝ }
 {
     let kind = tables::kind(table, n);
+    let last = last_kind(kind);
+    let field = last_field(kind);
     let a = tables::child_a(table, n);
-    match test_shape(kind) {
-        0 => emission::emit_part(table, out, at, 61, level, a, 0, 0, s),
-        1 => {
-            let x = emit_test(table, a, out, at, s, level + 1);
-            let y = emission::emit_part(
-                table,
-                out,
-                x,
-                last_kind(kind),
-                level,
-                0,
-                0,
-                last_field(kind),
-                s,
-            );
-            emission::emit_sequence(out, y, x, s)
-        }
-        2 => {
-            let b = tables::child_b(table, n);
-            let c = tables::mark(table, n) as usize;
-            let x = emit_test(table, a, out, at, s, level + 1);
-            let y = emit_test(table, b, out, x, s, level + 2);
-            let z = emission::emit_part(table, out, y, 63, level, 0, 0, c, s);
-            let u = emission::emit_sequence(out, z, y, s);
-            emission::emit_sequence(out, u, x, s)
-        }
-        3 => {
-            let b = tables::child_b(table, n);
-            let x = emit_test(table, a, out, at, s, level);
-            let y = emit_test(table, b, out, x, s, level);
-            let z = emission::emit_part(table, out, y, 40, 0, 0, 0, 0, s);
-            emit_branch(out, z, x, y, level, s)
-        }
-        _ => {
-            let b = tables::child_b(table, n);
-            let x = emit_test(table, a, out, at, s, level);
-            let y = emission::emit_part(table, out, x, 40, 0, 0, 0, 0, s);
-            let z = emit_test(table, b, out, y, s, level);
-            emit_branch(out, z, x, y, level, s)
-        }
-    }
+    let x = emit_test(table, a, out, at, s, level + 1);
+    let y = emission::emit_part(table, out, x, last, level, 0, 0, field, s);
+    emission::emit_sequence(out, y, x, s)
+}
+
+// An operation on two terms.
+fn emit_binary(table: &[u8], n: usize, out: &mut [u8], at: usize, s: usize, level: u8) -> usize
+    requires { ⌜ Ready (now table) n (now out) at s level
+        × ((kindOf (now table) n ≡ 24) ⊎ (kindOf (now table) n ≡ 32)) ⌝ }
+    ensures { λ r. ⌜ Emitted (now (out .entry)) at (treeAt (now (table .entry)) n s level) (now (out .exit)) r ⌝ }
+{
+    let a = tables::child_a(table, n);
+    let b = tables::child_b(table, n);
+    let c = tables::mark(table, n) as usize;
+    let x = emit_test(table, a, out, at, s, level + 1);
+    let y = emit_test(table, b, out, x, s, level + 2);
+    let z = emission::emit_part(table, out, y, 63, level, 0, 0, c, s);
+    let u = emission::emit_sequence(out, z, y, s);
+    emission::emit_sequence(out, u, x, s)
+}
+
+// A and B: B only where A is true.
+fn emit_both(table: &[u8], n: usize, out: &mut [u8], at: usize, s: usize, level: u8) -> usize
+    requires { ⌜ Ready (now table) n (now out) at s level × (kindOf (now table) n ≡ 34) ⌝ }
+    ensures { λ r. ⌜ Emitted (now (out .entry)) at (treeAt (now (table .entry)) n s level) (now (out .exit)) r ⌝ }
+{
+    let a = tables::child_a(table, n);
+    let b = tables::child_b(table, n);
+    let x = emit_test(table, a, out, at, s, level);
+    let y = emit_test(table, b, out, x, s, level);
+    let z = emission::emit_part(table, out, y, 40, 0, 0, 0, 0, s);
+    emit_branch(out, z, x, y, level, s)
+}
+
+// A or B: B only where A is false.
+fn emit_either(table: &[u8], n: usize, out: &mut [u8], at: usize, s: usize, level: u8) -> usize
+    requires { ⌜ Ready (now table) n (now out) at s level × (kindOf (now table) n ≡ 35) ⌝ }
+    ensures { λ r. ⌜ Emitted (now (out .entry)) at (treeAt (now (table .entry)) n s level) (now (out .exit)) r ⌝ }
+{
+    let a = tables::child_a(table, n);
+    let b = tables::child_b(table, n);
+    let x = emit_test(table, a, out, at, s, level);
+    let y = emission::emit_part(table, out, x, 40, 0, 0, 0, 0, s);
+    let z = emit_test(table, b, out, y, s, level);
+    emit_branch(out, z, x, y, level, s)
 }
 
 // An assertion: its predicate at level 0, then 67.

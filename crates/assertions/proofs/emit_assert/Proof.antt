@@ -14,7 +14,7 @@ emit-test-requires : tie.Need-emit-test-requires
 emit-test-requires c κs =
     let s = c .before .before .before in
     let room = s .pre .1 .1 in
-    (s .pre .0, (s .pre .1 .0, omega arith))
+    (s .pre .0, s .pre .1 .0, omega arith)
 
 emit-part-requires : tie.Need-emit-part-requires
 emit-part-requires c κs =
