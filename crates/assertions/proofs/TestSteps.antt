@@ -68,23 +68,31 @@ module _ (t : List ℕ) (n s v : ℕ) (l : LevelsAt t n v) where
   either-at e p q = rw (p, q) (of-kind 35 e)
 
   -- past the kinds that are named
-  pub last-unary : {k : ℕ} → k ≡ kindOf t n → (k ≡ 20 → ⊥) → ((k ≡ 24) ⊎ (k ≡ 32) → ⊥) → (k ≡ 34 → ⊥)
-      → (k ≡ 35 → ⊥) → isUnary (kindOf t n) ≡ true
-  last-unary {k = k} e a b c d = subst (λ (j : ℕ). isUnary j ≡ true) e (go (isUnary k) refl)
+  last-unary : {k : ℕ} → k ≡ kindOf t n → (k ≡ 20 → ⊥) → ((k ≡ 24) ⊎ (k ≡ 32) → ⊥) → (k ≡ 34 → ⊥) → (k ≡ 35 → ⊥)
+      → isUnary k ≡ true
+  last-unary {k = k} e a b c d = go (isUnary k) refl
     where
       go : (u : Bool) → isUnary k ≡ u → isUnary k ≡ true
       go true h = h
       go false h =
-          absurd
-          (a
-          ((rw (
+          let r = rw (
             h,
             ne-eqb k 24 (λ x. b (inl x)),
             ne-eqb k 32 (λ x. b (inr x)),
             ne-eqb k 34 c,
             ne-eqb k 35 d,
-          ) at (of-kind k (sym e)))
-          .0))
+          ) at (of-kind k (sym e)) in
+          absurd (a (r .0))
+
+  pub unary-query : {A : Type 0} {k q : ℕ} → A → k ≡ kindOf t n → q ≡ lastField k → (k ≡ 20 → ⊥)
+      → ((k ≡ 24) ⊎ (k ≡ 32) → ⊥) → (k ≡ 33 → ⊥) → (k ≡ 34 → ⊥) → (k ≡ 35 → ⊥)
+      → A × (isUnary (kindOf t n) ≡ true) × (64 ≡ lastKind (kindOf t n)) × (q ≡ lastField (kindOf t n))
+  unary-query {k = k} x e f a b g c d =
+      rw (sym e) (x, last-unary e a b c d, rw (ne-eqb k 33 g) refl, f)
+
+pub unary-not : {A : Type 0} {k : ℕ} → A → k ≡ 33
+    → A × (isUnary k ≡ true) × (65 ≡ lastKind k) × (_≡_ {A = ℕ} 0 (lastField k))
+unary-not x e = rw e (x, refl, refl, refl)
 
 pub either-kind : {j k x y : ℕ} → j ≡ k → (j ≡ x) ⊎ (j ≡ y) → (k ≡ x) ⊎ (k ≡ y)
 either-kind e (inl p) = inl (sym e ∙ p)

@@ -10,18 +10,8 @@ ghost use Rattle.emission.specs.Emission.{Room, Emitted};
 ghost use Rattle.sizes.specs.Trees.{treeAt};
 ghost use Rattle.assertions.specs.Tests.{LevelsAt, Ready, lastKind, lastField, Branched, assertTree};
 
-// The kind of the last record of 21 to 23, 30, 31 and 33: a query, or not.
-fn last_kind(kind: u8) -> u8
-    ensures { λ r. ⌜ r ≡ lastKind kind ⌝ }
-{
-    match kind {
-        33 => 65,
-        _ => 64,
-    }
-}
-
-// That record's field C: the number of the query.
-fn last_field(kind: u8) -> usize
+// The query of 21 to 23, 30 and 31, by its number.
+fn query(kind: u8) -> usize
     ensures { λ r. ⌜ r ≡ lastField kind ⌝ }
 {
     match kind {
@@ -43,37 +33,40 @@ fn emit_branch(out: &mut [u8], at: usize, first: usize, yes: usize, mark: u8, s:
     emission::emit_sequence(out, x, first, s)
 }
 
-// An expression.
-fn emit_value(table: &[u8], n: usize, out: &mut [u8], at: usize, s: usize, level: u8) -> usize
-    requires { ⌜ Ready (now table) n (now out) at s level × (kindOf (now table) n ≡ 20) ⌝ }
-    ensures { λ r. ⌜ Emitted (now (out .entry)) at (treeAt (now (table .entry)) n s level) (now (out .exit)) r ⌝ }
-{
-    let a = tables::child_a(table, n);
-    emission::emit_part(table, out, at, 61, level, a, 0, 0, s)
-}
-
 // A term or a predicate at a level, under statement s.
 fn emit_test(table: &[u8], n: usize, out: &mut [u8], at: usize, s: usize, level: u8) -> usize
     requires { ⌜ Ready (now table) n (now out) at s level ⌝ }
     ensures { λ r. ⌜ Emitted (now (out .entry)) at (treeAt (now (table .entry)) n s level) (now (out .exit)) r ⌝ }
 {
-    match tables::kind(table, n) {
-        20 => emit_value(table, n, out, at, s, level),
+    let kind = tables::kind(table, n);
+    match kind {
+        20 => {
+            let a = tables::child_a(table, n);
+            emission::emit_part(table, out, at, 61, level, a, 0, 0, s)
+        }
         24 | 32 => emit_binary(table, n, out, at, s, level),
+        33 => emit_unary(table, n, out, at, s, level, 65, 0),
         34 => emit_both(table, n, out, at, s, level),
         35 => emit_either(table, n, out, at, s, level),
-        _ => emit_unary(table, n, out, at, s, level),
+        _ => emit_unary(table, n, out, at, s, level, 64, query(kind)),
     }
 }
 
-// One that asks for, or negates, what its child says.
-fn emit_unary(table: &[u8], n: usize, out: &mut [u8], at: usize, s: usize, level: u8) -> usize
-    requires { ⌜ Ready (now table) n (now out) at s level × (isUnary (kindOf (now table) n) ≡ true) ⌝ }
+// One of a child: its records, then one of the kind `last` with `field` in field C.
+fn emit_unary(
+    table: &[u8],
+    n: usize,
+    out: &mut [u8],
+    at: usize,
+    s: usize,
+    level: u8,
+    last: u8,
+    field: usize,
+) -> usize
+    requires { ⌜ Ready (now table) n (now out) at s level × (isUnary (kindOf (now table) n) ≡ true)
+        × (last ≡ lastKind (kindOf (now table) n)) × (field ≡ lastField (kindOf (now table) n)) ⌝ }
     ensures { λ r. ⌜ Emitted (now (out .entry)) at (treeAt (now (table .entry)) n s level) (now (out .exit)) r ⌝ }
 {
-    let kind = tables::kind(table, n);
-    let last = last_kind(kind);
-    let field = last_field(kind);
     let a = tables::child_a(table, n);
     let x = emit_test(table, a, out, at, s, level + 1);
     let y = emission::emit_part(table, out, x, last, level, 0, 0, field, s);

@@ -18,9 +18,7 @@ use Rattle.assertions.proofs.emit_unary.Reads as emit-unary
 use Rattle.assertions.proofs.emit_unary.Kinds as emit-unary-kinds
 use Rattle.assertions.proofs.+emit_binary+emit_both+emit_either+emit_test+emit_unary.Lts-emit_unary as emit-unary-lts
 use Rattle.assertions.proofs.emit_branch.Reads as emit-branch-reads
-use Rattle.assertions.proofs.emit_value.Reads as emit-value-reads
-use Rattle.assertions.proofs.last_field.Reads as last-field-reads
-use Rattle.assertions.proofs.last_kind.Reads as last-kind-reads
+use Rattle.assertions.proofs.query.Reads as query-reads
 use Rattle.emission.proofs.emit_part.Reads as emit-part-reads
 use Rattle.emission.proofs.emit_sequence.Reads as emit-sequence-reads
 use Rattle.tables.proofs.child_a.Reads as child-a-reads
@@ -126,26 +124,24 @@ abbrev pub emit-test-claims : ℕ → emit-test-lts.Claims
 emit-test-claims t = (
   kind-reads.Asked,
   kind-reads.Learnt,
-  emit-value-reads.Asked,
-  emit-value-reads.Learnt,
+  child-a-reads.Asked,
+  child-a-reads.Learnt,
+  emit-part-reads.Asked,
+  emit-part-reads.Learnt,
   emit-binary-below t,
   emit-binary.Post,
+  emit-unary-below t,
+  emit-unary.Post,
   emit-both-below t,
   emit-both.Post,
   emit-either-below t,
   emit-either.Post,
-  emit-unary-below t,
-  emit-unary.Post,
+  query-reads.Asked,
+  query-reads.Learnt,
 )
 
 abbrev pub emit-unary-claims : ℕ → emit-unary-lts.Claims
 emit-unary-claims t = (
-  kind-reads.Asked,
-  kind-reads.Learnt,
-  last-kind-reads.Asked,
-  last-kind-reads.Learnt,
-  last-field-reads.Asked,
-  last-field-reads.Learnt,
   child-a-reads.Asked,
   child-a-reads.Learnt,
   emit-test-below t,

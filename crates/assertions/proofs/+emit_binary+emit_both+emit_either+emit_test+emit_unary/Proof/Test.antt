@@ -1,9 +1,13 @@
 -- What the dispatcher owes: each kind goes to its own function.
 use Prim.Native.Nat.{ℕ}
 use native.Mathlib.Omega.{arith}
-use mathlib.Core.Path.{sym, ap, _∙_, subst}
+use borrow.Author.Needs.{needs}
+use mathlib.Core.Logic.{inl}
+use mathlib.Core.Path.{refl, sym, ap, _∙_}
 use denote.Ref.{now}
-use Rattle.assertions.proofs.TestSteps.{within, last-unary, either-kind}
+use Rattle.rules.specs.Translation.{treeSize}
+use Rattle.emission.proofs.Emitting.{emitted-as}
+use Rattle.assertions.proofs.TestSteps.{ValueAt, within, value-at, either-kind, unary-not, unary-query}
 use Rattle.assertions.proofs.+emit_binary+emit_both+emit_either+emit_test+emit_unary.Proof.Cycle.{emit-test-at, emit-test-claims}
 use Rattle.assertions.proofs.emit_test.Reads as emit-test
 use Rattle.assertions.proofs.+emit_binary+emit_both+emit_either+emit_test+emit_unary.Lts-emit_test as lts
@@ -17,11 +21,29 @@ module _ (t : ℕ) where
       let s = c .before .before in
       within (now (s .args .table)) (s .args .n) (s .args .s) (s .args .level) (s .pre .1 .0)
 
-  pub emit-value-requires : lts.Need-emit-value-requires claims (emit-test-at t) emit-test.Post
-  emit-value-requires c κs =
-      let m = c .before in
+  pub child-a-requires : lts.Need-child-a-requires claims (emit-test-at t) emit-test.Post
+  child-a-requires c κs =
+      let s = c .before .before .before .before in
+      within (now (s .args .table)) (s .args .n) (s .args .s) (s .args .level) (s .pre .1 .0)
+
+  value : (a : lts.After-child-a claims (emit-test-at t) emit-test.Post)
+      → let s = a .before .before .before .before .before in
+      ValueAt (now (s .args .table)) (s .args .n) (s .args .s) (s .args .level) (a .child-a .result)
+  value a =
+      let m = a .before in
       let k = m .before in
-      (k .before .before .before .pre .1, sym (k .kind .ensures) ∙ m .match .keys1)
+      let s = k .before .before .before in
+      value-at (now (s .args .table)) (s .args .n) (s .args .s) (s .args .level) (s .pre .1 .0)
+      (sym (k .kind .ensures) ∙ m .match .keys1) (a .child-a .ensures)
+
+  pub emit-part-requires : lts.Need-emit-part-requires claims (emit-test-at t) emit-test.Post
+  emit-part-requires c κs =
+      let a = c .before in
+      let ready = a .before .before .before .before .before .pre .1 in
+      let r = value a in
+      let size = ap treeSize (r .2) in
+      let room = ready .2 in
+      (r .0, (inl refl, (ready .1, omega arith)))
 
   pub emit-binary-requires : lts.Need-emit-binary-requires claims (emit-test-at t) emit-test.Post
   emit-binary-requires c κs =
@@ -29,37 +51,43 @@ module _ (t : ℕ) where
       let k = m .before in
       (omega arith, (k .before .before .before .pre .1, either-kind (k .kind .ensures) (m .match .keys2)))
 
+  pub emit-unary-requires : lts.Need-emit-unary-requires claims (emit-test-at t) emit-test.Post
+  emit-unary-requires c κs =
+      let m = c .before in
+      let k = m .before in
+      (omega arith, unary-not (k .before .before .before .pre .1) (sym (k .kind .ensures) ∙ m .match .keys3))
+
   pub emit-both-requires : lts.Need-emit-both-requires claims (emit-test-at t) emit-test.Post
   emit-both-requires c κs =
       let m = c .before in
       let k = m .before in
-      (omega arith, (k .before .before .before .pre .1, sym (k .kind .ensures) ∙ m .match .keys3))
+      (omega arith, (k .before .before .before .pre .1, sym (k .kind .ensures) ∙ m .match .keys4))
 
   pub emit-either-requires : lts.Need-emit-either-requires claims (emit-test-at t) emit-test.Post
   emit-either-requires c κs =
       let m = c .before in
       let k = m .before in
-      (omega arith, (k .before .before .before .pre .1, sym (k .kind .ensures) ∙ m .match .keys4))
+      (omega arith, (k .before .before .before .pre .1, sym (k .kind .ensures) ∙ m .match .keys5))
 
-  pub emit-unary-requires : lts.Need-emit-unary-requires claims (emit-test-at t) emit-test.Post
-  emit-unary-requires c κs =
-      let m = c .before in
+  pub query-requires : lts.Need-query-requires claims (emit-test-at t) emit-test.Post
+  query-requires c κs = search needs
+
+  pub emit-unary-requires-2 : lts.Need-emit-unary-requires-2 claims (emit-test-at t) emit-test.Post
+  emit-unary-requires-2 c κs =
+      let m = c .before .before in
       let k = m .before in
       let s = k .before .before .before in
       let h = m .match .rest in (
         omega arith,
-        (
-          s .pre .1,
-          last-unary (now (s .args .table)) (s .args .n) (s .args .s) (s .args .level) (s .pre .1 .0)
-              (k .kind .ensures) (h .0 .0 .0 .1) (h .0 .0 .1) (h .0 .1) (h .1),
-        ),
+        unary-query (now (s .args .table)) (s .args .n) (s .args .s) (s .args .level) (s .pre .1 .0) (s .pre .1)
+            (k .kind .ensures) (c .query .ensures) (h .0 .0 .0 .0 .1) (h .0 .0 .0 .1) (h .0 .0 .1) (h .0 .1) (h .1),
       )
 
   pub same-length : lts.Need-same-length claims (emit-test-at t) emit-test.Post
   same-length c = c .before .out .given
 
   pub returns : lts.Need-returns claims (emit-test-at t) emit-test.Post
-  returns c = c .before .before .emit-value .ensures
+  returns c = let x = c .before .before in emitted-as (value (x .before .before) .2) (x .emit-part .ensures)
 
   pub same-length-2 : lts.Need-same-length-2 claims (emit-test-at t) emit-test.Post
   same-length-2 c = c .before .out2 .given
@@ -71,16 +99,22 @@ module _ (t : ℕ) where
   same-length-3 c = c .before .out3 .given
 
   pub returns-3 : lts.Need-returns-3 claims (emit-test-at t) emit-test.Post
-  returns-3 c = c .before .before .emit-both .ensures
+  returns-3 c = c .before .before .emit-unary .ensures
 
   pub same-length-4 : lts.Need-same-length-4 claims (emit-test-at t) emit-test.Post
   same-length-4 c = c .before .out4 .given
 
   pub returns-4 : lts.Need-returns-4 claims (emit-test-at t) emit-test.Post
-  returns-4 c = c .before .before .emit-either .ensures
+  returns-4 c = c .before .before .emit-both .ensures
 
   pub same-length-5 : lts.Need-same-length-5 claims (emit-test-at t) emit-test.Post
   same-length-5 c = c .before .out5 .given
 
   pub returns-5 : lts.Need-returns-5 claims (emit-test-at t) emit-test.Post
-  returns-5 c = c .before .before .emit-unary .ensures
+  returns-5 c = c .before .before .emit-either .ensures
+
+  pub same-length-6 : lts.Need-same-length-6 claims (emit-test-at t) emit-test.Post
+  same-length-6 c = c .before .out6 .given
+
+  pub returns-6 : lts.Need-returns-6 claims (emit-test-at t) emit-test.Post
+  returns-6 c = c .before .before .emit-unary2 .ensures

@@ -1,16 +1,14 @@
 -- What `emit_unary` owes: the child's records, then the last record and the sequence over them.
 use Prim.Native.Nat.{ℕ, _+_}
 use native.Mathlib.Omega.{arith}
-use borrow.Author.Needs.{needs}
 use mathlib.Core.Logic.{inl}
-use mathlib.Core.Path.{refl, sym, ap, _∙_, subst}
+use mathlib.Core.Path.{refl, ap, _∙_, subst}
 use denote.Ref.{now}
 use Rattle.rules.specs.Translation.{treeSize}
 use Rattle.tables.specs.Within.{Within}
 use Rattle.emission.specs.Emission.{Room}
 use Rattle.emission.proofs.Emitting.{emitted-as, some}
 use Rattle.emission.proofs.Parts.{emitted-sequence}
-use Rattle.assertions.specs.Tests.{lastKind, lastField}
 use Rattle.assertions.proofs.Tests.{test-some}
 use Rattle.assertions.proofs.TestSteps.{UnaryAt, within, unary-at}
 use Rattle.assertions.proofs.+emit_binary+emit_both+emit_either+emit_test+emit_unary.Proof.Cycle.{emit-unary-at, emit-unary-claims}
@@ -25,28 +23,17 @@ module _ (t : ℕ) where
   inside s = within (now (s .args .table)) (s .args .n) (s .args .s) (s .args .level) (s .pre .1 .0 .0)
 
   unary : (k : lts.After-child-a claims (emit-unary-at t) emit-unary.Post)
-      → let s = k .before .before .before .before .before .before in
-      UnaryAt (now (s .args .table)) (s .args .n) (s .args .s) (s .args .level) (k .before .before .last-kind .result)
-      (k .before .last-field .result) (k .child-a .result) (s .args .level + 1)
+      → let s = k .before .before .before in
+      UnaryAt (now (s .args .table)) (s .args .n) (s .args .s) (s .args .level) (s .args .last) (s .args .field)
+      (k .child-a .result) (s .args .level + 1)
   unary k =
-      let f = k .before in
-      let m = f .before .before in
-      let s = m .before .before .before in
-      unary-at (now (s .args .table)) (s .args .n) (s .args .s) (s .args .level) (s .pre .1 .0 .0) (s .pre .1 .1)
-      (f .before .last-kind .ensures ∙ ap lastKind (m .kind .ensures))
-      (f .last-field .ensures ∙ ap lastField (m .kind .ensures)) (k .child-a .ensures) (omega arith)
-
-  pub kind-requires : lts.Need-kind-requires claims (emit-unary-at t) emit-unary.Post
-  kind-requires c κs = inside (c .before .before)
-
-  pub last-kind-requires : lts.Need-last-kind-requires claims (emit-unary-at t) emit-unary.Post
-  last-kind-requires c κs = search needs
-
-  pub last-field-requires : lts.Need-last-field-requires claims (emit-unary-at t) emit-unary.Post
-  last-field-requires c κs = search needs
+      let s = k .before .before .before in
+      let p = s .pre .1 in
+      unary-at (now (s .args .table)) (s .args .n) (s .args .s) (s .args .level) (p .0 .0) (p .1) (p .2) (p .3)
+      (k .child-a .ensures) (omega arith)
 
   pub child-a-requires : lts.Need-child-a-requires claims (emit-unary-at t) emit-unary.Post
-  child-a-requires c κs = inside (c .before .before .before .before .before)
+  child-a-requires c κs = inside (c .before .before)
 
   pub add-emit-test : lts.Need-add-emit-test claims (emit-unary-at t) emit-unary.Post
   add-emit-test c = let low = unary (c .before) .2 in omega arith
@@ -54,7 +41,7 @@ module _ (t : ℕ) where
   pub emit-test-requires : lts.Need-emit-test-requires claims (emit-unary-at t) emit-unary.Post
   emit-test-requires c κs =
       let k = c .before in
-      let ready = k .before .before .before .before .before .before .pre .1 .0 in
+      let ready = k .before .before .before .pre .1 .0 in
       let r = unary k in
       let size = ap treeSize (r .3) in
       let below = r .0 in
@@ -65,7 +52,7 @@ module _ (t : ℕ) where
   emit-part-requires c κs =
       let x = c .before .before .before in
       let k = x .before .before in
-      let ready = k .before .before .before .before .before .before .pre .1 .0 in
+      let ready = k .before .before .before .pre .1 .0 in
       let size = ap treeSize (unary k .3) in
       let room = ready .2 in
       let count = x .emit-test .ensures .count in
@@ -77,7 +64,7 @@ module _ (t : ℕ) where
       let y = c .before .before .before in
       let x = y .before .before .before .before in
       let k = x .before .before in
-      let ready = k .before .before .before .before .before .before .pre .1 .0 in
+      let ready = k .before .before .before .pre .1 .0 in
       let size = ap treeSize (unary k .3) in
       let room = ready .2 in
       let count = x .emit-test .ensures .count in
@@ -99,7 +86,7 @@ module _ (t : ℕ) where
       let y = z .before .before .before .before in
       let x = y .before .before .before .before in
       let k = x .before .before in
-      let s = k .before .before .before .before .before .before in
+      let s = k .before .before .before in
       let a = s .args in
       let r = unary k in
       let T = now (a .table) in

@@ -1,9 +1,9 @@
--- `assertions::last_field` meets its contract. Assumes nothing.
+-- `assertions::query` meets its contract. Assumes nothing.
 use mathlib.Core.Path.{sym, ap}
 use Rattle.assertions.specs.Tests.{lastField}
 use Rattle.assertions.proofs.TestSteps.{no-query}
-use Rattle.assertions.proofs.last_field.Statement.{statement}
-use Rattle.assertions.proofs.last_field.Tie as tie
+use Rattle.assertions.proofs.query.Statement.{statement}
+use Rattle.assertions.proofs.query.Tie as tie
 
 returns : tie.Need-returns
 returns c = sym (ap lastField (c .match .keys1))
@@ -25,5 +25,5 @@ returns-6 c =
     let h = c .match .rest in
     no-query (c .before .args .kind) (h .0 .0 .0 .0 .1) (h .0 .0 .0 .1) (h .0 .0 .1) (h .0 .1) (h .1)
 
-pub last-field-spec : {M : Type 1} → statement M
-last-field-spec = tie.close (tie.spec returns returns-2 returns-3 returns-4 returns-5 returns-6)
+pub query-spec : {M : Type 1} → statement M
+query-spec = tie.close (tie.spec returns returns-2 returns-3 returns-4 returns-5 returns-6)
