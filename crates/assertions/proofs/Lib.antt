@@ -1,3 +1,4 @@
 -- Facts about terms and predicates.
 pub mod Tests
 pub mod TestSteps
+pub mod Rooms

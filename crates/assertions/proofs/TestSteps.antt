@@ -1,22 +1,18 @@
 -- What the emission of a term or a predicate starts from, kind by kind, in the values that the code has read.
 use Prim.Native.Nat.{ℕ, suc, _+_, _<_}
-use native.Mathlib.Omega.{arith}
 use mathlib.Core.Bool.{Bool, true, false}
 use mathlib.Core.Logic.{_⊎_, inl, inr}
 use mathlib.Core.Path.{_≡_, refl, sym, _∙_, subst}
 use mathlib.Core.List.{List}
 use lib.IntN.{pos}
-use lib.ListN.{length}
 use borrow.Author.Tests.{ne-eqb}
 use Rattle.rules.specs.Records.{kindOf, markOf, childA, childB}
 use Rattle.rules.specs.Checker.{isUnary}
 use Rattle.rules.specs.Translation.{RecordTree, none, node}
 use Rattle.tables.specs.Within.{Within}
-use Rattle.emission.specs.Emission.{Room, Emitted, Copied, sequenceTree, partTree}
+use Rattle.emission.specs.Emission.{Copied, sequenceTree, partTree}
 use Rattle.sizes.specs.Trees.{treeAt}
-use Rattle.assertions.specs.Tests.{LevelsAt, Branched, lastKind, lastField}
-use Rattle.emission.proofs.Emitting.{emitted-none, emitted-node, Some, some, root-some, field-some}
-use Rattle.emission.proofs.Parts.{emitted-sequence}
+use Rattle.assertions.specs.Tests.{LevelsAt, lastKind, lastField}
 use Rattle.assertions.proofs.Tests.{BinaryTest, skipTree, TestOf, test-at}
 
 abbrev pub ValueAt : List ℕ → ℕ → ℕ → ℕ → ℕ → Type 0
@@ -100,14 +96,3 @@ either-kind e (inr p) = inr (sym e ∙ p)
 
 pub no-query : (k : ℕ) → (k ≡ 30 → ⊥) → (k ≡ 31 → ⊥) → (k ≡ 21 → ⊥) → (k ≡ 22 → ⊥) → (k ≡ 23 → ⊥) → 0 ≡ lastField k
 no-query k a b c d e = rw (ne-eqb k 30 a, ne-eqb k 31 b, ne-eqb k 21 c, ne-eqb k 22 d, ne-eqb k 23 e) refl
-
--- a 66 over two trees, behind another
-pub emitted-branch : {o o₁ o₂ o₃ o₄ : List ℕ} {at x y z r m s : ℕ} {a b c : RecordTree} → Some a → Some b → Some c
-    → Emitted o at a o₁ x → Emitted o₁ x b o₂ y → Emitted o₂ y c o₃ z → length o₁ ≡ length o
-    → Room o at (sequenceTree s a (node 66 m (pos s) 0 none b c)) → Branched o₃ z x y m s o₄ r
-    → Emitted o at (sequenceTree s a (node 66 m (pos s) 0 none b c)) o₄ r
-emitted-branch {o₁ = o₁} {z = z} {m = m} {s = s} p q u A B C same room h =
-    let count = A .count in
-    let own = emitted-node (h .middle) (z + 1) 66 m (pos s) 0 0 _ _ (emitted-none o₁ _) B C (omega arith) refl
-    (root-some q B) (field-some 0 u C) (h .own) refl in
-    emitted-sequence _ _ s p some A own room (h .over) (h .count ∙ omega arith)

@@ -3,15 +3,15 @@ use Prim.Native.Nat.{ℕ, _+_}
 use native.Mathlib.Omega.{arith}
 use borrow.Author.Needs.{needs}
 use mathlib.Core.Logic.{inl}
-use mathlib.Core.Path.{refl, ap, _∙_, subst}
+use mathlib.Core.Path.{refl, _∙_, subst}
 use denote.Ref.{now}
-use Rattle.rules.specs.Translation.{treeSize}
 use Rattle.tables.specs.Within.{Within}
-use Rattle.emission.specs.Emission.{Room}
+use Rattle.sizes.specs.Trees.{treeAt}
+use Rattle.emission.specs.Emission.{Room, sequenceTree, partTree}
 use Rattle.emission.proofs.Emitting.{emitted-as, some}
-use Rattle.emission.proofs.Parts.{emitted-sequence}
 use Rattle.assertions.proofs.Tests.{test-some}
 use Rattle.assertions.proofs.TestSteps.{BinaryAt, within, binary-at}
+use Rattle.assertions.proofs.Rooms.{falls-to, Sequence, first-room, second-room, over-room, whole}
 use Rattle.assertions.proofs.+emit_binary+emit_both+emit_either+emit_test+emit_unary.Proof.Cycle.{emit-binary-at, emit-binary-claims}
 use Rattle.assertions.proofs.emit_binary.Reads as emit-binary
 use Rattle.assertions.proofs.+emit_binary+emit_both+emit_either+emit_test+emit_unary.Lts-emit_binary as lts
@@ -32,6 +32,40 @@ module _ (t : ℕ) where
       binary-at (now (s .args .table)) (s .args .n) (s .args .s) (s .args .level) (s .pre .1 .0 .0) (s .pre .1 .1)
       (k .before .before .child-a .ensures) (k .before .child-b .ensures) (k .mark .ensures) (omega arith) (omega arith)
 
+  parts : (k : lts.After-mark claims (emit-binary-at t) emit-binary.Post)
+      → let a = k .before .before .before .before .before .args in
+      let T = now (a .table) in
+      Sequence (now (a .out)) (a .at) (a .s) (treeAt T (k .before .before .child-a .result) (a .s) (a .level + 1))
+      (sequenceTree (a .s) (treeAt T (k .before .child-b .result) (a .s) (a .level + 2))
+      (partTree T (a .s) 63 (a .level) 0 0 (k .mark .result)))
+  parts k =
+      let s = k .before .before .before .before .before in
+      let a = s .args in
+      let r = binary k in
+      record {
+        room = subst (Room (now (a .out)) (a .at)) (r .5) (s .pre .1 .0 .2);
+        some-a = test-some (now (a .table)) (k .before .before .child-a .result) (a .s) (a .level + 1) (r .2);
+        some-b = some;
+      }
+
+  -- B and the operation
+  rest : (y : lts.After-out claims (emit-binary-at t) emit-binary.Post)
+      → let x = y .before in
+      let k = x .before .before in
+      let a = k .before .before .before .before .before .args in
+      let T = now (a .table) in
+      Sequence (x .emit-test .last .1 .1 .0) (x .emit-test .result) (a .s)
+      (treeAt T (k .before .child-b .result) (a .s) (a .level + 2)) (partTree T (a .s) 63 (a .level) 0 0 (k .mark .result))
+  rest y =
+      let x = y .before in
+      let k = x .before .before in
+      let a = k .before .before .before .before .before .args in
+      record {
+        room = second-room (parts k) (x .emit-test .ensures) (y .out .given);
+        some-a = test-some (now (a .table)) (k .before .child-b .result) (a .s) (a .level + 2) (binary k .3);
+        some-b = some;
+      }
+
   pub child-a-requires : lts.Need-child-a-requires claims (emit-binary-at t) emit-binary.Post
   child-a-requires c κs = inside (c .before .before)
 
@@ -50,79 +84,58 @@ module _ (t : ℕ) where
   pub emit-test-requires : lts.Need-emit-test-requires claims (emit-binary-at t) emit-binary.Post
   emit-test-requires c κs =
       let k = c .before in
-      let ready = k .before .before .before .before .before .pre .1 .0 in
+      let s = k .before .before .before .before .before in
       let r = binary k in
-      let size = ap treeSize (r .5) in
-      let below = r .0 in
-      let room = ready .2 in
-      (omega arith, (r .2, ready .1, omega arith))
+      (falls-to (s .pre .0) (r .0), (r .2, s .pre .1 .0 .1, first-room (parts k)))
 
   pub add-emit-test-2 : lts.Need-add-emit-test-2 claims (emit-binary-at t) emit-binary.Post
   add-emit-test-2 c = let low = binary (c .before .before .before .before .before) .4 in omega arith
 
   pub emit-test-requires-2 : lts.Need-emit-test-requires-2 claims (emit-binary-at t) emit-binary.Post
   emit-test-requires-2 c κs =
-      let x = c .before .before .before in
-      let k = x .before .before in
-      let ready = k .before .before .before .before .before .pre .1 .0 in
+      let y = c .before .before in
+      let k = y .before .before .before in
+      let s = k .before .before .before .before .before in
       let r = binary k in
-      let size = ap treeSize (r .5) in
-      let below = r .1 in
-      let room = ready .2 in
-      let count = x .emit-test .ensures .count in
-      let same = c .before .before .out .given in
-      (omega arith, (r .3, ready .1, omega arith))
+      (falls-to (s .pre .0) (r .1), (r .3, s .pre .1 .0 .1, first-room (rest y)))
 
   pub emit-part-requires : lts.Need-emit-part-requires claims (emit-binary-at t) emit-binary.Post
   emit-part-requires c κs =
       let y = c .before .before .before in
-      let x = y .before .before .before .before in
-      let k = x .before .before in
-      let ready = k .before .before .before .before .before .pre .1 .0 in
-      let size = ap treeSize (binary k .5) in
-      let room = ready .2 in
-      let count = x .emit-test .ensures .count in
-      let same = y .before .before .before .out .given in
-      let count₂ = y .emit-test2 .ensures .count in
-      let same₂ = c .before .before .out2 .given in
-      (inl refl, (inl refl, (ready .1, omega arith)))
+      let x = y .before .before .before in
+      let s = x .before .before .before .before .before .before .before .before in (
+        inl refl,
+        (
+          inl refl,
+          (s .pre .1 .0 .1, second-room (rest x) (y .emit-test2 .ensures) (c .before .before .out2 .given)),
+        ),
+      )
 
   pub emit-sequence-requires : lts.Need-emit-sequence-requires claims (emit-binary-at t) emit-binary.Post
   emit-sequence-requires c κs =
       let z = c .before .before .before in
       let y = z .before .before .before .before in
-      let x = y .before .before .before .before in
-      let k = x .before .before in
-      let ready = k .before .before .before .before .before .pre .1 .0 in
-      let size = ap treeSize (binary k .5) in
-      let room = ready .2 in
-      let count = x .emit-test .ensures .count in
-      let same = y .before .before .before .out .given in
-      let count₂ = y .emit-test2 .ensures .count in
-      let same₂ = z .before .before .before .out2 .given in
-      let count₃ = z .emit-part .ensures .count in
-      let same₃ = c .before .before .out3 .given in
-      (ready .1, omega arith)
+      let x = y .before .before .before in
+      let s = x .before .before .before .before .before .before .before .before in (
+        s .pre .1 .0 .1,
+        over-room (rest x) (y .emit-test2 .ensures) (z .before .before .before .out2 .given) (z .emit-part .ensures)
+            (c .before .before .out3 .given),
+      )
 
   pub emit-sequence-requires-2 : lts.Need-emit-sequence-requires-2 claims (emit-binary-at t) emit-binary.Post
   emit-sequence-requires-2 c κs =
       let u = c .before .before .before in
       let z = u .before .before .before .before in
       let y = z .before .before .before .before in
-      let x = y .before .before .before .before in
-      let k = x .before .before in
-      let ready = k .before .before .before .before .before .pre .1 .0 in
-      let size = ap treeSize (binary k .5) in
-      let room = ready .2 in
-      let count = x .emit-test .ensures .count in
-      let same = y .before .before .before .out .given in
-      let count₂ = y .emit-test2 .ensures .count in
-      let same₂ = z .before .before .before .out2 .given in
-      let count₃ = z .emit-part .ensures .count in
-      let same₃ = u .before .before .before .out3 .given in
-      let count₄ = u .emit-sequence .ensures .1 in
-      let same₄ = c .before .before .out4 .given in
-      (ready .1, omega arith)
+      let x = y .before .before .before in
+      let k = x .before .before .before in
+      let same = c .before .before .out4 .given ∙ u .before .before .before .out3 .given ∙ z .before .before .before .out2 .given in (
+        k .before .before .before .before .before .pre .1 .0 .1,
+        over-room (parts k) (x .before .emit-test .ensures) (x .out .given)
+            (whole _ _ (rest x) (y .emit-test2 .ensures) (z .emit-part .ensures) (u .emit-sequence .ensures .0)
+            (u .emit-sequence .ensures .1))
+            same,
+      )
 
   pub same-length : lts.Need-same-length claims (emit-binary-at t) emit-binary.Post
   same-length c =
@@ -139,18 +152,10 @@ module _ (t : ℕ) where
       let u = w .before .before .before .before in
       let z = u .before .before .before .before in
       let y = z .before .before .before .before in
-      let x = y .before .before .before .before in
-      let k = x .before .before in
-      let s = k .before .before .before .before .before in
-      let a = s .args in
-      let T = now (a .table) in
-      let r = binary k in
-      let room = subst (Room (now (a .out)) (a .at)) (r .5) (s .pre .1 .0 .2) in
-      let count = x .emit-test .ensures .count in
-      let same = y .before .before .before .out .given in
-      let rest = emitted-sequence _ _ (a .s) (test-some T (k .before .child-b .result) (a .s) (a .level + 2) (r .3)) some
-      (y .emit-test2 .ensures) (z .emit-part .ensures) (omega arith)
-      (u .emit-sequence .ensures .0) (u .emit-sequence .ensures .1) in
-      emitted-as (r .5)
-      (emitted-sequence _ _ (a .s) (test-some T (k .before .before .child-a .result) (a .s) (a .level + 1) (r .2)) some
-      (x .emit-test .ensures) rest room (w .emit-sequence2 .ensures .0) (w .emit-sequence2 .ensures .1))
+      let x = y .before .before .before in
+      let k = x .before .before .before in
+      emitted-as (binary k .5)
+      (whole _ _ (parts k) (x .before .emit-test .ensures)
+      (whole _ _ (rest x) (y .emit-test2 .ensures) (z .emit-part .ensures) (u .emit-sequence .ensures .0)
+      (u .emit-sequence .ensures .1))
+      (w .emit-sequence2 .ensures .0) (w .emit-sequence2 .ensures .1))

@@ -1,16 +1,17 @@
 -- What `emit_both` owes: the records of A and of B, a skip, then the branch over them.
 use Prim.Native.Nat.{ℕ}
-use native.Mathlib.Omega.{arith}
 use mathlib.Core.Logic.{inl}
-use mathlib.Core.Path.{refl, ap, _∙_, subst}
+use mathlib.Core.Path.{refl, _∙_, subst}
 use denote.Ref.{now}
-use Rattle.rules.specs.Translation.{treeSize}
+use lib.IntN.{pos}
+use Rattle.rules.specs.Translation.{none, node}
 use Rattle.tables.specs.Within.{Within}
 use Rattle.sizes.specs.Trees.{treeAt}
 use Rattle.emission.specs.Emission.{Room}
 use Rattle.emission.proofs.Emitting.{emitted-as, some}
 use Rattle.assertions.proofs.Tests.{test-some, skipTree}
-use Rattle.assertions.proofs.TestSteps.{JointAt, within, both-at, emitted-branch}
+use Rattle.assertions.proofs.TestSteps.{JointAt, within, both-at}
+use Rattle.assertions.proofs.Rooms.{falls-to, Sequence, first-room, yes-room, no-room, branch-room, emitted-branch}
 use Rattle.assertions.proofs.+emit_binary+emit_both+emit_either+emit_test+emit_unary.Proof.Cycle.{emit-both-at, emit-both-claims}
 use Rattle.assertions.proofs.emit_both.Reads as emit-both
 use Rattle.assertions.proofs.+emit_binary+emit_both+emit_either+emit_test+emit_unary.Lts-emit_both as lts
@@ -23,14 +24,30 @@ module _ (t : ℕ) where
   inside s = within (now (s .args .table)) (s .args .n) (s .args .s) (s .args .level) (s .pre .1 .0 .0)
 
   both : (k : lts.After-child-b claims (emit-both-at t) emit-both.Post)
-      → let s = k .before .before .before .before in
-      let T = now (s .args .table) in
-      JointAt T (s .args .n) (s .args .s) (s .args .level) (k .before .child-a .result) (k .child-b .result)
-      (treeAt T (k .child-b .result) (s .args .s) (s .args .level)) (skipTree T (s .args .s))
+      → let a = k .before .before .before .before .args in
+      let T = now (a .table) in
+      JointAt T (a .n) (a .s) (a .level) (k .before .child-a .result) (k .child-b .result)
+      (treeAt T (k .child-b .result) (a .s) (a .level)) (skipTree T (a .s))
   both k =
       let s = k .before .before .before .before in
       both-at (now (s .args .table)) (s .args .n) (s .args .s) (s .args .level) (s .pre .1 .0 .0) (s .pre .1 .1)
       (k .before .child-a .ensures) (k .child-b .ensures)
+
+  parts : (k : lts.After-child-b claims (emit-both-at t) emit-both.Post)
+      → let a = k .before .before .before .before .args in
+      let T = now (a .table) in
+      Sequence (now (a .out)) (a .at) (a .s) (treeAt T (k .before .child-a .result) (a .s) (a .level))
+      (node 66 (a .level) (pos (a .s)) 0 none
+      (treeAt T (k .child-b .result) (a .s) (a .level)) (skipTree T (a .s)))
+  parts k =
+      let s = k .before .before .before .before in
+      let a = s .args in
+      let r = both k in
+      record {
+        room = subst (Room (now (a .out)) (a .at)) (r .5) (s .pre .1 .0 .2);
+        some-a = test-some (now (a .table)) (k .before .child-a .result) (a .s) (a .level) (r .2);
+        some-b = some;
+      }
 
   pub child-a-requires : lts.Need-child-a-requires claims (emit-both-at t) emit-both.Post
   child-a-requires c κs = inside (c .before .before)
@@ -41,57 +58,38 @@ module _ (t : ℕ) where
   pub emit-test-requires : lts.Need-emit-test-requires claims (emit-both-at t) emit-both.Post
   emit-test-requires c κs =
       let k = c .before in
-      let ready = k .before .before .before .before .pre .1 .0 in
+      let s = k .before .before .before .before in
       let r = both k in
-      let size = ap treeSize (r .5) in
-      let below = r .0 in
-      let room = ready .2 in
-      (omega arith, (r .2, ready .1, omega arith))
+      (falls-to (s .pre .0) (r .0), (r .2, s .pre .1 .0 .1, first-room (parts k)))
 
   pub emit-test-requires-2 : lts.Need-emit-test-requires-2 claims (emit-both-at t) emit-both.Post
   emit-test-requires-2 c κs =
       let x = c .before .before .before in
       let k = x .before .before in
-      let ready = k .before .before .before .before .pre .1 .0 in
-      let r = both k in
-      let size = ap treeSize (r .5) in
-      let below = r .1 in
-      let room = ready .2 in
-      let count = x .emit-test .ensures .count in
-      let same = c .before .before .out .given in
-      (omega arith, (r .3, ready .1, omega arith))
+      let s = k .before .before .before .before in
+      let room = yes-room (parts k) (x .emit-test .ensures) (c .before .before .out .given) in
+      (falls-to (s .pre .0) (both k .1), (both k .3, s .pre .1 .0 .1, room))
 
   pub emit-part-requires : lts.Need-emit-part-requires claims (emit-both-at t) emit-both.Post
   emit-part-requires c κs =
       let y = c .before .before .before in
       let x = y .before .before .before .before in
       let k = x .before .before in
-      let ready = k .before .before .before .before .pre .1 .0 in
-      let r = both k in
-      let size = ap treeSize (r .5) in
-      let room = ready .2 in
-      let count = x .emit-test .ensures .count in
-      let same = y .before .before .before .out .given in
-      let count₂ = y .emit-test2 .ensures .count in
-      let same₂ = c .before .before .out2 .given in
-      (inl refl, (inl refl, (ready .1, omega arith)))
+      let s = k .before .before .before .before in
+      let room = no-room (parts k) (x .emit-test .ensures) (y .before .before .before .out .given) (y .emit-test2 .ensures)
+      (c .before .before .out2 .given) in
+      (inl refl, (inl refl, (s .pre .1 .0 .1, room)))
 
   pub emit-branch-requires : lts.Need-emit-branch-requires claims (emit-both-at t) emit-both.Post
   emit-branch-requires c κs =
       let z = c .before .before .before in
       let y = z .before .before .before .before in
       let x = y .before .before .before .before in
-      let k = x .before .before in
-      let ready = k .before .before .before .before .pre .1 .0 in
-      let size = ap treeSize (both k .5) in
-      let room = ready .2 in
-      let count = x .emit-test .ensures .count in
-      let same = y .before .before .before .out .given in
-      let count₂ = y .emit-test2 .ensures .count in
-      let same₂ = z .before .before .before .out2 .given in
-      let count₃ = z .emit-part .ensures .count in
-      let same₃ = c .before .before .out3 .given in
-      (ready .1, omega arith)
+      let k = x .before .before in (
+        k .before .before .before .before .pre .1 .0 .1,
+        branch-room (parts k) (x .emit-test .ensures) (y .before .before .before .out .given) (y .emit-test2 .ensures)
+            (z .before .before .before .out2 .given) (z .emit-part .ensures) (c .before .before .out3 .given),
+      )
 
   pub same-length : lts.Need-same-length claims (emit-both-at t) emit-both.Post
   same-length c =
@@ -108,12 +106,8 @@ module _ (t : ℕ) where
       let y = z .before .before .before .before in
       let x = y .before .before .before .before in
       let k = x .before .before in
-      let s = k .before .before .before .before in
-      let a = s .args in
-      let T = now (a .table) in
-      let r = both k in
-      emitted-as (r .5)
-      (emitted-branch (test-some T (k .before .child-a .result) (a .s) (a .level) (r .2))
-      (test-some T (k .child-b .result) (a .s) (a .level) (r .3)) some
-      (x .emit-test .ensures) (y .emit-test2 .ensures) (z .emit-part .ensures) (y .before .before .before .out .given)
-      (subst (Room (now (a .out)) (a .at)) (r .5) (s .pre .1 .0 .2)) (u .emit-branch .ensures))
+      let a = k .before .before .before .before .args in
+      let b = test-some (now (a .table)) (k .child-b .result) (a .s) (a .level) (both k .3) in
+      emitted-as (both k .5)
+      (emitted-branch (parts k .some-a) b some (x .emit-test .ensures) (y .emit-test2 .ensures) (z .emit-part .ensures)
+      (y .before .before .before .out .given) (parts k .room) (u .emit-branch .ensures))

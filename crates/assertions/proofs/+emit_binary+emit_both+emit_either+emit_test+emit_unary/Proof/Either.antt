@@ -1,16 +1,17 @@
 -- What `emit_either` owes: the records of A, a skip and the records of B, then the branch over them.
 use Prim.Native.Nat.{ℕ}
-use native.Mathlib.Omega.{arith}
 use mathlib.Core.Logic.{inl}
-use mathlib.Core.Path.{refl, ap, _∙_, subst}
+use mathlib.Core.Path.{refl, _∙_, subst}
 use denote.Ref.{now}
-use Rattle.rules.specs.Translation.{treeSize}
+use lib.IntN.{pos}
+use Rattle.rules.specs.Translation.{none, node}
 use Rattle.tables.specs.Within.{Within}
 use Rattle.sizes.specs.Trees.{treeAt}
 use Rattle.emission.specs.Emission.{Room}
 use Rattle.emission.proofs.Emitting.{emitted-as, some}
 use Rattle.assertions.proofs.Tests.{test-some, skipTree}
-use Rattle.assertions.proofs.TestSteps.{JointAt, within, either-at, emitted-branch}
+use Rattle.assertions.proofs.TestSteps.{JointAt, within, either-at}
+use Rattle.assertions.proofs.Rooms.{falls-to, Sequence, first-room, yes-room, no-room, branch-room, emitted-branch}
 use Rattle.assertions.proofs.+emit_binary+emit_both+emit_either+emit_test+emit_unary.Proof.Cycle.{emit-either-at, emit-either-claims}
 use Rattle.assertions.proofs.emit_either.Reads as emit-either
 use Rattle.assertions.proofs.+emit_binary+emit_both+emit_either+emit_test+emit_unary.Lts-emit_either as lts
@@ -23,14 +24,30 @@ module _ (t : ℕ) where
   inside s = within (now (s .args .table)) (s .args .n) (s .args .s) (s .args .level) (s .pre .1 .0 .0)
 
   either : (k : lts.After-child-b claims (emit-either-at t) emit-either.Post)
-      → let s = k .before .before .before .before in
-      let T = now (s .args .table) in
-      JointAt T (s .args .n) (s .args .s) (s .args .level) (k .before .child-a .result) (k .child-b .result)
-      (skipTree T (s .args .s)) (treeAt T (k .child-b .result) (s .args .s) (s .args .level))
+      → let a = k .before .before .before .before .args in
+      let T = now (a .table) in
+      JointAt T (a .n) (a .s) (a .level) (k .before .child-a .result) (k .child-b .result)
+      (skipTree T (a .s)) (treeAt T (k .child-b .result) (a .s) (a .level))
   either k =
       let s = k .before .before .before .before in
       either-at (now (s .args .table)) (s .args .n) (s .args .s) (s .args .level) (s .pre .1 .0 .0) (s .pre .1 .1)
       (k .before .child-a .ensures) (k .child-b .ensures)
+
+  parts : (k : lts.After-child-b claims (emit-either-at t) emit-either.Post)
+      → let a = k .before .before .before .before .args in
+      let T = now (a .table) in
+      Sequence (now (a .out)) (a .at) (a .s) (treeAt T (k .before .child-a .result) (a .s) (a .level))
+      (node 66 (a .level) (pos (a .s)) 0 none
+      (skipTree T (a .s)) (treeAt T (k .child-b .result) (a .s) (a .level)))
+  parts k =
+      let s = k .before .before .before .before in
+      let a = s .args in
+      let r = either k in
+      record {
+        room = subst (Room (now (a .out)) (a .at)) (r .5) (s .pre .1 .0 .2);
+        some-a = test-some (now (a .table)) (k .before .child-a .result) (a .s) (a .level) (r .2);
+        some-b = some;
+      }
 
   pub child-a-requires : lts.Need-child-a-requires claims (emit-either-at t) emit-either.Post
   child-a-requires c κs = inside (c .before .before)
@@ -41,57 +58,38 @@ module _ (t : ℕ) where
   pub emit-test-requires : lts.Need-emit-test-requires claims (emit-either-at t) emit-either.Post
   emit-test-requires c κs =
       let k = c .before in
-      let ready = k .before .before .before .before .pre .1 .0 in
+      let s = k .before .before .before .before in
       let r = either k in
-      let size = ap treeSize (r .5) in
-      let below = r .0 in
-      let room = ready .2 in
-      (omega arith, (r .2, ready .1, omega arith))
+      (falls-to (s .pre .0) (r .0), (r .2, s .pre .1 .0 .1, first-room (parts k)))
 
   pub emit-part-requires : lts.Need-emit-part-requires claims (emit-either-at t) emit-either.Post
   emit-part-requires c κs =
       let x = c .before .before .before in
       let k = x .before .before in
-      let ready = k .before .before .before .before .pre .1 .0 in
-      let r = either k in
-      let size = ap treeSize (r .5) in
-      let room = ready .2 in
-      let count = x .emit-test .ensures .count in
-      let same = c .before .before .out .given in
-      (inl refl, (inl refl, (ready .1, omega arith)))
+      let s = k .before .before .before .before in
+      let room = yes-room (parts k) (x .emit-test .ensures) (c .before .before .out .given) in
+      (inl refl, (inl refl, (s .pre .1 .0 .1, room)))
 
   pub emit-test-requires-2 : lts.Need-emit-test-requires-2 claims (emit-either-at t) emit-either.Post
   emit-test-requires-2 c κs =
       let y = c .before .before .before in
       let x = y .before .before .before .before in
       let k = x .before .before in
-      let ready = k .before .before .before .before .pre .1 .0 in
-      let r = either k in
-      let size = ap treeSize (r .5) in
-      let below = r .1 in
-      let room = ready .2 in
-      let count = x .emit-test .ensures .count in
-      let same = y .before .before .before .out .given in
-      let count₂ = y .emit-part .ensures .count in
-      let same₂ = c .before .before .out2 .given in
-      (omega arith, (r .3, ready .1, omega arith))
+      let s = k .before .before .before .before in
+      let room = no-room (parts k) (x .emit-test .ensures) (y .before .before .before .out .given) (y .emit-part .ensures)
+      (c .before .before .out2 .given) in
+      (falls-to (s .pre .0) (either k .1), (either k .3, s .pre .1 .0 .1, room))
 
   pub emit-branch-requires : lts.Need-emit-branch-requires claims (emit-either-at t) emit-either.Post
   emit-branch-requires c κs =
       let z = c .before .before .before in
       let y = z .before .before .before .before in
       let x = y .before .before .before .before in
-      let k = x .before .before in
-      let ready = k .before .before .before .before .pre .1 .0 in
-      let size = ap treeSize (either k .5) in
-      let room = ready .2 in
-      let count = x .emit-test .ensures .count in
-      let same = y .before .before .before .out .given in
-      let count₂ = y .emit-part .ensures .count in
-      let same₂ = z .before .before .before .out2 .given in
-      let count₃ = z .emit-test2 .ensures .count in
-      let same₃ = c .before .before .out3 .given in
-      (ready .1, omega arith)
+      let k = x .before .before in (
+        k .before .before .before .before .pre .1 .0 .1,
+        branch-room (parts k) (x .emit-test .ensures) (y .before .before .before .out .given) (y .emit-part .ensures)
+            (z .before .before .before .out2 .given) (z .emit-test2 .ensures) (c .before .before .out3 .given),
+      )
 
   pub same-length : lts.Need-same-length claims (emit-either-at t) emit-either.Post
   same-length c =
@@ -108,12 +106,8 @@ module _ (t : ℕ) where
       let y = z .before .before .before .before in
       let x = y .before .before .before .before in
       let k = x .before .before in
-      let s = k .before .before .before .before in
-      let a = s .args in
-      let T = now (a .table) in
-      let r = either k in
-      emitted-as (r .5)
-      (emitted-branch (test-some T (k .before .child-a .result) (a .s) (a .level) (r .2))
-      some (test-some T (k .child-b .result) (a .s) (a .level) (r .3))
-      (x .emit-test .ensures) (y .emit-part .ensures) (z .emit-test2 .ensures) (y .before .before .before .out .given)
-      (subst (Room (now (a .out)) (a .at)) (r .5) (s .pre .1 .0 .2)) (u .emit-branch .ensures))
+      let a = k .before .before .before .before .args in
+      let b = test-some (now (a .table)) (k .child-b .result) (a .s) (a .level) (either k .3) in
+      emitted-as (either k .5)
+      (emitted-branch (parts k .some-a) some b (x .emit-test .ensures) (y .emit-part .ensures) (z .emit-test2 .ensures)
+      (y .before .before .before .out .given) (parts k .room) (u .emit-branch .ensures))

@@ -2,15 +2,15 @@
 use Prim.Native.Nat.{ℕ, _+_}
 use native.Mathlib.Omega.{arith}
 use mathlib.Core.Logic.{inl}
-use mathlib.Core.Path.{refl, ap, _∙_, subst}
+use mathlib.Core.Path.{refl, _∙_, subst}
 use denote.Ref.{now}
-use Rattle.rules.specs.Translation.{treeSize}
 use Rattle.tables.specs.Within.{Within}
-use Rattle.emission.specs.Emission.{Room}
+use Rattle.sizes.specs.Trees.{treeAt}
+use Rattle.emission.specs.Emission.{Room, partTree}
 use Rattle.emission.proofs.Emitting.{emitted-as, some}
-use Rattle.emission.proofs.Parts.{emitted-sequence}
 use Rattle.assertions.proofs.Tests.{test-some}
 use Rattle.assertions.proofs.TestSteps.{UnaryAt, within, unary-at}
+use Rattle.assertions.proofs.Rooms.{falls-to, Sequence, first-room, second-room, over-room, whole}
 use Rattle.assertions.proofs.+emit_binary+emit_both+emit_either+emit_test+emit_unary.Proof.Cycle.{emit-unary-at, emit-unary-claims}
 use Rattle.assertions.proofs.emit_unary.Reads as emit-unary
 use Rattle.assertions.proofs.+emit_binary+emit_both+emit_either+emit_test+emit_unary.Lts-emit_unary as lts
@@ -32,6 +32,21 @@ module _ (t : ℕ) where
       unary-at (now (s .args .table)) (s .args .n) (s .args .s) (s .args .level) (p .0 .0) (p .1) (p .2) (p .3)
       (k .child-a .ensures) (omega arith)
 
+  parts : (k : lts.After-child-a claims (emit-unary-at t) emit-unary.Post)
+      → let a = k .before .before .before .args in
+      let T = now (a .table) in
+      Sequence (now (a .out)) (a .at) (a .s) (treeAt T (k .child-a .result) (a .s) (a .level + 1))
+      (partTree T (a .s) (a .last) (a .level) 0 0 (a .field))
+  parts k =
+      let s = k .before .before .before in
+      let a = s .args in
+      let r = unary k in
+      record {
+        room = subst (Room (now (a .out)) (a .at)) (r .3) (s .pre .1 .0 .2);
+        some-a = test-some (now (a .table)) (k .child-a .result) (a .s) (a .level + 1) (r .1);
+        some-b = some;
+      }
+
   pub child-a-requires : lts.Need-child-a-requires claims (emit-unary-at t) emit-unary.Post
   child-a-requires c κs = inside (c .before .before)
 
@@ -41,37 +56,33 @@ module _ (t : ℕ) where
   pub emit-test-requires : lts.Need-emit-test-requires claims (emit-unary-at t) emit-unary.Post
   emit-test-requires c κs =
       let k = c .before in
-      let ready = k .before .before .before .pre .1 .0 in
+      let s = k .before .before .before in
       let r = unary k in
-      let size = ap treeSize (r .3) in
-      let below = r .0 in
-      let room = ready .2 in
-      (omega arith, (r .1, ready .1, omega arith))
+      (falls-to (s .pre .0) (r .0), (r .1, s .pre .1 .0 .1, first-room (parts k)))
 
   pub emit-part-requires : lts.Need-emit-part-requires claims (emit-unary-at t) emit-unary.Post
   emit-part-requires c κs =
       let x = c .before .before .before in
-      let k = x .before .before in
-      let ready = k .before .before .before .pre .1 .0 in
-      let size = ap treeSize (unary k .3) in
-      let room = ready .2 in
-      let count = x .emit-test .ensures .count in
-      let same = c .before .before .out .given in
-      (inl refl, (inl refl, (ready .1, omega arith)))
+      let k = x .before .before in (
+        inl refl,
+        (
+          inl refl,
+          (
+            k .before .before .before .pre .1 .0 .1,
+            second-room (parts k) (x .emit-test .ensures) (c .before .before .out .given),
+          ),
+        ),
+      )
 
   pub emit-sequence-requires : lts.Need-emit-sequence-requires claims (emit-unary-at t) emit-unary.Post
   emit-sequence-requires c κs =
       let y = c .before .before .before in
       let x = y .before .before .before .before in
-      let k = x .before .before in
-      let ready = k .before .before .before .pre .1 .0 in
-      let size = ap treeSize (unary k .3) in
-      let room = ready .2 in
-      let count = x .emit-test .ensures .count in
-      let same = y .before .before .before .out .given in
-      let count₂ = y .emit-part .ensures .count in
-      let same₂ = c .before .before .out2 .given in
-      (ready .1, omega arith)
+      let k = x .before .before in (
+        k .before .before .before .pre .1 .0 .1,
+        over-room (parts k) (x .emit-test .ensures) (y .before .before .before .out .given)
+            (y .emit-part .ensures) (c .before .before .out2 .given),
+      )
 
   pub same-length : lts.Need-same-length claims (emit-unary-at t) emit-unary.Post
   same-length c =
@@ -86,11 +97,6 @@ module _ (t : ℕ) where
       let y = z .before .before .before .before in
       let x = y .before .before .before .before in
       let k = x .before .before in
-      let s = k .before .before .before in
-      let a = s .args in
-      let r = unary k in
-      let T = now (a .table) in
-      emitted-as (r .3)
-      (emitted-sequence _ _ (a .s) (test-some T (k .child-a .result) (a .s) (a .level + 1) (r .1)) some
-      (x .emit-test .ensures) (y .emit-part .ensures) (subst (Room (now (a .out)) (a .at)) (r .3) (s .pre .1 .0 .2))
-      (z .emit-sequence .ensures .0) (z .emit-sequence .ensures .1))
+      emitted-as (unary k .3)
+      (whole _ _ (parts k) (x .emit-test .ensures) (y .emit-part .ensures) (z .emit-sequence .ensures .0)
+      (z .emit-sequence .ensures .1))
