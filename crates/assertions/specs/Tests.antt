@@ -6,7 +6,8 @@ use mathlib.Core.Path.{_≡_}
 use lib.Dec.{eqb}
 use lib.IntN.{pos}
 use Rattle.rules.specs.Kinds.{source}
-use Rattle.rules.specs.Nodes.{SourceNode, expressionNode, placeNode, termNode, predicateNode, statementNode, junk, nodeAt}
+use Rattle.rules.specs.Nodes.{SourceNode, expressionNode, placeNode, termNode, predicateNode, statementNode, junk}
+use Rattle.rules.specs.Nodes.{nodeAt}
 use Rattle.rules.specs.Trees.{Term, value, asked, combined, Predicate, holds, compared, negated, both, either}
 use Rattle.rules.specs.Translation.{RecordTree}
 use Rattle.sizes.specs.Trees.{treeAt}

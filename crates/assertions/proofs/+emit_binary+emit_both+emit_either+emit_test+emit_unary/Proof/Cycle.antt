@@ -4,27 +4,14 @@ use borrow.Fn.Kinds.{In}
 use borrow.Fn.PlainCycle.{Measures, is, falls, and}
 use Rattle.assertions.proofs.emit_binary.Reads as emit-binary
 use Rattle.assertions.proofs.emit_binary.Kinds as emit-binary-kinds
-use Rattle.assertions.proofs.+emit_binary+emit_both+emit_either+emit_test+emit_unary.Lts-emit_binary as emit-binary-lts
 use Rattle.assertions.proofs.emit_both.Reads as emit-both
 use Rattle.assertions.proofs.emit_both.Kinds as emit-both-kinds
-use Rattle.assertions.proofs.+emit_binary+emit_both+emit_either+emit_test+emit_unary.Lts-emit_both as emit-both-lts
 use Rattle.assertions.proofs.emit_either.Reads as emit-either
 use Rattle.assertions.proofs.emit_either.Kinds as emit-either-kinds
-use Rattle.assertions.proofs.+emit_binary+emit_both+emit_either+emit_test+emit_unary.Lts-emit_either as emit-either-lts
 use Rattle.assertions.proofs.emit_test.Reads as emit-test
 use Rattle.assertions.proofs.emit_test.Kinds as emit-test-kinds
-use Rattle.assertions.proofs.+emit_binary+emit_both+emit_either+emit_test+emit_unary.Lts-emit_test as emit-test-lts
 use Rattle.assertions.proofs.emit_unary.Reads as emit-unary
 use Rattle.assertions.proofs.emit_unary.Kinds as emit-unary-kinds
-use Rattle.assertions.proofs.+emit_binary+emit_both+emit_either+emit_test+emit_unary.Lts-emit_unary as emit-unary-lts
-use Rattle.assertions.proofs.emit_branch.Reads as emit-branch-reads
-use Rattle.assertions.proofs.query.Reads as query-reads
-use Rattle.emission.proofs.emit_part.Reads as emit-part-reads
-use Rattle.emission.proofs.emit_sequence.Reads as emit-sequence-reads
-use Rattle.tables.proofs.child_a.Reads as child-a-reads
-use Rattle.tables.proofs.child_b.Reads as child-b-reads
-use Rattle.tables.proofs.kind.Reads as kind-reads
-use Rattle.tables.proofs.mark.Reads as mark-reads
 
 abbrev pub μ-emit-binary : Measures 2 emit-binary-kinds.ps ℕ
 μ-emit-binary κs a = a .1 .0 * 2
@@ -75,79 +62,3 @@ emit-unary-at t = and 2 emit-unary-kinds.ps (is 2 emit-unary-kinds.ps μ-emit-un
 abbrev pub emit-unary-below : ℕ → In 2 emit-unary-kinds.ps
 emit-unary-below t =
     and 2 emit-unary-kinds.ps (falls 2 emit-unary-kinds.ps _<_ μ-emit-unary t) emit-unary.Pre
-
-abbrev pub emit-binary-claims : ℕ → emit-binary-lts.Claims
-emit-binary-claims t = (
-  child-a-reads.Asked,
-  child-a-reads.Learnt,
-  child-b-reads.Asked,
-  child-b-reads.Learnt,
-  mark-reads.Asked,
-  mark-reads.Learnt,
-  emit-test-below t,
-  emit-test.Post,
-  emit-part-reads.Asked,
-  emit-part-reads.Learnt,
-  emit-sequence-reads.Asked,
-  emit-sequence-reads.Learnt,
-)
-
-abbrev pub emit-both-claims : ℕ → emit-both-lts.Claims
-emit-both-claims t = (
-  child-a-reads.Asked,
-  child-a-reads.Learnt,
-  child-b-reads.Asked,
-  child-b-reads.Learnt,
-  emit-test-below t,
-  emit-test.Post,
-  emit-part-reads.Asked,
-  emit-part-reads.Learnt,
-  emit-branch-reads.Asked,
-  emit-branch-reads.Learnt,
-)
-
-abbrev pub emit-either-claims : ℕ → emit-either-lts.Claims
-emit-either-claims t = (
-  child-a-reads.Asked,
-  child-a-reads.Learnt,
-  child-b-reads.Asked,
-  child-b-reads.Learnt,
-  emit-test-below t,
-  emit-test.Post,
-  emit-part-reads.Asked,
-  emit-part-reads.Learnt,
-  emit-branch-reads.Asked,
-  emit-branch-reads.Learnt,
-)
-
-abbrev pub emit-test-claims : ℕ → emit-test-lts.Claims
-emit-test-claims t = (
-  kind-reads.Asked,
-  kind-reads.Learnt,
-  child-a-reads.Asked,
-  child-a-reads.Learnt,
-  emit-part-reads.Asked,
-  emit-part-reads.Learnt,
-  emit-binary-below t,
-  emit-binary.Post,
-  emit-unary-below t,
-  emit-unary.Post,
-  emit-both-below t,
-  emit-both.Post,
-  emit-either-below t,
-  emit-either.Post,
-  query-reads.Asked,
-  query-reads.Learnt,
-)
-
-abbrev pub emit-unary-claims : ℕ → emit-unary-lts.Claims
-emit-unary-claims t = (
-  child-a-reads.Asked,
-  child-a-reads.Learnt,
-  emit-test-below t,
-  emit-test.Post,
-  emit-part-reads.Asked,
-  emit-part-reads.Learnt,
-  emit-sequence-reads.Asked,
-  emit-sequence-reads.Learnt,
-)

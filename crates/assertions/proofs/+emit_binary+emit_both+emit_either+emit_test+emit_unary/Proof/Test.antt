@@ -8,25 +8,50 @@ use denote.Ref.{now}
 use Rattle.rules.specs.Translation.{treeSize}
 use Rattle.emission.proofs.Emitting.{emitted-as}
 use Rattle.assertions.proofs.TestSteps.{ValueAt, within, value-at, either-kind, unary-not, unary-query}
-use Rattle.assertions.proofs.+emit_binary+emit_both+emit_either+emit_test+emit_unary.Proof.Cycle.{emit-test-at, emit-test-claims}
+use Rattle.assertions.proofs.+emit_binary+emit_both+emit_either+emit_test+emit_unary.Proof.Cycle as cycle
 use Rattle.assertions.proofs.emit_test.Reads as emit-test
+use Rattle.assertions.proofs.emit_binary.Reads as emit-binary
+use Rattle.assertions.proofs.emit_both.Reads as emit-both
+use Rattle.assertions.proofs.emit_either.Reads as emit-either
+use Rattle.assertions.proofs.emit_unary.Reads as emit-unary
+use Rattle.tables.proofs.kind.Reads as kind-reads
+use Rattle.tables.proofs.child_a.Reads as child-a-reads
+use Rattle.emission.proofs.emit_part.Reads as emit-part-reads
+use Rattle.assertions.proofs.query.Reads as query-reads
 use Rattle.assertions.proofs.+emit_binary+emit_both+emit_either+emit_test+emit_unary.Lts-emit_test as lts
 
 module _ (t : ℕ) where
   abbrev claims : lts.Claims
-  claims = emit-test-claims t
+  claims = (
+    kind-reads.Asked,
+    kind-reads.Learnt,
+    child-a-reads.Asked,
+    child-a-reads.Learnt,
+    emit-part-reads.Asked,
+    emit-part-reads.Learnt,
+    cycle.emit-binary-below t,
+    emit-binary.Post,
+    cycle.emit-unary-below t,
+    emit-unary.Post,
+    cycle.emit-both-below t,
+    emit-both.Post,
+    cycle.emit-either-below t,
+    emit-either.Post,
+    query-reads.Asked,
+    query-reads.Learnt,
+  )
 
-  pub kind-requires : lts.Need-kind-requires claims (emit-test-at t) emit-test.Post
+  kind-requires : lts.Need-kind-requires claims (cycle.emit-test-at t) emit-test.Post
   kind-requires c κs =
       let s = c .before .before in
       within (now (s .args .table)) (s .args .n) (s .args .s) (s .args .level) (s .pre .1 .0)
 
-  pub child-a-requires : lts.Need-child-a-requires claims (emit-test-at t) emit-test.Post
+  child-a-requires : lts.Need-child-a-requires claims (cycle.emit-test-at t) emit-test.Post
   child-a-requires c κs =
       let s = c .before .before .before .before in
       within (now (s .args .table)) (s .args .n) (s .args .s) (s .args .level) (s .pre .1 .0)
 
-  value : (a : lts.After-child-a claims (emit-test-at t) emit-test.Post)
+  value : (a : lts.After-child-a claims (cycle.emit-test-at t) emit-test.Post)
       → let s = a .before .before .before .before .before in
       ValueAt (now (s .args .table)) (s .args .n) (s .args .s) (s .args .level) (a .child-a .result)
   value a =
@@ -36,7 +61,7 @@ module _ (t : ℕ) where
       value-at (now (s .args .table)) (s .args .n) (s .args .s) (s .args .level) (s .pre .1 .0)
       (sym (k .kind .ensures) ∙ m .match .keys1) (a .child-a .ensures)
 
-  pub emit-part-requires : lts.Need-emit-part-requires claims (emit-test-at t) emit-test.Post
+  emit-part-requires : lts.Need-emit-part-requires claims (cycle.emit-test-at t) emit-test.Post
   emit-part-requires c κs =
       let a = c .before in
       let ready = a .before .before .before .before .before .pre .1 in
@@ -45,34 +70,34 @@ module _ (t : ℕ) where
       let room = ready .2 in
       (r .0, (inl refl, (ready .1, omega arith)))
 
-  pub emit-binary-requires : lts.Need-emit-binary-requires claims (emit-test-at t) emit-test.Post
+  emit-binary-requires : lts.Need-emit-binary-requires claims (cycle.emit-test-at t) emit-test.Post
   emit-binary-requires c κs =
       let m = c .before in
       let k = m .before in
       (omega arith, (k .before .before .before .pre .1, either-kind (k .kind .ensures) (m .match .keys2)))
 
-  pub emit-unary-requires : lts.Need-emit-unary-requires claims (emit-test-at t) emit-test.Post
+  emit-unary-requires : lts.Need-emit-unary-requires claims (cycle.emit-test-at t) emit-test.Post
   emit-unary-requires c κs =
       let m = c .before in
       let k = m .before in
       (omega arith, unary-not (k .before .before .before .pre .1) (sym (k .kind .ensures) ∙ m .match .keys3))
 
-  pub emit-both-requires : lts.Need-emit-both-requires claims (emit-test-at t) emit-test.Post
+  emit-both-requires : lts.Need-emit-both-requires claims (cycle.emit-test-at t) emit-test.Post
   emit-both-requires c κs =
       let m = c .before in
       let k = m .before in
       (omega arith, (k .before .before .before .pre .1, sym (k .kind .ensures) ∙ m .match .keys4))
 
-  pub emit-either-requires : lts.Need-emit-either-requires claims (emit-test-at t) emit-test.Post
+  emit-either-requires : lts.Need-emit-either-requires claims (cycle.emit-test-at t) emit-test.Post
   emit-either-requires c κs =
       let m = c .before in
       let k = m .before in
       (omega arith, (k .before .before .before .pre .1, sym (k .kind .ensures) ∙ m .match .keys5))
 
-  pub query-requires : lts.Need-query-requires claims (emit-test-at t) emit-test.Post
+  query-requires : lts.Need-query-requires claims (cycle.emit-test-at t) emit-test.Post
   query-requires c κs = search needs
 
-  pub emit-unary-requires-2 : lts.Need-emit-unary-requires-2 claims (emit-test-at t) emit-test.Post
+  emit-unary-requires-2 : lts.Need-emit-unary-requires-2 claims (cycle.emit-test-at t) emit-test.Post
   emit-unary-requires-2 c κs =
       let m = c .before .before in
       let k = m .before in
@@ -83,38 +108,45 @@ module _ (t : ℕ) where
             (k .kind .ensures) (c .query .ensures) (h .0 .0 .0 .0 .1) (h .0 .0 .0 .1) (h .0 .0 .1) (h .0 .1) (h .1),
       )
 
-  pub same-length : lts.Need-same-length claims (emit-test-at t) emit-test.Post
+  same-length : lts.Need-same-length claims (cycle.emit-test-at t) emit-test.Post
   same-length c = c .before .out .given
 
-  pub returns : lts.Need-returns claims (emit-test-at t) emit-test.Post
+  returns : lts.Need-returns claims (cycle.emit-test-at t) emit-test.Post
   returns c = let x = c .before .before in emitted-as (value (x .before .before) .2) (x .emit-part .ensures)
 
-  pub same-length-2 : lts.Need-same-length-2 claims (emit-test-at t) emit-test.Post
+  same-length-2 : lts.Need-same-length-2 claims (cycle.emit-test-at t) emit-test.Post
   same-length-2 c = c .before .out2 .given
 
-  pub returns-2 : lts.Need-returns-2 claims (emit-test-at t) emit-test.Post
+  returns-2 : lts.Need-returns-2 claims (cycle.emit-test-at t) emit-test.Post
   returns-2 c = c .before .before .emit-binary .ensures
 
-  pub same-length-3 : lts.Need-same-length-3 claims (emit-test-at t) emit-test.Post
+  same-length-3 : lts.Need-same-length-3 claims (cycle.emit-test-at t) emit-test.Post
   same-length-3 c = c .before .out3 .given
 
-  pub returns-3 : lts.Need-returns-3 claims (emit-test-at t) emit-test.Post
+  returns-3 : lts.Need-returns-3 claims (cycle.emit-test-at t) emit-test.Post
   returns-3 c = c .before .before .emit-unary .ensures
 
-  pub same-length-4 : lts.Need-same-length-4 claims (emit-test-at t) emit-test.Post
+  same-length-4 : lts.Need-same-length-4 claims (cycle.emit-test-at t) emit-test.Post
   same-length-4 c = c .before .out4 .given
 
-  pub returns-4 : lts.Need-returns-4 claims (emit-test-at t) emit-test.Post
+  returns-4 : lts.Need-returns-4 claims (cycle.emit-test-at t) emit-test.Post
   returns-4 c = c .before .before .emit-both .ensures
 
-  pub same-length-5 : lts.Need-same-length-5 claims (emit-test-at t) emit-test.Post
+  same-length-5 : lts.Need-same-length-5 claims (cycle.emit-test-at t) emit-test.Post
   same-length-5 c = c .before .out5 .given
 
-  pub returns-5 : lts.Need-returns-5 claims (emit-test-at t) emit-test.Post
+  returns-5 : lts.Need-returns-5 claims (cycle.emit-test-at t) emit-test.Post
   returns-5 c = c .before .before .emit-either .ensures
 
-  pub same-length-6 : lts.Need-same-length-6 claims (emit-test-at t) emit-test.Post
+  same-length-6 : lts.Need-same-length-6 claims (cycle.emit-test-at t) emit-test.Post
   same-length-6 c = c .before .out6 .given
 
-  pub returns-6 : lts.Need-returns-6 claims (emit-test-at t) emit-test.Post
+  returns-6 : lts.Need-returns-6 claims (cycle.emit-test-at t) emit-test.Post
   returns-6 c = c .before .before .emit-unary2 .ensures
+
+  pub closed : {M : Type 1} → lts.Closed claims (cycle.emit-test-at t) emit-test.Post M
+  closed =
+      lts.spec claims (cycle.emit-test-at t) emit-test.Post kind-requires child-a-requires emit-part-requires
+      emit-binary-requires emit-unary-requires emit-both-requires emit-either-requires query-requires
+      emit-unary-requires-2 same-length returns same-length-2 returns-2 same-length-3 returns-3 same-length-4
+      returns-4 same-length-5 returns-5 same-length-6 returns-6

@@ -11,18 +11,31 @@ use Rattle.emission.proofs.Emitting.{emitted-as, some}
 use Rattle.assertions.proofs.Tests.{test-some}
 use Rattle.assertions.proofs.TestSteps.{UnaryAt, within, unary-at}
 use Rattle.assertions.proofs.Rooms.{falls-to, Sequence, first-room, second-room, over-room, whole}
-use Rattle.assertions.proofs.+emit_binary+emit_both+emit_either+emit_test+emit_unary.Proof.Cycle.{emit-unary-at, emit-unary-claims}
+use Rattle.assertions.proofs.+emit_binary+emit_both+emit_either+emit_test+emit_unary.Proof.Cycle as cycle
 use Rattle.assertions.proofs.emit_unary.Reads as emit-unary
+use Rattle.assertions.proofs.emit_test.Reads as emit-test
+use Rattle.tables.proofs.child_a.Reads as child-a-reads
+use Rattle.emission.proofs.emit_part.Reads as emit-part-reads
+use Rattle.emission.proofs.emit_sequence.Reads as emit-sequence-reads
 use Rattle.assertions.proofs.+emit_binary+emit_both+emit_either+emit_test+emit_unary.Lts-emit_unary as lts
 
 module _ (t : ℕ) where
   abbrev claims : lts.Claims
-  claims = emit-unary-claims t
+  claims = (
+    child-a-reads.Asked,
+    child-a-reads.Learnt,
+    cycle.emit-test-below t,
+    emit-test.Post,
+    emit-part-reads.Asked,
+    emit-part-reads.Learnt,
+    emit-sequence-reads.Asked,
+    emit-sequence-reads.Learnt,
+  )
 
-  inside : (s : lts.Start claims (emit-unary-at t) emit-unary.Post) → Within (now (s .args .table)) (s .args .n)
+  inside : (s : lts.Start claims (cycle.emit-unary-at t) emit-unary.Post) → Within (now (s .args .table)) (s .args .n)
   inside s = within (now (s .args .table)) (s .args .n) (s .args .s) (s .args .level) (s .pre .1 .0 .0)
 
-  unary : (k : lts.After-child-a claims (emit-unary-at t) emit-unary.Post)
+  unary : (k : lts.After-child-a claims (cycle.emit-unary-at t) emit-unary.Post)
       → let s = k .before .before .before in
       UnaryAt (now (s .args .table)) (s .args .n) (s .args .s) (s .args .level) (s .args .last) (s .args .field)
       (k .child-a .result) (s .args .level + 1)
@@ -32,7 +45,7 @@ module _ (t : ℕ) where
       unary-at (now (s .args .table)) (s .args .n) (s .args .s) (s .args .level) (p .0 .0) (p .1) (p .2) (p .3)
       (k .child-a .ensures) (omega arith)
 
-  parts : (k : lts.After-child-a claims (emit-unary-at t) emit-unary.Post)
+  parts : (k : lts.After-child-a claims (cycle.emit-unary-at t) emit-unary.Post)
       → let a = k .before .before .before .args in
       let T = now (a .table) in
       Sequence (now (a .out)) (a .at) (a .s) (treeAt T (k .child-a .result) (a .s) (a .level + 1))
@@ -47,20 +60,20 @@ module _ (t : ℕ) where
         some-b = some;
       }
 
-  pub child-a-requires : lts.Need-child-a-requires claims (emit-unary-at t) emit-unary.Post
+  child-a-requires : lts.Need-child-a-requires claims (cycle.emit-unary-at t) emit-unary.Post
   child-a-requires c κs = inside (c .before .before)
 
-  pub add-emit-test : lts.Need-add-emit-test claims (emit-unary-at t) emit-unary.Post
+  add-emit-test : lts.Need-add-emit-test claims (cycle.emit-unary-at t) emit-unary.Post
   add-emit-test c = let low = unary (c .before) .2 in omega arith
 
-  pub emit-test-requires : lts.Need-emit-test-requires claims (emit-unary-at t) emit-unary.Post
+  emit-test-requires : lts.Need-emit-test-requires claims (cycle.emit-unary-at t) emit-unary.Post
   emit-test-requires c κs =
       let k = c .before in
       let s = k .before .before .before in
       let r = unary k in
       (falls-to (s .pre .0) (r .0), (r .1, s .pre .1 .0 .1, first-room (parts k)))
 
-  pub emit-part-requires : lts.Need-emit-part-requires claims (emit-unary-at t) emit-unary.Post
+  emit-part-requires : lts.Need-emit-part-requires claims (cycle.emit-unary-at t) emit-unary.Post
   emit-part-requires c κs =
       let x = c .before .before .before in
       let k = x .before .before in (
@@ -74,7 +87,7 @@ module _ (t : ℕ) where
         ),
       )
 
-  pub emit-sequence-requires : lts.Need-emit-sequence-requires claims (emit-unary-at t) emit-unary.Post
+  emit-sequence-requires : lts.Need-emit-sequence-requires claims (cycle.emit-unary-at t) emit-unary.Post
   emit-sequence-requires c κs =
       let y = c .before .before .before in
       let x = y .before .before .before .before in
@@ -84,14 +97,14 @@ module _ (t : ℕ) where
             (y .emit-part .ensures) (c .before .before .out2 .given),
       )
 
-  pub same-length : lts.Need-same-length claims (emit-unary-at t) emit-unary.Post
+  same-length : lts.Need-same-length claims (cycle.emit-unary-at t) emit-unary.Post
   same-length c =
       let x = c .before in
       let y = x .before .before .before .before in
       let z = y .before .before .before .before in
       x .out3 .given ∙ y .out2 .given ∙ z .out .given
 
-  pub returns : lts.Need-returns claims (emit-unary-at t) emit-unary.Post
+  returns : lts.Need-returns claims (cycle.emit-unary-at t) emit-unary.Post
   returns c =
       let z = c .before .before in
       let y = z .before .before .before .before in
@@ -100,3 +113,8 @@ module _ (t : ℕ) where
       emitted-as (unary k .3)
       (whole _ _ (parts k) (x .emit-test .ensures) (y .emit-part .ensures) (z .emit-sequence .ensures .0)
       (z .emit-sequence .ensures .1))
+
+  pub closed : {M : Type 1} → lts.Closed claims (cycle.emit-unary-at t) emit-unary.Post M
+  closed =
+      lts.spec claims (cycle.emit-unary-at t) emit-unary.Post child-a-requires add-emit-test emit-test-requires
+      emit-part-requires emit-sequence-requires same-length returns
