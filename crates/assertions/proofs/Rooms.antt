@@ -11,7 +11,10 @@ use Rattle.emission.proofs.Emitting.{emitted-none, emitted-node, Some, some, ro
 use Rattle.emission.proofs.Parts.{emitted-sequence}
 use Rattle.assertions.specs.Tests.{Branched}
 
--- a child's measure
+-- the measures of the same record and of a child
+pub falls-at : {m t : ℕ} → suc m ≡ t → m < t
+falls-at e = omega arith
+
 pub falls-to : {a n t : ℕ} → n * 2 ≡ t → a < n → suc (a * 2) < t
 falls-to e h = omega arith
 

@@ -7,6 +7,7 @@ use mathlib.Core.Path.{refl, sym, ap, _∙_}
 use denote.Ref.{now}
 use Rattle.rules.specs.Translation.{treeSize}
 use Rattle.emission.proofs.Emitting.{emitted-as}
+use Rattle.assertions.proofs.Rooms.{falls-at}
 use Rattle.assertions.proofs.TestSteps.{ValueAt, within, value-at, either-kind, unary-not, unary-query}
 use Rattle.assertions.proofs.+emit_binary+emit_both+emit_either+emit_test+emit_unary.Proof.Cycle as cycle
 use Rattle.assertions.proofs.emit_test.Reads as emit-test
@@ -74,25 +75,29 @@ module _ (t : ℕ) where
   emit-binary-requires c κs =
       let m = c .before in
       let k = m .before in
-      (omega arith, (k .before .before .before .pre .1, either-kind (k .kind .ensures) (m .match .keys2)))
+      let p = k .before .before .before .pre in
+      (falls-at (p .0), (p .1, either-kind (k .kind .ensures) (m .match .keys2)))
 
   emit-unary-requires : lts.Need-emit-unary-requires claims (cycle.emit-test-at t) emit-test.Post
   emit-unary-requires c κs =
       let m = c .before in
       let k = m .before in
-      (omega arith, unary-not (k .before .before .before .pre .1) (sym (k .kind .ensures) ∙ m .match .keys3))
+      let p = k .before .before .before .pre in
+      (falls-at (p .0), unary-not (p .1) (sym (k .kind .ensures) ∙ m .match .keys3))
 
   emit-both-requires : lts.Need-emit-both-requires claims (cycle.emit-test-at t) emit-test.Post
   emit-both-requires c κs =
       let m = c .before in
       let k = m .before in
-      (omega arith, (k .before .before .before .pre .1, sym (k .kind .ensures) ∙ m .match .keys4))
+      let p = k .before .before .before .pre in
+      (falls-at (p .0), (p .1, sym (k .kind .ensures) ∙ m .match .keys4))
 
   emit-either-requires : lts.Need-emit-either-requires claims (cycle.emit-test-at t) emit-test.Post
   emit-either-requires c κs =
       let m = c .before in
       let k = m .before in
-      (omega arith, (k .before .before .before .pre .1, sym (k .kind .ensures) ∙ m .match .keys5))
+      let p = k .before .before .before .pre in
+      (falls-at (p .0), (p .1, sym (k .kind .ensures) ∙ m .match .keys5))
 
   query-requires : lts.Need-query-requires claims (cycle.emit-test-at t) emit-test.Post
   query-requires c κs = search needs
@@ -103,7 +108,7 @@ module _ (t : ℕ) where
       let k = m .before in
       let s = k .before .before .before in
       let h = m .match .rest in (
-        omega arith,
+        falls-at (s .pre .0),
         unary-query (now (s .args .table)) (s .args .n) (s .args .s) (s .args .level) (s .pre .1 .0) (s .pre .1)
             (k .kind .ensures) (c .query .ensures) (h .0 .0 .0 .0 .1) (h .0 .0 .0 .1) (h .0 .0 .1) (h .0 .1) (h .1),
       )
