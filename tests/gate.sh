@@ -9,7 +9,7 @@ trap '[ $? -eq 0 ] || echo "the gate failed"; [ -z "$room" ] || rm -rf "$room"' 
 tests/documents.sh
 
 # Each check copies the crates below into a temporary folder, up to half a gigabyte: one in memory, where there is
-# room for it and a program may run, saves a quarter of the gate's time.
+# room for it and a program may run, saves a sixth of a large crate's check.
 if [ "${TMPDIR:-/tmp}" = /tmp ] && [ "$(df --output=avail /dev/shm 2>/dev/null | tail -n 1)" -ge 4000000 ] 2>/dev/null &&
     room=$(mktemp -d /dev/shm/gate.XXXXXX) && chmod 711 "$room" && cp /bin/true "$room" && "$room/true"; then
     export TMPDIR=$room
