@@ -4,6 +4,7 @@
 pub mod CommonErrors
 -- Tests, searches, bytes and lists.
 pub mod BooleanLaws
+pub mod Among
 pub mod SearchLaws
 pub mod Lists
 pub mod WordLaws
@@ -46,6 +47,7 @@ pub mod EvaluationEndings
 pub mod DefinedValues
 pub mod Outcomes
 pub mod Calls
+pub mod ChangeEndings
 pub mod Endings
 pub mod Fuel
 pub mod Turns
