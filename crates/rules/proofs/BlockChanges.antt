@@ -18,9 +18,9 @@ use Rattle.rules.specs.Memory.{blockFor, withBlock, withoutCells, endBlo
 use Rattle.rules.specs.Observation.{covers}
 use Rattle.rules.proofs.SearchLaws.{Outcome, lowest-outcome}
 use Rattle.rules.proofs.Lists.{length-rename, length-fill}
-use Rattle.rules.proofs.MemoryLaws.{map-rename, named-map, named-rename-same, named-rename-other, named-rename}
-use Rattle.rules.proofs.MemoryLaws.{fill-inside, fill-below, fill-above, allFree-at, Covering, inside, below}
-use Rattle.rules.proofs.MemoryLaws.{above, covering, coverage, coverage-rename, coverage-named}
+use Rattle.rules.proofs.MemoryLaws.{map-rename, named-map, named-in, named-rename-same, named-rename-other}
+use Rattle.rules.proofs.MemoryLaws.{named-rename, fill-inside, fill-below, fill-above, allFree-at, Covering}
+use Rattle.rules.proofs.MemoryLaws.{inside, below, above, covering, coverage, coverage-rename, coverage-named}
 use Rattle.rules.proofs.Invariant.{occupied, at-most-one, recordsOf, Invariant, Becomes, becomes-itself, Onward}
 use Rattle.rules.specs.declared.Pointer.{Pointer}
 use Rattle.rules.specs.declared.Value.{Value}
@@ -179,10 +179,7 @@ dead-is-not-live a n e = let z : _≡_ {A = ℕ} 0 1 = cc in omega arith
 
 live-named : (l : List Block) (k a n : ℕ) → recordedOf (named l k block.Dead) ≡ recorded.Live a n
     → (1 ≤ k) × (k ≤ length l)
-live-named l zero a n e = absurd (dead-is-not-live a n e)
-live-named [] (suc k) a n e = absurd (dead-is-not-live a n e)
-live-named (b ∷ l) (suc zero) a n e = (omega arith, omega arith)
-live-named (b ∷ l) (suc (suc k)) a n e = let r = live-named l (suc k) a n e in (omega arith, omega arith)
+live-named l k a n e = named-in l k block.Dead (λ h. dead-is-not-live a n (sym (ap recordedOf h) ∙ e))
 
 -- the end of a live block
 without-invariant : (m : Memory) (k first n : ℕ) → recordedOf (blockOf m k) ≡ recorded.Live first n → Invariant m

@@ -59,10 +59,14 @@ abbrev Ends : Outcome → Type 0
 Ends x = Outcomes AnyState (Among plainEndings) x
 
 source-among : (e : Expression ⊥) (ρ : Variables) (m : Memory) → EvaluatedAmong AnyValue evaluationEndings (evaluateSource e ρ m)
-source-among e ρ m = evaluate-among AnyValue (λ z. tt) (λ p. tt) evaluationEndings (plainly .enough) e noTemporaries (λ t. elim t [ ]) ρ m
+source-among e ρ m =
+    evaluate-among AnyValue (λ z. tt) (λ p. tt) evaluationEndings (plainly .enough) e noTemporaries
+    (λ t. elim t [ ]) ρ m
 
 source-found : (p : Place ⊥) (ρ : Variables) (m : Memory) → FoundAmong evaluationEndings (findSource p ρ m)
-source-found p ρ m = findPlace-among AnyValue (λ z. tt) (λ p. tt) evaluationEndings (plainly .enough) p noTemporaries (λ t. elim t [ ]) ρ m
+source-found p ρ m =
+    findPlace-among AnyValue (λ z. tt) (λ p. tt) evaluationEndings (plainly .enough) p noTemporaries
+    (λ t. elim t [ ]) ρ m
 
 run-ends : (a : Statement) (ρ : Variables) (m : Memory) (f : ℕ) → Ends (run a ρ m f)
 unfolding run
@@ -187,16 +191,20 @@ watch-ends (takeAddress s n p) ρ m o τ f =
 watch-ends (takeValue s n e) ρ m o τ f = taken-ends s n (evaluate e (temporaryOf τ) ρ m) m o τ f (target-among e τ ρ m)
 watch-ends (takeOperation s n q) ρ m o τ f =
     taken-ends s n (operated q (heldIn τ (suc n)) (heldIn τ (suc (suc n)))) m o τ f
-    (operated-among AnyValue (λ z. tt) (λ p. tt) temporaryEndings (watchedly .enough) q (heldIn τ (suc n)) (heldIn τ (suc (suc n)))
+    (operated-among AnyValue (λ z. tt) (λ p. tt) temporaryEndings (watchedly .enough) q (heldIn τ (suc n))
+    (heldIn τ (suc (suc n)))
     (held-among (temporaryOf τ (suc n))) (held-among (temporaryOf τ (suc (suc n)))))
 watch-ends (takeQuery s n q) ρ m o τ f =
     taken-ends s n (onValue (heldIn τ (suc n)) evaluated.Stopped (queryObservation q o)) m o τ f
-    (on-value (EvaluatedAmong AnyValue temporaryEndings) (Among temporaryEndings) evaluated.Stopped (λ c x. x) (heldIn τ (suc n)) _
+    (on-value (EvaluatedAmong AnyValue temporaryEndings) (Among temporaryEndings) evaluated.Stopped (λ c x. x)
+    (heldIn τ (suc n)) _
     (held-among (temporaryOf τ (suc n))) (λ v u. query-among q o v))
 watch-ends (takeNot s n) ρ m o τ f =
     taken-ends s n (onValue (heldIn τ (suc n)) evaluated.Stopped opposite) m o τ f
-    (on-value (EvaluatedAmong AnyValue temporaryEndings) (Among temporaryEndings) evaluated.Stopped (λ c x. x) (heldIn τ (suc n)) _
-    (held-among (temporaryOf τ (suc n))) (λ v u. opposite-among AnyValue (λ z. tt) (λ p. tt) temporaryEndings (watchedly .enough) v))
+    (on-value (EvaluatedAmong AnyValue temporaryEndings) (Among temporaryEndings) evaluated.Stopped (λ c x. x)
+    (heldIn τ (suc n)) _
+    (held-among (temporaryOf τ (suc n))) (λ v u.
+    opposite-among AnyValue (λ z. tt) (λ p. tt) temporaryEndings (watchedly .enough) v))
 watch-ends (branchOn s n a b) ρ m o τ f =
     watched-decide AnyWatched (Among watchedEndings) s (condition (heldIn τ n)) _ _ m o τ f
     (ends-condition watchedly (heldIn τ n) (held-among (temporaryOf τ n))) tt
@@ -207,15 +215,15 @@ watch-ends (assertOn s n) ρ m o τ f =
 watch-ends (storeBlock s n) ρ m o τ f =
     observed-ends s (calledOnTwo (heldIn τ n) (heldIn τ (suc n)) (observation.storeBlock o)) m o τ f
     (store-called AnyObservation (Among watchedEndings) refl refl o
-    (heldIn τ n) (heldIn τ (suc n)) (held-ends τ n) (held-ends τ (suc n)) (λ k l first x. tt))
+    (heldIn τ n) (heldIn τ (suc n)) (held-ends τ n) (held-ends τ (suc n)) (λ k l first x y. tt))
 watch-ends (deleteBlock s n) ρ m o τ f =
     observed-ends s (calledOn (heldIn τ n) (observation.deleteBlock o)) m o τ f
     (delete-called AnyObservation (Among watchedEndings) refl refl o (heldIn τ n) (held-ends τ n)
-    (λ k first l. tt))
+    (λ k first l x. tt))
 watch-ends (initialise s n) ρ m o τ f =
     observed-ends s (calledOn (heldIn τ n) (observation.initialise o)) m o τ f
     (initialise-called AnyObservation (Among watchedEndings) refl refl o (heldIn τ n)
-    (held-ends τ n) (λ i. tt))
+    (held-ends τ n) (λ p i x. tt))
 
 pub watch-endings : (a : TargetStatement) (ρ : Variables) (m : Memory) (o : Observation) (τ : Temporaries) (f : ℕ)
     → WatchedEnds (watch a ρ m o τ f)

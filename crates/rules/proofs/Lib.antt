@@ -61,6 +61,9 @@ pub mod PlainKept
 pub mod WatchedKept
 pub mod Totals
 pub mod Orderly
+pub mod ObservationOrder
+pub mod ObservationKept
+pub mod ObservedRuns
 -- Layouts: what fits, and is read back from its bytes.
 pub mod Fits
 pub mod FitsLaws
@@ -94,5 +97,6 @@ pub mod StartObservation
 pub mod WholeRun
 pub mod Inputs
 pub mod UnrefusedRuns
+pub mod ObservationBytes
 pub mod Claim
 pub mod Cases

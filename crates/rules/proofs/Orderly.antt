@@ -1,23 +1,21 @@
 -- What follows from the invariant, after every run: free cells and live lengths make 1,024, live blocks are apart,
 -- and no name is given twice.
-use Prim.Native.Nat.{ℕ, zero, suc, _+_, _≤_, _<_}
+use Prim.Native.Nat.{ℕ, _+_, _≤_, _<_}
 use native.Mathlib.Omega.{arith}
-use mathlib.Core.Path.{_≡_, refl, sym, ap, _∙_}
+use mathlib.Core.Path.{_≡_, sym, ap, _∙_}
 use mathlib.Core.Logic.{_≢_, inl, inr}
-use mathlib.Core.Bool.{Bool, false, true≢false}
-use mathlib.Core.List.{List, [], _∷_}
-use lib.ListN.{getD}
+use mathlib.Core.Bool.{false, true≢false}
 use Rattle.rules.specs.Sizes.{cellCount}
 use Rattle.rules.specs.Trees.{Statement}
 use Rattle.rules.specs.TargetTrees.{TargetStatement}
-use Rattle.rules.specs.Memory.{Memory, recordedOf, named, blockOf, cellOf, isUnused, Use, made, makeBlock, one}
+use Rattle.rules.specs.Memory.{Memory, recordedOf, blockOf, cellOf, isUnused, Use, made, makeBlock}
 use Rattle.rules.specs.Memory.{countFree}
 use Rattle.rules.specs.Evaluation.{Variables}
-use Rattle.rules.specs.Observation.{Observation, covers}
+use Rattle.rules.specs.Observation.{Observation}
 use Rattle.rules.specs.Plain.{run}
 use Rattle.rules.specs.Watched.{Temporaries, watch}
 use Rattle.rules.specs.Answers.{memoryAfter, watchedMemoryAfter}
-use Rattle.rules.proofs.MemoryLaws.{named-map, Covering, inside, below, above, covering, coverage, coverage-named}
+use Rattle.rules.proofs.MemoryLaws.{named-map, separate}
 use Rattle.rules.proofs.Invariant.{at-most-one, recordsOf, Invariant, Becomes, Onward}
 use Rattle.rules.proofs.Changes.{onward-made}
 use Rattle.rules.proofs.PlainKept.{plain-onward}
@@ -25,41 +23,16 @@ use Rattle.rules.proofs.WatchedKept.{watched-onward}
 use Rattle.rules.proofs.Totals.{liveLength, total}
 use Rattle.rules.specs.declared.Block.{Block}
 use Rattle.rules.specs.declared.Block.the-variants as block
-use Rattle.rules.specs.declared.Recorded.{Recorded}
 use Rattle.rules.specs.declared.Recorded.the-variants as recorded
-
--- the blocks of two names cover a place at most as often as all blocks do
-coverage-two : (l : List Recorded) (j k i : ℕ) → j ≢ k
-    → one (covers (getD l j recorded.Dead) i) + one (covers (getD l k recorded.Dead) i) ≤ coverage l i
-coverage-two [] j k i d = omega arith
-coverage-two (b ∷ l) zero zero i d = absurd (d refl)
-coverage-two (b ∷ l) zero (suc k) i d = omega (arith, coverage-named l (suc k) i)
-coverage-two (b ∷ l) (suc j) zero i d = omega (arith, coverage-named l (suc j) i)
-coverage-two (b ∷ l) (suc j) (suc k) i d = omega (arith, coverage-two l j k i (λ e. d (ap suc e)))
-
-coverage-both : (l : List Recorded) (j k i : ℕ) → j ≢ k
-    → one (covers (named l j recorded.Dead) i) + one (covers (named l k recorded.Dead) i) ≤ coverage l i
-coverage-both l zero k i d = omega (arith, coverage-named l k i)
-coverage-both l (suc j) zero i d = omega (arith, coverage-named l (suc j) i)
-coverage-both l (suc j) (suc k) i d = coverage-two l j k i (λ e. d (ap suc e))
 
 -- no cell lies in two live blocks
 pub apart : (m : Memory) → Invariant m → (j k first n first₁ n₁ : ℕ) → j ≢ k
     → recordedOf (blockOf m j) ≡ recorded.Live first n → recordedOf (blockOf m k) ≡ recorded.Live first₁ n₁
     → (i : ℕ) → first ≤ i → i < first + n → first₁ ≤ i → i < first₁ + n₁ → ⊥
 apart m y j k s n s₁ n₁ d e e₁ i p q p₁ q₁ =
-    let z = coverage-both (recordsOf m) j k i d in
     let at-name = named-map recordedOf (m .blocks) in
-    let z₁ = rw (at-name j block.Dead, e, at-name k block.Dead, e₁) at z in
-    absurd (omega (arith, z₁, y .cover i, at-most-one (cellOf m i), inside-one s n p q, inside-one s₁ n₁ p₁ q₁))
-  where
-    inside-one : (s n : ℕ) → s ≤ i → i < s + n → one (covers (recorded.Live s n) i) ≡ 1
-    inside-one s n p q = go (covering s n i)
-      where
-        go : {b : Bool} → Covering s n i b → one b ≡ 1
-        go (inside p₂ q₂) = refl
-        go (below p₂) = absurd (omega arith)
-        go (above p₂) = absurd (omega arith)
+    separate (recordsOf m) (λ i₁. omega (arith, y .cover i₁, at-most-one (cellOf m i₁))) j k s n s₁ n₁ d
+    (at-name j block.Dead ∙ e) (at-name k block.Dead ∙ e₁) i p q p₁ q₁
 
 -- a name that was given stays given, a dead one stays dead
 becomes-given : (b c : Block) → Becomes b c → isUnused b ≡ false → isUnused c ≡ false
