@@ -2,12 +2,12 @@
 -- blocks inside the cells another.
 use Prim.Native.Nat.{ℕ, _+_, _≤_}
 use native.Mathlib.Omega.{arith}
-use mathlib.Core.Bool.{false, not}
+use mathlib.Core.Bool.{false}
 use mathlib.Core.Path.{_≡_}
 use lib.ListN.{length-replicate}
 use Rattle.rules.specs.Sizes.{nameCount, cellCount}
 use Rattle.rules.specs.Memory.{Memory, setCell, cellOf, isFree, nextName, freeRun, Use, withBlock, makeBlock, endBlock}
-use Rattle.rules.specs.Observation.{Observation, covered, markRun, emptyObservation, startObservation}
+use Rattle.rules.specs.Observation.{Observation, markRun, emptyObservation, startObservation}
 use Rattle.rules.proofs.Keeping.{AnyNumber, AnyValue, AnyPlace, AnyMemory, MadeKeeps, makeAt-keeps}
 use Rattle.rules.proofs.Calls.{CallsKeep}
 use Rattle.rules.proofs.ObservationKept.{startObservation-keeps}
@@ -48,7 +48,7 @@ inside-invariant = record {
 }
 
 markRun-places : (o : Observation) (n first : ℕ) → markRun o n ≡ search.At first → first + n ≤ cellCount
-markRun-places o n first e = lowestRun-places (λ i. not (covered (o .blocks) i)) n first e
+markRun-places o n first e = lowestRun-places _ n first e
 
 pub fits-observation-invariant : ObservationInvariant FitsObservation
 fits-observation-invariant = record {

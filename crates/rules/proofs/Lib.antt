@@ -73,6 +73,7 @@ pub mod FittingValues
 pub mod KeptPredicates
 pub mod Reachable
 pub mod ReachableRoundTrip
+pub mod ObservationBytes
 -- What the code's proofs use: changes of one record, runs of free places, tables with bytes behind them, expressions
 -- of both languages, statements kind by kind, and what acceptance gives.
 pub mod FillLaws
@@ -97,6 +98,5 @@ pub mod StartObservation
 pub mod WholeRun
 pub mod Inputs
 pub mod UnrefusedRuns
-pub mod ObservationBytes
 pub mod Claim
 pub mod Cases

@@ -19,8 +19,8 @@ use Rattle.rules.specs.Answers.{observationAfter, watchedOutcome, runWat
 use Rattle.rules.proofs.Lists.{All, none, also}
 use Rattle.rules.proofs.Rows.{row-part}
 use Rattle.rules.proofs.Fits.{FitsRecorded, FitsObservation}
-use Rattle.rules.proofs.LayoutLaws.{length-recordedBytes, image-recorded, image-mark-byte, image-mark}
-use Rattle.rules.proofs.LayoutLaws.{observation-back}
+use Rattle.rules.proofs.LayoutLaws.{length-recordedBytes, length-observationImage, image-recorded}
+use Rattle.rules.proofs.LayoutLaws.{image-mark-byte, image-mark, observation-back}
 use Rattle.rules.proofs.UnrefusedRuns.{watched-runs}
 use Rattle.rules.proofs.ObservationOrder.{OrderlyObservation}
 use Rattle.rules.proofs.ObservedRuns.{observed-in-order}
@@ -32,6 +32,7 @@ pub record OrderlyBytes (l : List ℕ) : Type 0 where
   -- what the bytes stand for is in order, and they are its bytes and no others
   pub order : OrderlyObservation (observationOf l)
   pub whole : observationImage (observationOf l) ≡ l
+  pub size : length l ≡ observationLength
   -- "255 block records (state 0 unused, 1 live, 2 dead; rest alike, first counting marks)"
   pub records : (k : ℕ) → k < nameCount → part 8 l (blockPlace k) ≡ recordedBytes (recordedAt l k)
   -- "A dead block has first and length 0"
@@ -90,6 +91,7 @@ pub image-in-order : (o : Observation) → OrderlyObservation o → OrderlyBytes
 image-in-order o y = record {
   order = subst OrderlyObservation (sym back) y;
   whole = ap observationImage back;
+  size = length-observationImage o (y .record-count) (y .mark-count);
   records = image-record o y;
   dead = λ k h e. image-record o y k h ∙ ap recordedBytes (dead-at (observationImage o) k e) ∙ dead-bytes;
   marks = λ i h. image-mark-byte o (fits o y) i h ∙ ap one (sym (image-mark o (fits o y) i h));
