@@ -58,7 +58,8 @@ AnyState m f = Unit {0}
 abbrev Ends : Outcome → Type 0
 Ends x = Outcomes AnyState (Among plainEndings) x
 
-source-among : (e : Expression ⊥) (ρ : Variables) (m : Memory) → EvaluatedAmong AnyValue evaluationEndings (evaluateSource e ρ m)
+source-among : (e : Expression ⊥) (ρ : Variables) (m : Memory)
+    → EvaluatedAmong AnyValue evaluationEndings (evaluateSource e ρ m)
 source-among e ρ m =
     evaluate-among AnyValue (λ z. tt) (λ p. tt) evaluationEndings (plainly .enough) e noTemporaries
     (λ t. elim t [ ]) ρ m
@@ -124,7 +125,8 @@ held-among (temporary.Holds v) = tt
 target-among : (e : Expression ℕ) (τ : Temporaries) (ρ : Variables) (m : Memory)
     → EvaluatedAmong AnyValue temporaryEndings (evaluate e (temporaryOf τ) ρ m)
 target-among e τ ρ m =
-    evaluate-among AnyValue (λ z. tt) (λ p. tt) temporaryEndings (watchedly .enough) e (temporaryOf τ) (λ t. held-among (temporaryOf τ t)) ρ m
+    evaluate-among AnyValue (λ z. tt) (λ p. tt) temporaryEndings (watchedly .enough) e (temporaryOf τ)
+    (λ t. held-among (temporaryOf τ t)) ρ m
 
 target-found : (p : Place ℕ) (τ : Temporaries) (ρ : Variables) (m : Memory)
     → FoundAmong temporaryEndings (findPlace p (temporaryOf τ) ρ m)
@@ -139,16 +141,19 @@ taken-ends s n e m o τ f h =
 
 observed-ends : (s : ℕ) (x : Noted) (m : Memory) (o : Observation) (τ : Temporaries) (f : ℕ)
     → NotedKeeps AnyObservation (Among watchedEndings) x → WatchEnds (watched.observed s x m o τ f)
-observed-ends s x m o τ f h = observed-keeps AnyWatched (Among watchedEndings) AnyObservation s x m o τ f tt h (λ o₁ g. tt)
+observed-ends s x m o τ f h =
+    observed-keeps AnyWatched (Among watchedEndings) AnyObservation s x m o τ f tt h (λ o₁ g. tt)
 
 held-ends : (τ : Temporaries) (n : ℕ) → Gives AnyValue (Among watchedEndings) (heldIn τ n)
 held-ends τ n = ends-evaluated watchedly (heldIn τ n) (held-among (temporaryOf τ n))
 
-query-among : (q : tree.Query) (o : Observation) (v : Value) → EvaluatedAmong AnyValue temporaryEndings (queryObservation q o v)
+query-among : (q : tree.Query) (o : Observation) (v : Value)
+    → EvaluatedAmong AnyValue temporaryEndings (queryObservation q o v)
 query-among q o v =
-    on-pointer (EvaluatedAmong AnyValue temporaryEndings) (Among temporaryEndings) evaluated.Stopped (λ c x. x) AnyValue v _ refl
-    tt
-    (λ p u. queried-among AnyValue (λ z. tt) (λ p. tt) temporaryEndings (watchedly .enough) q (recordOf o (p .name)) (λ i. markOf o i) p)
+    on-pointer (EvaluatedAmong AnyValue temporaryEndings) (Among temporaryEndings) evaluated.Stopped (λ c x. x) AnyValue
+    v _ refl tt (λ p u.
+    queried-among AnyValue (λ z. tt) (λ p. tt) temporaryEndings (watchedly .enough) q (recordOf o (p .name))
+    (λ i. markOf o i) p)
 
 watch-ends : (a : TargetStatement) (ρ : Variables) (m : Memory) (o : Observation) (τ : Temporaries) (f : ℕ)
     → WatchEnds (watch a ρ m o τ f)
@@ -260,6 +265,7 @@ pub watch-answer : (a : TargetStatement) (ρ : Variables) (m : Memory) (o : Obse
 watch-answer a ρ m o τ f = of (watch a ρ m o τ f) (watch-endings a ρ m o τ f)
   where
     of : (x : WatchedOutcome) → WatchedEnds x
-        → ((watchedEndingOf x .number ≡ 0) × (watchedEndingOf x .«record» ≡ 0)) ⊎ Among watchedEndings (watchedEndingOf x .number)
+        → ((watchedEndingOf x .number ≡ 0) × (watchedEndingOf x .«record» ≡ 0))
+        ⊎ Among watchedEndings (watchedEndingOf x .number)
     of (watched.finished m₁ o₁ τ₁ f₁) h = inl (refl, refl)
     of (watched.ended c s m₁ o₁ τ₁ f₁) h = inr h

@@ -61,7 +61,8 @@ module _ (G : Value → Type 0) (integers : (z : ℤ) → G (values.Integer z))
   tested-among v = tested-stops G (Among numbers) (λ z e. integers z) (λ p z g e. pointers _) enough v
 
   among-value : (e : Evaluated) (next : Value → Evaluated) → EvaluatedAmong G numbers e
-      → ((v : Value) → G v → EvaluatedAmong G numbers (next v)) → EvaluatedAmong G numbers (onValue e evaluated.Stopped next)
+      → ((v : Value) → G v → EvaluatedAmong G numbers (next v))
+      → EvaluatedAmong G numbers (onValue e evaluated.Stopped next)
   among-value e next h g = on-value (EvaluatedAmong G numbers) (Among numbers) evaluated.Stopped (λ c x. x) e next h g
 
   pub condition-among : (e : Evaluated) → EvaluatedAmong G numbers e → TestStops (Among numbers) (condition e)
@@ -98,11 +99,13 @@ module _ (G : Value → Type 0) (integers : (z : ℤ) → G (values.Integer z))
   mutual
     unfolding evaluate
 
-    pub evaluate-among : {T : Type 0} (e : Expression T) (τ : Holding T) → ((t : T) → EvaluatedAmong G numbers (held (τ t)))
-        → (ρ : Variables) (m : Memory) → EvaluatedAmong G numbers (evaluate e τ ρ m)
+    pub evaluate-among : {T : Type 0} (e : Expression T) (τ : Holding T)
+        → ((t : T) → EvaluatedAmong G numbers (held (τ t))) → (ρ : Variables) (m : Memory)
+        → EvaluatedAmong G numbers (evaluate e τ ρ m)
     evaluate-among (literal z) τ h ρ m = integers z
     evaluate-among (read p) τ h ρ m =
-        on-place (EvaluatedAmong G numbers) (Among numbers) evaluated.Stopped (λ c x. x) (findPlace p τ ρ m) (readCell m)
+        on-place (EvaluatedAmong G numbers) (Among numbers) evaluated.Stopped (λ c x. x) (findPlace p τ ρ m)
+        (readCell m)
         (findPlace-among p τ h ρ m) (λ l u. readCell-among m l)
     evaluate-among (address p) τ h ρ m = addressOf-among (findPlace p τ ρ m) (findPlace-among p τ h ρ m)
     evaluate-among (operation o a b) τ h ρ m =
@@ -118,7 +121,8 @@ module _ (G : Value → Type 0) (integers : (z : ℤ) → G (values.Integer z))
 
   queryMemory-among : (q : Query) (m : Memory) (v : Value) → EvaluatedAmong G numbers (queryMemory q m v)
   queryMemory-among q m v =
-      on-pointer (EvaluatedAmong G numbers) (Among numbers) evaluated.Stopped (λ c x. x) AnyValue v _ (enough 40 refl) tt
+      on-pointer (EvaluatedAmong G numbers) (Among numbers) evaluated.Stopped (λ c x. x) AnyValue v _
+      (enough 40 refl) tt
       (λ p u. queried-among q (recordedOf (blockOf m (p .name))) (λ i. isInitialised (cellOf m i)) p)
 
   pub evaluateTerm-among : (t : Term) (ρ : Variables) (m : Memory) → EvaluatedAmong G numbers (evaluateTerm t ρ m)
@@ -132,7 +136,8 @@ module _ (G : Value → Type 0) (integers : (z : ℤ) → G (values.Integer z))
   tested-then : (v : Value) (x y : Evaluated) → EvaluatedAmong G numbers x → EvaluatedAmong G numbers y
       → EvaluatedAmong G numbers (onTest (tested v) evaluated.Stopped x y)
   tested-then v x y p q =
-      on-test (EvaluatedAmong G numbers) (Among numbers) evaluated.Stopped (λ c h. h) (tested v) x y (tested-among v) p q
+      on-test (EvaluatedAmong G numbers) (Among numbers) evaluated.Stopped (λ c h. h) (tested v) x y
+      (tested-among v) p q
 
   pub evaluatePredicate-among : (p : Predicate) (ρ : Variables) (m : Memory)
       → EvaluatedAmong G numbers (evaluatePredicate p ρ m)

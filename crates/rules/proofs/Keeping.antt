@@ -113,7 +113,8 @@ MadeKeeps K E (made k m) = K k m
 MadeKeeps K E (unmade c) = E c
 
 -- D is of the numbers that evaluating stops with, G of values and H of places
-module _ (J : Memory → Type 0) (D E : ℕ → Type 0) (known : (c : ℕ) → Among plainEndings c → E c) (widen : (c : ℕ) → D c → E c)
+module _ (J : Memory → Type 0) (D E : ℕ → Type 0) (known : (c : ℕ) → Among plainEndings c → E c)
+    (widen : (c : ℕ) → D c → E c)
     (G : Value → Type 0) (H : Pointer → Type 0) where
   pub storeCell-keeps : (m : Memory) (p : Pointer) (v : Value) → J m
       → ((i : ℕ) → J (setCell m i (cell.Holds (p .name) v))) → ChangeKeeps J E (storeCell m p v)
