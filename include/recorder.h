@@ -24,8 +24,8 @@
  * run, whatever the table. Tests run the deepest tables in threads with so much; no proof speaks of the stack. A loop
  * takes no more stack for more turns.
  *
- * All numbers in tables, inputs and memories are little-endian. The layouts stand below; docs/FORMATS.md has the kinds
- * of records one by one.
+ * All numbers in tables, inputs and memories are little-endian. The layouts stand below; docs/RULES.md has the kinds of
+ * records one by one, and every rule.
  */
 #ifndef RECORDER_H
 #define RECORDER_H

@@ -36,5 +36,22 @@ while IFS=/ read -r crate edit; do
     [ -f "crates/$crate/must-fail/$edit.edit" ] || miss "$crate/$edit"
 done <<<"$edits"
 
+# docs/RULES.md: every definition that it names stands in crates/rules/specs; every section names one, and every module
+# there has one named.
+page=docs/RULES.md
+defined=$(grep -o '`[A-Z][A-Za-z0-9]*\.[^`]*`' "$page" | tr -d '`' | sort -u)
+while IFS=. read -r module name; do
+    grep -qE "^ *((pub|abbrev|unfoldable|record|data) )*$name *[:(]" "crates/rules/specs/$module.antt" 2>/dev/null ||
+        miss "$module.$name"
+done <<<"$defined"
+for file in crates/rules/specs/*.antt; do
+    module=$(basename "$file" .antt)
+    [ "$module" = Lib ] || grep -q "^$module\." <<<"$defined" || { echo "$page names nothing of $module"; missing=1; }
+done
+unnamed=$(awk '/^## / { if (h && !d) print h; h = $0; d = 0 } /`[A-Z][A-Za-z0-9]*\.[A-Za-z]/ { d = 1 }
+    END { if (!d) print h }' "$page")
+[ -z "$unnamed" ] || { echo "$page names no definition in: $unnamed"; missing=1; }
+
 [ "$missing" -eq 0 ] || exit 1
+echo "$(wc -l <<<"$defined") definitions in RULES, of every module"
 echo "the documents' names are all there: $(wc -l <<<"$names") in SENTENCES, $(wc -l <<<"$edits") edits in PROVED"
