@@ -149,13 +149,13 @@ fn integer(memory: &[u8], cell: usize) -> i64 {
 #[test]
 fn every_example_of_the_page() {
     let examples = examples();
-    for label in ["P1", "P2", "P5", "P8", "P10", "R1", "A5", "F7", "W4"] {
+    for label in ["P1", "P2", "P5", "P8", "P10", "R1", "E5", "F7", "W4"] {
         assert!(examples.iter().any(|e| e.label == label), "{label} is gone");
     }
     examples.iter().for_each(Example::hold);
 }
 
-/// P1's listing on the left, A1's on the right.
+/// P1's listing on the left, E1's on the right.
 #[test]
 fn the_listings_of_the_page() {
     let lines: Vec<&str> = indented().filter(|line| !is_example(line)).collect();
@@ -164,7 +164,7 @@ fn the_listings_of_the_page() {
         let texts = texts.filter_map(|text| text.map(str::trim).filter(|text| !text.is_empty()));
         texts.map(|text| format!("{text}\n")).collect()
     };
-    for (label, told) in [("P1", column(0, 36)), ("A1", column(36, usize::MAX))] {
+    for (label, told) in [("P1", column(0, 36)), ("E1", column(36, usize::MAX))] {
         let examples = examples();
         let example = examples.iter().find(|e| e.label == label).expect(label);
         assert_eq!(told, listing(&example.table()), "{label}");
