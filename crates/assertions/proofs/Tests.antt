@@ -26,7 +26,7 @@ use Rattle.emission.specs.Emission.{Copied, sequenceTree, partTree}
 use Rattle.assertions.specs.Tests.{TermLevels, PredicateLevels, Levels, LevelsAt, lastKind, lastField}
 use Rattle.emission.proofs.Copying.{operator-back}
 use Rattle.emission.proofs.Emitting.{Some, some, statement-some}
-use Rattle.sizes.proofs.Sizes.{none-at, SizeLaw, size-law, tree-as}
+use Rattle.rules.proofs.RecordSizes.{none-at, SizeLaw, size-law, tree-as}
 
 levels-as-term : (y : SourceNode) (v : ℕ) → nodeSort y ≡ 3 → TermLevels (asTerm y) v → Levels y v
 levels-as-term (expressionNode x) v e h = absurd (omega arith)

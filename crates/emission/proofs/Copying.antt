@@ -21,7 +21,7 @@ use Rattle.rules.proofs.Standing.{stands, stands-at}
 use Rattle.tables.specs.Within.{Within}
 use Rattle.sizes.specs.Trees.{targetTree, copyAt, sortAt}
 use Rattle.emission.specs.Emission.{Copied}
-use Rattle.sizes.proofs.Sizes.{none-at, tree-as}
+use Rattle.rules.proofs.RecordSizes.{none-at, tree-as}
 
 -- an operator's number is its mark
 pub operator-back : (m : ℕ) → 1 ≤ m → m ≤ 8 → operatorNumber (operatorOf m) ≡ m

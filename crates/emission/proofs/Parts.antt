@@ -15,7 +15,7 @@ use Rattle.rules.specs.Translation.{RecordTree, none, node, treeSize, rootNumbe
 use Rattle.emission.specs.Emission.{recordOf, withRecord, Room, Emitted, Copied, rootFrom, sequenceTree}
 use Rattle.sizes.specs.Trees.{copyAt}
 use Rattle.emission.proofs.Emitting.{emitted-none, emitted-node, Some, some, root-some}
-use Rattle.sizes.proofs.Sizes.{none-at}
+use Rattle.rules.proofs.RecordSizes.{none-at}
 use Rattle.emission.proofs.Copying.{CopyLaw, copied-at, copy-at}
 
 -- a statement's number as a literal

@@ -25,7 +25,9 @@ pub mod Readiness
 pub mod SoundSource
 pub mod SoundTargets
 pub mod Counting
-pub mod TreeSizes
+pub mod RecordTrees
+pub mod RecordSizes
+pub mod RecordCopies
 pub mod SizeBound
 -- Emission: what is emitted is accepted and read back.
 pub mod SoundTranslation

@@ -1,5 +1,5 @@
 -- What a record has from those above it, in a table that keeps 3 to 6: by parents it is what it is by descent.
-use Prim.Native.Nat.{ℕ, zero, suc, _+_, _≤_}
+use Prim.Native.Nat.{ℕ, zero, suc, _+_, _*_, _≤_}
 use native.Mathlib.Omega.{arith}
 use mathlib.Core.Path.{_≡_, refl, sym, ap, _∙_}
 use mathlib.Core.Bool.{Bool, true, false, cond, _||_}
@@ -8,6 +8,7 @@ use lib.Dec.{eqb, eqb·suc-zero}
 use Rattle.rules.specs.Records.{recordCount, kindOf, childB}
 use Rattle.rules.specs.Kinds.{Language, source}
 use Rattle.rules.specs.Checker.{parentOf, isLetOf, inScope, levelBelow, levelOf}
+use Rattle.rules.specs.Origins.{copiesIn, copiesOf}
 use Rattle.rules.specs.declared.Search.{Search}
 use Rattle.rules.specs.declared.Search.the-variants as search
 use Rattle.rules.proofs.BooleanLaws.{eqb-swap}
@@ -132,20 +133,27 @@ adding-is ρ v x = go (eqb x v) ∙ ap (λ b. b || ρ x) (eqb-swap x v)
     go true = refl
     go false = refl
 
--- ---- levels, of a source table
+-- ---- levels and copies, of a source table
+by-parent : {A : Type 0} (top : A) (up : ℕ → A → A) (f g : ℕ → A) → ((m : ℕ) → f m ≡ g m) → (s : Search)
+    → elim s as (λ q. A) [ search.At m ↦ up m (f m) | search.Nothing ↦ top ] ≡ fromParent top (λ m. up m (g m)) s
+by-parent top up f g h search.Nothing = refl
+by-parent top up f g h (search.At m) = ap (up m) (h m)
+
 abbrev levelUp : List ℕ → ℕ → ℕ → ℕ → ℕ
 levelUp t n m k = levelBelow (kindOf t m) (eqb (childB t m) n) k
 
 level-climb : (t : List ℕ) (d n : ℕ) → levelOf t d n ≡ climb source t 0 (levelUp t) d n
 unfolding levelOf climb
 level-climb t zero n = refl
-level-climb t (suc d) n = go (parentOf source t n) (level-climb t d)
-  where
-    go : (s : Search) → ((m : ℕ) → levelOf t d m ≡ climb source t 0 (levelUp t) d m)
-        → elim s as (λ q. ℕ) [ search.At m ↦ levelUp t n m (levelOf t d m) | search.Nothing ↦ 0 ]
-        ≡ fromParent 0 (λ m. levelUp t n m (climb source t 0 (levelUp t) d m)) s
-    go search.Nothing f = refl
-    go (search.At m) f = ap (levelUp t n m) (f m)
+level-climb t (suc d) n = by-parent 0 (levelUp t n) _ _ (level-climb t d) (parentOf source t n)
+
+abbrev copiesUp : List ℕ → ℕ → ℕ → ℕ → ℕ
+copiesUp t n m k = copiesIn t m n * k
+
+copies-climb : (t : List ℕ) (d n : ℕ) → copiesOf t d n ≡ climb source t 1 (copiesUp t) d n
+unfolding copiesOf climb
+copies-climb t zero n = refl
+copies-climb t (suc d) n = by-parent 1 (copiesUp t n) _ _ (copies-climb t d) (parentOf source t n)
 
 module _ (t : List ℕ) (keeps : Passed source t) where
   pub level-child : (m c : ℕ) → IsParent source t m c
@@ -157,3 +165,13 @@ module _ (t : List ℕ) (keeps : Passed source t) where
 
   pub level-last : levelOf t (recordCount t) (recordCount t) ≡ 0
   level-last = level-climb t (recordCount t) (recordCount t) ∙ climb-last source t 0 (levelUp t) keeps
+
+  pub copies-child : (m c : ℕ) → IsParent source t m c
+      → copiesOf t (recordCount t) c ≡ copiesIn t m c * copiesOf t (recordCount t) m
+  copies-child m c h =
+      copies-climb t (recordCount t) c
+      ∙ climb-child source t 1 (copiesUp t) keeps m c h
+      ∙ ap (copiesUp t c m) (sym (copies-climb t (recordCount t) m))
+
+  pub copies-last : copiesOf t (recordCount t) (recordCount t) ≡ 1
+  copies-last = copies-climb t (recordCount t) (recordCount t) ∙ climb-last source t 1 (copiesUp t) keeps

@@ -15,6 +15,7 @@ pub mod Past
 pub mod Observation
 pub mod Watched
 pub mod Translation
+pub mod Origins
 pub mod Layout
 pub mod Answers
 pub mod Listing

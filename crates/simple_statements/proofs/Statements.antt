@@ -19,7 +19,7 @@ use Rattle.sizes.specs.Trees.{targetTree, treeAt, copyAt, sortAt}
 use Rattle.emission.specs.Emission.{Copied, sequenceTree, partTree}
 use Rattle.simple_statements.specs.Statements.{fetchTree, savedTree, newTree, StatementNode, StatementAt, Simple}
 use Rattle.assertions.specs.Tests.{assertTree, LevelsAt}
-use Rattle.sizes.proofs.Sizes.{none-at, SizeLaw, size-law, tree-as}
+use Rattle.rules.proofs.RecordSizes.{none-at, SizeLaw, size-law, tree-as}
 use Rattle.assertions.proofs.Tests.{levels-as-predicate}
 
 module _ (t : List ℕ) (n : ℕ) (e : sortAt t n ≡ 5) where

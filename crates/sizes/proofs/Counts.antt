@@ -1,12 +1,12 @@
 -- The records of a kind's own and the copies of its children's, arm by arm.
 use Prim.Native.Nat.{ℕ, suc, _≤_, _<_}
 use native.Mathlib.Omega.{arith}
-use mathlib.Core.Bool.{Bool, true, false, _&&_}
+use mathlib.Core.Bool.{Bool, true, false}
 use mathlib.Core.Logic.{_⊎_, inl, inr}
 use mathlib.Core.Path.{_≡_, refl, sym, ap, _∙_}
 use borrow.Author.Tests.{le-leb, lt-leb, eqb-true, eqb-false, ne-eqb}
-use lib.Dec.{leb, eqb}
-use Rattle.sizes.specs.Counts.{ownRecords, copiesOfA, copiesOfB}
+use lib.Dec.{eqb}
+use Rattle.rules.specs.Origins.{ownRecords, copiesOfA, copiesOfB}
 
 -- a kind other than those named one by one
 abbrev Unnamed : ℕ → Type 0
@@ -32,7 +32,11 @@ module _ (k : ℕ) where
       go false e = own-at (suc j) q (omega (arith, eqb-false k j e))
 
   pub own-observed : 21 ≤ k → k < 24 → 2 ≡ ownRecords k
-  own-observed p q = rw (le-leb 21 k p, le-leb k 23 (omega arith)) refl
+  own-observed p q = go (eqb k 21) refl
+    where
+      go : (b : Bool) → eqb k 21 ≡ b → 2 ≡ ownRecords k
+      go true e = own-at 21 refl (eqb-true k 21 e)
+      go false e = own-next 22 refl refl (omega (arith, eqb-false k 21 e)) q
 
   pub own-joint : Unnamed k → 32 ≤ k → k < 36 → 3 ≡ ownRecords k
   own-joint h p q =
@@ -41,34 +45,34 @@ module _ (k : ℕ) where
       own-next 34 refl refl (omega arith) q
 
   -- a kind outside the ranges too
-  own-other : Unnamed k → (leb 21 k && leb k 23) ≡ false → (30 ≤ k → k < 36 → ⊥) → 1 ≡ ownRecords k
-  own-other h u g =
+  own-other : Unnamed k → (21 ≤ k → k < 24 → ⊥) → (30 ≤ k → k < 36 → ⊥) → 1 ≡ ownRecords k
+  own-other h f g =
       rw (
-        u,
+        ne-eqb k 41 (λ e. h .0 .0 .1 (inl e)),
+        ne-eqb k 42 (h .0 .1),
+        ne-eqb k 43 (λ e. h .0 .0 .1 (inr e)),
+        ne-eqb k 47 (h .1),
+        ne-eqb k 48 (λ e. h .0 .0 .0 .0 .1 (inr e)),
+        ne-eqb k 21 (λ e. f (omega arith) (omega arith)),
+        ne-eqb k 22 (λ e. f (omega arith) (omega arith)),
+        ne-eqb k 23 (λ e. f (omega arith) (omega arith)),
         ne-eqb k 30 (λ e. g (omega arith) (omega arith)),
         ne-eqb k 31 (λ e. g (omega arith) (omega arith)),
-        ne-eqb k 33 (λ e. g (omega arith) (omega arith)),
-        ne-eqb k 48 (λ e. h .0 .0 .0 .0 .1 (inr e)),
         ne-eqb k 24 (λ e. h .0 .0 .0 .1 (inl e)),
         ne-eqb k 32 (λ e. g (omega arith) (omega arith)),
+        ne-eqb k 33 (λ e. g (omega arith) (omega arith)),
         ne-eqb k 34 (λ e. g (omega arith) (omega arith)),
         ne-eqb k 35 (λ e. g (omega arith) (omega arith)),
-        ne-eqb k 41 (λ e. h .0 .0 .1 (inl e)),
-        ne-eqb k 43 (λ e. h .0 .0 .1 (inr e)),
-        ne-eqb k 42 (h .0 .1),
-        ne-eqb k 47 (h .1),
       ) refl
 
   pub own-below-21 : Unnamed k → k < 21 → 1 ≡ ownRecords k
-  own-below-21 h p = own-other h (rw (lt-leb 21 k p) refl) (λ q r. omega arith)
+  own-below-21 h p = own-other h (λ q r. omega arith) (λ q r. omega arith)
 
   pub own-below-30 : Unnamed k → 24 ≤ k → k < 30 → 1 ≡ ownRecords k
-  own-below-30 h p q =
-      own-other h (rw (le-leb 21 k (omega arith), lt-leb k 23 p) refl) (λ r s. omega arith)
+  own-below-30 h p q = own-other h (λ r s. omega arith) (λ r s. omega arith)
 
   pub own-from-36 : Unnamed k → 36 ≤ k → 1 ≡ ownRecords k
-  own-from-36 h p =
-      own-other h (rw (le-leb 21 k (omega arith), lt-leb k 23 (omega arith)) refl) (λ q r. omega arith)
+  own-from-36 h p = own-other h (λ q r. omega arith) (λ q r. omega arith)
 
   -- ---- copies
   pub copies-a-below : k < 41 → 1 ≡ copiesOfA k

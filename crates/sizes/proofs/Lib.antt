@@ -1,4 +1,3 @@
 -- Facts about sizes.
-pub mod Sizes
 pub mod SizeSteps
 pub mod Counts

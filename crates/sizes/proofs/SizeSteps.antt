@@ -7,9 +7,8 @@ use mathlib.Core.List.{List}
 use lib.Dec.{leb, eqb}
 use Rattle.rules.specs.Records.{kindOf, childA, childB, childC}
 use Rattle.rules.specs.Translation.{treeSize}
-use Rattle.sizes.specs.Trees.{treeAt, Sorted}
-use Rattle.sizes.specs.Counts.{sizeFrom}
-use Rattle.sizes.proofs.Sizes.{none-at, SizeLaw}
+use Rattle.rules.proofs.RecordTrees.{treeAt, Sorted, sizeFrom}
+use Rattle.rules.proofs.RecordSizes.{none-at, SizeLaw}
 
 copies-least : (twice : Bool) (x : ℕ) → x ≤ cond twice 2 1 * x
 copies-least true x = omega arith

@@ -1,3 +1,2 @@
--- What a record is translated to, and of how many records that is.
+-- What a record is translated to.
 pub mod Trees
-pub mod Counts

@@ -2,8 +2,8 @@
 ghost use mathlib.Core.Path.{_≡_};
 ghost use Prim.Native.Nat.{_≤_};
 ghost use Rattle.rules.specs.Translation.{treeSize};
-ghost use Rattle.sizes.specs.Counts.{ownRecords, copiesOfA, copiesOfB, sizeFrom};
-ghost use Rattle.sizes.specs.Trees.{treeAt, Sorted};
+ghost use Rattle.rules.specs.Origins.{ownRecords, copiesOfA, copiesOfB};
+ghost use Rattle.rules.proofs.RecordTrees.{treeAt, Sorted, sizeFrom};
 
 // How many records are a kind's own, not its children's.
 fn own_records(kind: u8) -> usize

@@ -27,7 +27,7 @@ use Rattle.emission.specs.Emission.{Emitted}
 use Rattle.assertions.specs.Tests.{TermLevels, PredicateLevels}
 use Rattle.simple_statements.specs.Statements.{StatementLevels, StatementAt}
 use Rattle.emission.proofs.Emitting.{bytes-emit}
-use Rattle.sizes.proofs.Sizes.{tree-as}
+use Rattle.rules.proofs.RecordSizes.{tree-as}
 use Rattle.translation.proofs.Compounds.{statement-as}
 
 term-levels : (x : Term) (ρ : Scope) (v : ℕ) → SoundTerm x ρ v → TermLevels x v

@@ -16,7 +16,7 @@ use Rattle.simple_statements.specs.Statements.{StatementLevels, StatementNode, 
 use Rattle.translation.specs.Lets.{overTree, endingTree, letTree, insideTree}
 use Rattle.emission.proofs.Emitting.{Some, some, statement-some}
 use Rattle.emission.proofs.Copying.{copy-at}
-use Rattle.sizes.proofs.Sizes.{none-at, tree-as}
+use Rattle.rules.proofs.RecordSizes.{none-at, tree-as}
 use Rattle.simple_statements.proofs.Statements.{statement-sort}
 
 pub statement-as : (y : SourceNode) → nodeSort y ≡ 5 → StatementLevels (sourceStatement y) → StatementNode y

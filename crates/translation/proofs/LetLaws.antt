@@ -7,7 +7,7 @@ use lib.IntN.{pos}
 use Rattle.rules.specs.Records.{childA}
 use Rattle.rules.specs.Translation.{treeSize}
 use Rattle.sizes.specs.Trees.{copyAt}
-use Rattle.sizes.proofs.Sizes.{none-at}
+use Rattle.rules.proofs.RecordSizes.{none-at}
 use Rattle.emission.specs.Emission.{recordOf, withRecord, withTree, Room, Emitted, partTree}
 use Rattle.emission.proofs.Emitting.{some}
 use Rattle.emission.proofs.Parts.{emitted-sequence, emitted-over}

@@ -5,26 +5,26 @@ use mathlib.Core.Bool.{Bool, true, false, _&&_, false≢true}
 use mathlib.Core.Logic.{inl, inr}
 use mathlib.Core.Path.{_≡_, refl, sym, ap, _∙_, subst}
 use mathlib.Core.List.{List}
-use Rattle.rules.specs.Records.{kindOf, childA, childB, childC}
+use mathlib.Core.Option.{some}
+use Rattle.rules.specs.Records.{recordCount, kindOf, childA, childB, childC}
 use Rattle.rules.specs.Kinds.{source, Sort, sortNumber, expression, place, term, predicate, statement, Field, unnamed}
-use Rattle.rules.specs.Kinds.{child, number, Form, forms}
+use Rattle.rules.specs.Kinds.{child, number, Form, forms, formOf}
 use Rattle.rules.specs.Nodes.{SourceNode, expressionNode, placeNode, termNode, predicateNode, statementNode, junk}
 use Rattle.rules.specs.Nodes.{nodeSort, asExpression, asPlace, asTerm, asPredicate, sourceStatement, nodeAt}
 use Rattle.rules.specs.Trees.{Term, Predicate}
 use Rattle.rules.specs.Trees as tree
 use Rattle.rules.specs.Translation.{embed, embedPlace, translateTerm, translatePredicate, translate, RecordTree, none}
 use Rattle.rules.specs.Translation.{expressionTree, placeTree, statementTree, treeSize}
-use Rattle.rules.proofs.KindViews.{and-split, formAt, found-at, every, found-passes, SourceKind, literal, read}
+use Rattle.rules.proofs.BooleanLaws.{three-pass}
+use Rattle.rules.proofs.KindViews.{formAt, found-at, every, found-passes, SourceKind, literal, read}
 use Rattle.rules.proofs.KindViews.{address, operation, shifted, variable, pointed, value, base, offset, blockLength}
 use Rattle.rules.proofs.KindViews.{combined, valid, initialised, compared, negated, both, either, skip, assign, new}
 use Rattle.rules.proofs.KindViews.{free, sequence, branch, while, letIn, assert}
 use Rattle.rules.proofs.FormLaws.{some-sort, FieldHolds, nodeAs}
 use Rattle.rules.proofs.NodeLaws.{node-zero}
 use Rattle.rules.proofs.Standing.{Stands, stands}
 use Rattle.rules.proofs.Readiness.{node-as}
-use Rattle.tables.specs.Within.{Within}
-use Rattle.sizes.specs.Trees.{targetTree, treeAt, Sorted}
-use Rattle.sizes.specs.Counts.{sizeFrom}
+use Rattle.rules.proofs.RecordTrees.{targetTree, treeAt, Sorted, sizeFrom}
 
 -- the tree of a child that is none
 pub none-at : (t : List ℕ) (x s v : ℕ) → x ≡ 0 → none ≡ treeAt t x s v
@@ -153,7 +153,7 @@ size-arm t n i v letIn = omega arith
 size-arm t n i v assert = omega (arith, predicate-level (asPredicate (nodeAt source t (childA t n))) n 0)
 
 -- no field of a source record but the mark has a number
-hasNoNumber : Field → Bool
+abbrev pub hasNoNumber : Field → Bool
 hasNoNumber unnamed = true
 hasNoNumber (child s) = true
 hasNoNumber (number p) = false
@@ -162,8 +162,13 @@ hasChildren : Form → Bool
 hasChildren f = hasNoNumber (f .a) && hasNoNumber (f .b) && hasNoNumber (f .c)
 
 all-children : every hasChildren (forms source) ≡ true
-unfolding hasChildren hasNoNumber
+unfolding hasChildren
 all-children = refl
+
+pub children-only : (k : ℕ) (f : Form) → formOf source k ≡ some f
+    → (hasNoNumber (f .a) ≡ true) × (hasNoNumber (f .b) ≡ true) × (hasNoNumber (f .c) ≡ true)
+unfolding hasChildren
+children-only k f e = three-pass _ _ _ (found-passes hasChildren source k f all-children e)
 
 -- a field's child: below n, one that stands, of that size
 pub record Child (t : List ℕ) (n x : ℕ) (size : ℕ) : Type 0 where
@@ -173,7 +178,6 @@ pub record Child (t : List ℕ) (n x : ℕ) (size : ℕ) : Type 0 where
 
 field-child : (t : List ℕ) (n : ℕ) (f : Field) (x : ℕ) → 1 ≤ n → hasNoNumber f ≡ true → FieldHolds source t n f x
     → Child t n x (fieldSize f (nodeAt source t x))
-unfolding hasNoNumber
 field-child t n unnamed x p q h =
     record { below = omega arith; sorted = inl h; size-is = ap treeSize (none-at t x 0 0 h) }
 field-child t n (child s) x p q h =
@@ -187,7 +191,7 @@ field-child t n (number g) x p q h = absurd (false≢true q)
 
 -- what a record that stands says of its translation's size
 pub record SizeLaw (t : List ℕ) (n : ℕ) : Type 0 where
-  pub within : Within t n
+  pub within : (1 ≤ n) × (n ≤ recordCount t)
   pub a-below : childA t n < n
   pub b-below : childB t n < n
   pub c-below : childC t n < n
@@ -199,16 +203,13 @@ pub record SizeLaw (t : List ℕ) (n : ℕ) : Type 0 where
       (treeSize (treeAt t (childC t n) 0 0))
 
 pub size-law : (t : List ℕ) (n : ℕ) (s : Sort) → Stands source t n s → SizeLaw t n
-unfolding hasChildren
 size-law t n s w =
     let k = kindOf t n in
     let f = w .form in
-    let p = found-passes hasChildren source k f all-children (w .found) in
-    let u = and-split (hasNoNumber (f .a) && hasNoNumber (f .b)) (hasNoNumber (f .c)) p in
-    let y = and-split (hasNoNumber (f .a)) (hasNoNumber (f .b)) (u .0) in
-    let a = field-child t n (f .a) (childA t n) (w .from-one) (y .0) (w .holds .a) in
-    let b = field-child t n (f .b) (childB t n) (w .from-one) (y .1) (w .holds .b) in
-    let c = field-child t n (f .c) (childC t n) (w .from-one) (u .1) (w .holds .c) in
+    let p = children-only k f (w .found) in
+    let a = field-child t n (f .a) (childA t n) (w .from-one) (p .0) (w .holds .a) in
+    let b = field-child t n (f .b) (childB t n) (w .from-one) (p .1) (w .holds .b) in
+    let c = field-child t n (f .c) (childC t n) (w .from-one) (p .2) (w .holds .c) in
     record {
       within = (w .from-one, w .within);
       a-below = a .below;

@@ -1,0 +1,80 @@
+-- "At most 14 target records come from each source record": how many come from record n of a source table.
+use Prim.Native.Nat.{ℕ, zero, suc, _+_, _*_}
+use mathlib.Core.Bool.{cond}
+use mathlib.Core.List.{List, [], _∷_}
+use lib.Dec.{eqb}
+use Rattle.rules.specs.Records.{recordCount, kindOf, childA, childB, childC}
+use Rattle.rules.specs.Kinds.{source, between}
+use Rattle.rules.specs.Checker.{parentOf}
+use Rattle.rules.specs.Nodes.{_⇒_, byKind}
+use Rattle.rules.specs.declared.Search.the-variants as search
+
+-- "Parts listed in order nest as 44(first, 44(second, ..))": the records of a list, from those of its parts
+abbrev pub listRecords : ℕ → List ℕ → ℕ
+listRecords p [] = p
+listRecords p (q ∷ qs) = 1 + p + listRecords q qs
+
+-- the records that come from one copy of a record of kind k, not from its children: of its parts in order, a child's
+-- translation counts 0, and a record counts with those below it that are no child's; 1 where no list is
+abbrev pub ownRecords : ℕ → ℕ
+ownRecords k =
+    byKind k
+    -- "41: 60 t0 place; 41; 70 t0."
+    (41 ⇒ listRecords 1 (1 ∷ 1 ∷ [])
+    -- "42: 60 t0 place; 61 t2 size; 42; 61 t1 read of 12 t0; 68 n=1; 70 t0."
+    ∷ 42 ⇒ listRecords 1 (1 ∷ 1 ∷ 3 ∷ 1 ∷ 1 ∷ [])
+    -- "43: 61 t0; 43; 69 t0."
+    ∷ 43 ⇒ listRecords 1 (1 ∷ 1 ∷ [])
+    -- "47: let of (60 t0 variable; 61 t1 literal 1; 68 n=0; body; 60 t0 variable; 69 t0)."
+    ∷ 47 ⇒ (1 + listRecords 2 (2 ∷ 1 ∷ 0 ∷ 2 ∷ 1 ∷ []))
+    -- "48: predicate at level 0; 67 t0."
+    ∷ 48 ⇒ listRecords 0 (1 ∷ [])
+    -- "21–23, 30, 31: child at n+1; 64."
+    ∷ 21 ⇒ listRecords 0 (1 ∷ [])
+    ∷ 22 ⇒ listRecords 0 (1 ∷ [])
+    ∷ 23 ⇒ listRecords 0 (1 ∷ [])
+    ∷ 30 ⇒ listRecords 0 (1 ∷ [])
+    ∷ 31 ⇒ listRecords 0 (1 ∷ [])
+    -- "24, 32: A at n+1; B at n+2; 63."
+    ∷ 24 ⇒ listRecords 0 (0 ∷ 1 ∷ [])
+    ∷ 32 ⇒ listRecords 0 (0 ∷ 1 ∷ [])
+    -- "33: child at n+1; 65."
+    ∷ 33 ⇒ listRecords 0 (1 ∷ [])
+    -- "34: A at n; 66 with B at n, else skip. 35: A at n; 66 with skip, else B at n."
+    ∷ 34 ⇒ listRecords 0 (2 ∷ [])
+    ∷ 35 ⇒ listRecords 0 (2 ∷ [])
+    ∷ [])
+    1
+
+-- how often one copy of a record of kind k has child A's records, and child B's; C's it has once. "41, 42 or 43 in a
+-- list is the statement itself with its own further copy of its children": of 41 the place, of 42 the place and the
+-- size, of 43 the pointer stand in a part before it too
+abbrev pub copiesOfA : ℕ → ℕ
+copiesOfA k = cond (between 41 43 k) 2 1
+
+abbrev pub copiesOfB : ℕ → ℕ
+copiesOfB k = cond (eqb k 42) 2 1
+
+-- how often one copy of record m has record n's records, n being its A, B or C
+abbrev pub copiesIn : List ℕ → ℕ → ℕ → ℕ
+copiesIn t m n =
+    cond (eqb (childA t m) n) (copiesOfA (kindOf t m)) 0 + cond (eqb (childB t m) n) (copiesOfB (kindOf t m)) 0
+    + cond (eqb (childC t m) n) 1 0
+
+-- how many copies of record n the translation has; d bounds the records above
+unfoldable pub copiesOf : List ℕ → ℕ → ℕ → ℕ
+copiesOf t zero n = 1
+copiesOf t (suc d) n =
+    elim (parentOf source t n) [
+      | search.At m ↦ copiesIn t m n * copiesOf t d m
+      | search.Nothing ↦ 1
+    ]
+
+-- how many target records come from record n
+abbrev pub targetRecords : List ℕ → ℕ → ℕ
+targetRecords t n = copiesOf t (recordCount t) n * ownRecords (kindOf t n)
+
+-- f 1 + .. + f k
+unfoldable pub sum : ℕ → (ℕ → ℕ) → ℕ
+sum zero f = 0
+sum (suc k) f = sum k f + f (suc k)
