@@ -20,8 +20,10 @@ use Rattle.rules.specs.Demand3.{Agreement, Demand3}
 use Rattle.rules.specs.declared.Checked.the-variants as checked
 use Rattle.rules.proofs.UnrefusedRuns.{plain-runs, watched-runs}
 use Rattle.rules.proofs.Sound.{startScope, SoundStatement}
+use Rattle.rules.proofs.Acceptance.{accepted-says}
 use Rattle.rules.proofs.AcceptedPrograms.{accepted-program}
-use Rattle.rules.proofs.SizeBound.{size-bound}
+use Rattle.rules.proofs.RecordCopies.{at-most-14}
+use Rattle.rules.proofs.SizeBound.{all-records, size-bound}
 use Rattle.rules.proofs.TranslatedTables.{translatedSize, translation-count, translation-accepted}
 use Rattle.rules.proofs.TranslatedTables.{translation-program}
 use Rattle.rules.proofs.ReachableRoundTrip.{plain-round-trip}
@@ -53,7 +55,8 @@ module _ (t i : List ℕ) (f : ℕ) (c : check source t ≡ checked.Accepted) (e
       → w ≡ watchedEnded (watchedFrom (translate (sourceProgram t)) (inputsOf i) f) → Agreement t i f p w
   agreement p w r s = rw (r, s) record {
     accepted = translation-accepted t sound small;
-    bounded = omega (arith, translation-count t, size-bound t c);
+    bounded = at-most-14 t (accepted-says source t c);
+    all-counted = all-records t (accepted-says source t c) ∙ sym (translation-count t);
     neither-refused = same .unrefused;
     same-answer = sym (same .same-ending);
     same-memory = ap memoryImage (sym (same .same-memory));

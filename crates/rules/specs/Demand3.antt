@@ -1,5 +1,5 @@
 -- "Demand 3 in full", as one statement over every accepted source table, inputs, fuel and old memories.
-use Prim.Native.Nat.{ℕ, _*_, _≤_}
+use Prim.Native.Nat.{ℕ, _≤_}
 use mathlib.Core.Bool.{Bool, true, false}
 use mathlib.Core.List.{List}
 use mathlib.Core.Logic.{_≢_}
@@ -15,6 +15,7 @@ use Rattle.rules.specs.Plain.{Outcome, startVariables}
 use Rattle.rules.specs.Past.{PastOutcome, runPast, atFirstFalse}
 use Rattle.rules.specs.Observation.{mirror}
 use Rattle.rules.specs.Translation.{translation}
+use Rattle.rules.specs.Origins.{targetRecords, sum}
 use Rattle.rules.specs.Layout.{memoryOf, observationImage}
 use Rattle.rules.specs.Answers.{isIn, refusals, PlainRun, WatchedRun, inputsOf, plainEnded, runPlain, runWatched}
 use Rattle.rules.specs.declared.Checked.the-variants.{Accepted}
@@ -25,9 +26,11 @@ pastOutcome t i f = runPast (sourceProgram t) startVariables (startMemory (input
 
 -- what plain run p, watched run w of the translation, and the run that goes on past false assertions owe one another
 pub record Agreement (t i : List ℕ) (f : ℕ) (p : PlainRun) (w : WatchedRun) : Type 0 where
-  -- "The translation is refused by none of 1–8." "At most 14 target records come from each source record."
+  -- "The translation is refused by none of 1–8."
   pub accepted : check target (translation t) ≡ Accepted
-  pub bounded : recordCount (translation t) ≤ 14 * recordCount t
+  -- "At most 14 target records come from each source record.", and from these come all of them
+  pub bounded : (n : ℕ) → 1 ≤ n → n ≤ recordCount t → targetRecords t n ≤ 14
+  pub all-counted : sum (recordCount t) (targetRecords t) ≡ recordCount (translation t)
   -- "neither is refused"
   pub neither-refused : (isIn (p .answer .number) refusals ≡ false) × (isIn (w .answer .number) refusals ≡ false)
   -- the same ending, statement, fuel left, free cells, and execution memory byte for byte
