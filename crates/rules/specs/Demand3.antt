@@ -28,7 +28,7 @@ pastOutcome t i f = runPast (sourceProgram t) startVariables (startMemory (input
 pub record Agreement (t i : List ℕ) (f : ℕ) (p : PlainRun) (w : WatchedRun) : Type 0 where
   -- "The translation is refused by none of 1–8."
   pub accepted : check target (translation t) ≡ Accepted
-  -- "At most 14 target records come from each source record.", and from these come all of them
+  -- "At most 14 target records come from each source record."; those of all source records are the whole translation
   pub bounded : (n : ℕ) → 1 ≤ n → n ≤ recordCount t → targetRecords t n ≤ 14
   pub all-counted : sum (recordCount t) (targetRecords t) ≡ recordCount (translation t)
   -- "neither is refused"

@@ -14,8 +14,8 @@ abbrev pub listRecords : ℕ → List ℕ → ℕ
 listRecords p [] = p
 listRecords p (q ∷ qs) = 1 + p + listRecords q qs
 
--- the records that come from one copy of a record of kind k, not from its children: of its parts in order, a child's
--- translation counts 0, and a record counts with those below it that are no child's; 1 where no list is
+-- the records that come from one copy of a record of kind k, its children's not among them: of the parts in order, one
+-- that is a child's translation counts 0, another its record and those below it that are no child's
 abbrev pub ownRecords : ℕ → ℕ
 ownRecords k =
     byKind k
@@ -44,11 +44,12 @@ ownRecords k =
     ∷ 34 ⇒ listRecords 0 (2 ∷ [])
     ∷ 35 ⇒ listRecords 0 (2 ∷ [])
     ∷ [])
+    -- "20 is 61 tn"; "40, 44, 45, 46 keep their form"; expressions and places are copied
     1
 
 -- how often one copy of a record of kind k has child A's records, and child B's; C's it has once. "41, 42 or 43 in a
--- list is the statement itself with its own further copy of its children": of 41 the place, of 42 the place and the
--- size, of 43 the pointer stand in a part before it too
+-- list is the statement itself with its own further copy of its children": the place of 41 and 42, the size of 42 and
+-- what 43 frees stand in a part before it too
 abbrev pub copiesOfA : ℕ → ℕ
 copiesOfA k = cond (between 41 43 k) 2 1
 
