@@ -157,8 +157,8 @@ recorder_answer recorder_run_plain(const uint8_t *table, size_t table_len, const
  * Refusals: 1 to 7, 9, 21, then 22. Endings: 0, 30 to 33, 40 to 49.
  *
  * With the translation of an accepted source table, equal inputs and equal fuel the answer and the execution memory are
- * those of the plain run. After ending 0 or 33 the observation memory mirrors the execution memory: block states 0, 1,
- * 2, 3 there are 0, 1, 1, 2 here with equal first and length, and a mark is 1 where the cell holds an integer or a
+ * those of the plain run. At every ending but 42 the observation memory mirrors the execution memory: block states 0,
+ * 1, 2, 3 there are 0, 1, 1, 2 here with equal first and length, and a mark is 1 where the cell holds an integer or a
  * pointer.
  */
 recorder_answer recorder_run_watched(const uint8_t *table, size_t table_len, const uint8_t *inputs, size_t inputs_len,
