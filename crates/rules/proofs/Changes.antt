@@ -8,7 +8,9 @@ use Rattle.rules.specs.Memory.{isUnused, nextName, freeRun, Use, freeabl
 use Rattle.rules.specs.Memory.{makeBlock, assigned, storeNew, newOfSize, allocated, freeOf, freed}
 use Rattle.rules.proofs.Keeping.{AnyNumber, ChangeKeeps, MadeKeeps}
 use Rattle.rules.proofs.Invariant.{Invariant, Onward, onward-itself, onward-then}
-use Rattle.rules.proofs.BlockChanges.{onward-store, HasRoom, room, onward-make, make-given, onward-free, Leads, leads}
+use Rattle.rules.proofs.Pointing.{Leads, leads}
+use Rattle.rules.proofs.Room.{HasRoom, room}
+use Rattle.rules.proofs.BlockChanges.{onward-store, onward-make, make-given, onward-free}
 use Rattle.rules.specs.declared.Pointer.{Pointer}
 use Rattle.rules.specs.declared.Value.{Value}
 use Rattle.rules.specs.declared.Value.the-variants as value
@@ -35,7 +37,7 @@ change-kept m (stopped c m₁) h = (tt, h)
 onward-cell : (m : Memory) (p : Pointer) (v : Value) → Invariant m → Onward m (changedMemory (storeCell m p v))
 onward-cell m p v y = go (locate m p) (leads m p y)
   where
-    go : (r : Located) → Leads m r
+    go : (r : Located) → Leads m (p .name) r
         → Onward m (changedMemory (atCell (λ i. changed (setCell m i (cell.Holds (p .name) v))) (λ k. stopped k m) r))
     go (located.At i) h = onward-store m i (p .name) v (h .0) y
     go located.Dead h = onward-itself y

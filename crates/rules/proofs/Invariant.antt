@@ -3,10 +3,12 @@ use Prim.Native.Nat.{ℕ, _+_, _≤_}
 use native.Mathlib.Omega.{arith}
 use mathlib.Core.Path.{_≡_, refl}
 use mathlib.Core.Logic.{_⊎_, inl, inr}
+use mathlib.Core.Bool.{true, false}
 use mathlib.Core.List.{List, map}
 use lib.ListN.{length}
 use Rattle.rules.specs.Sizes.{nameCount, cellCount}
-use Rattle.rules.specs.Memory.{Memory, recordedOf, blockOf, cellOf}
+use Rattle.rules.specs.Memory.{Memory, recordedOf, named, blockOf, cellOf, isUnused}
+use Rattle.rules.specs.Observation.{covers}
 use Rattle.rules.proofs.MemoryLaws.{coverage}
 use Rattle.rules.specs.declared.Block.{Block}
 use Rattle.rules.specs.declared.Block.the-variants as block
@@ -26,13 +28,25 @@ at-most-one (cell.Holds o v) = omega arith
 abbrev pub recordsOf : Memory → List Recorded
 recordsOf m = map recordedOf (m .blocks)
 
--- 255 names and 1,024 cells; live blocks lie within the cells; a cell is occupied where one live block covers it,
--- and free where none does
+-- below a name that was given every name was: the names that were given are 1, 2, 3 ..
+abbrev pub Rising : List Block → Type 0
+Rising l = (j k : ℕ) → 1 ≤ j → j ≤ k → k ≤ nameCount → isUnused (named l k block.Dead) ≡ false
+    → isUnused (named l j block.Dead) ≡ false
+
+-- a cell that is not free lies in the live block of its owner's name
+abbrev pub Owned : List Block → ℕ → Cell → Type 0
+Owned l i cell.Free = Unit {0}
+Owned l i (cell.Holds o v) = covers (recordedOf (named l o block.Dead)) i ≡ true
+
+-- 255 names, given in rising order, and 1,024 cells; live blocks lie within the cells; a cell is occupied where one
+-- live block covers it, whose name is its owner, and free where none does
 pub record Invariant (m : Memory) : Type 0 where
   pub names : length (m .blocks) ≡ nameCount
   pub size : length (m .cells) ≡ cellCount
   pub within : (k first n : ℕ) → recordedOf (blockOf m k) ≡ recorded.Live first n → first + n ≤ cellCount
   pub cover : (i : ℕ) → coverage (recordsOf m) i ≡ occupied (cellOf m i)
+  pub rising : Rising (m .blocks)
+  pub owned : (i : ℕ) → Owned (m .blocks) i (cellOf m i)
 
 -- what can become of a block: a name once given is never unused again, a fixed block stays where it is, a freeable one
 -- stays or dies, a dead one stays dead

@@ -53,6 +53,9 @@ pub mod PastRun
 -- Memories: what every change keeps.
 pub mod MemoryLaws
 pub mod Invariant
+pub mod Room
+pub mod Owners
+pub mod Pointing
 pub mod BlockChanges
 pub mod Changes
 pub mod PlainKept

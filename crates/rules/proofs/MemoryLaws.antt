@@ -119,6 +119,14 @@ covering s n i = go (leb s i) (ltb i (s + n)) refl refl
     go true true p q = inside (leb-true s i p) (ltb-true i (s + n) q)
     go true false p q = above (ltb-false i (s + n) q)
 
+pub covers-inside : (s n i : ℕ) → s ≤ i → i < s + n → covers (recorded.Live s n) i ≡ true
+covers-inside s n i p q = go (covering s n i)
+  where
+    go : {b : Bool} → Covering s n i b → b ≡ true
+    go (inside p₁ q₁) = refl
+    go (below p₁) = absurd (omega arith)
+    go (above p₁) = absurd (omega arith)
+
 -- how many live blocks cover place i
 abbrev pub coverage : List Recorded → ℕ → ℕ
 coverage [] i = 0
