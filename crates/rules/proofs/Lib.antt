@@ -44,6 +44,7 @@ pub mod Keeping
 pub mod Operations
 pub mod EvaluationEndings
 pub mod DefinedValues
+pub mod EvaluatedValues
 pub mod Outcomes
 pub mod Calls
 pub mod Endings
