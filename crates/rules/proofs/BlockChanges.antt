@@ -9,14 +9,13 @@ use mathlib.Core.List.{List, [], _∷_, map}
 use lib.ListN.{length, getD, set, length-set, length-map}
 use lib.Seq.{getD-set-same, getD-set-other}
 use Rattle.rules.specs.Sizes.{cellCount}
-use Rattle.rules.specs.Memory.{Memory, recordedOf, named, rename, blockOf, cellOf, setCell}
-use Rattle.rules.specs.Memory.{isFree, isUnused, Use, fixed, freeable, blockFor, withBlock, withoutCells, endBlock}
-use Rattle.rules.specs.Memory.{one}
+use Rattle.rules.specs.Memory.{Memory, recordedOf, named, rename, blockOf, cellOf, setCell, isFree, isUnused}
+use Rattle.rules.specs.Memory.{Use, fixed, freeable, blockFor, withBlock, withoutCells, endBlock, one}
 use Rattle.rules.specs.Observation.{covers}
 use Rattle.rules.proofs.Lists.{length-rename, length-fill}
 use Rattle.rules.proofs.MemoryLaws.{map-rename, named-map, named-rename-same, named-rename-other, named-rename}
-use Rattle.rules.proofs.MemoryLaws.{fill-inside, fill-below, fill-above, Covering, inside, below}
-use Rattle.rules.proofs.MemoryLaws.{above, covering, coverage, coverage-rename, coverage-named}
+use Rattle.rules.proofs.MemoryLaws.{fill-inside, fill-below, fill-above, Covering, inside, below, above}
+use Rattle.rules.proofs.MemoryLaws.{covering, coverage, coverage-rename, coverage-named}
 use Rattle.rules.proofs.Invariant.{occupied, at-most-one, recordsOf, Owned, Invariant, Becomes, becomes-itself}
 use Rattle.rules.proofs.Invariant.{Onward}
 use Rattle.rules.proofs.Room.{Room}
@@ -232,7 +231,7 @@ without-invariant m k first n e y = record {
     go i false g (above p) =
         rw (fill-above (m .cells) first n cell.Free i cell.Free p) (omega (arith, sum i, ap one g, y .cover i))
 
-end-invariant : (m : Memory) (k : ℕ) → Invariant m → Invariant (endBlock m k)
+pub end-invariant : (m : Memory) (k : ℕ) → Invariant m → Invariant (endBlock m k)
 end-invariant m k y = go (recordedOf (blockOf m k)) refl
   where
     go : (x : Recorded) → recordedOf (blockOf m k) ≡ x → Invariant (withoutCells m k x)

@@ -4,8 +4,8 @@ use mathlib.Core.Path.{_≡_, refl}
 use mathlib.Core.Bool.{false}
 use lib.IntN.{ℤ, pos, negsuc}
 use Rattle.rules.specs.Memory.{Memory, blockOf, locate, atCell, setCell, Change, changed, stopped, storeCell}
-use Rattle.rules.specs.Memory.{isUnused, nextName, freeRun, Use, freeable, Made, made, unmade, makeAt}
-use Rattle.rules.specs.Memory.{makeBlock, assigned, storeNew, newOfSize, allocated, freeOf, freed}
+use Rattle.rules.specs.Memory.{isUnused, nextName, freeRun, Use, freeable, Made, made, unmade, makeAt, makeBlock}
+use Rattle.rules.specs.Memory.{assigned, storeNew, newOfSize, allocated, freeOf, freed}
 use Rattle.rules.proofs.Keeping.{AnyNumber, ChangeKeeps, MadeKeeps}
 use Rattle.rules.proofs.Invariant.{Invariant, Onward, onward-itself, onward-then}
 use Rattle.rules.proofs.Pointing.{Leads, leads}

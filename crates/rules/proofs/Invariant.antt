@@ -1,9 +1,9 @@
 -- What holds of the execution memory at every step, and what can become of a block.
 use Prim.Native.Nat.{ℕ, _+_, _≤_}
 use native.Mathlib.Omega.{arith}
-use mathlib.Core.Path.{_≡_, refl}
+use mathlib.Core.Path.{_≡_, refl, ap}
 use mathlib.Core.Logic.{_⊎_, inl, inr}
-use mathlib.Core.Bool.{true, false}
+use mathlib.Core.Bool.{true, false, true≢false}
 use mathlib.Core.List.{List, map}
 use lib.ListN.{length}
 use Rattle.rules.specs.Sizes.{nameCount, cellCount}
@@ -68,6 +68,14 @@ becomes-then (block.Fixed first n) b c p q = rw p at q
 becomes-then (block.Freeable first n) b c (inl p) q = rw p at q
 becomes-then (block.Freeable first n) b c (inr p) q = inr (rw p at q)
 becomes-then block.Dead b c p q = rw p at q
+
+-- a name that was given stays given
+pub becomes-given : (b c : Block) → Becomes b c → isUnused b ≡ false → isUnused c ≡ false
+becomes-given block.Unused c h e = absurd (true≢false e)
+becomes-given (block.Fixed first n) c h e = ap isUnused h
+becomes-given (block.Freeable first n) c (inl h) e = ap isUnused h
+becomes-given (block.Freeable first n) c (inr h) e = ap isUnused h
+becomes-given block.Dead c h e = ap isUnused h
 
 -- from memory m to memory m₁
 pub record Onward (m m₁ : Memory) : Type 0 where

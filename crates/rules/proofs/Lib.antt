@@ -63,6 +63,8 @@ pub mod PlainKept
 pub mod WatchedKept
 pub mod Totals
 pub mod Orderly
+pub mod GivenNames
+pub mod WatchedGiven
 -- Layouts: what fits, and is read back from its bytes.
 pub mod Fits
 pub mod FitsLaws
@@ -95,6 +97,7 @@ pub mod Start
 pub mod StartObservation
 pub mod WholeRun
 pub mod Inputs
+pub mod GivenPointers
 pub mod UnrefusedRuns
 pub mod Claim
 pub mod Cases

@@ -4,7 +4,7 @@ use Prim.Native.Nat.{ℕ, zero, suc, _+_, _≤_, _<_}
 use native.Mathlib.Omega.{arith}
 use native.Mathlib.Decide.{ℕ-discrete}
 use mathlib.Core.Path.{_≡_, refl, sym, ap, _∙_}
-use mathlib.Core.Logic.{_≢_, inl, inr}
+use mathlib.Core.Logic.{_≢_}
 use mathlib.Core.Bool.{Bool, true, false, true≢false}
 use mathlib.Core.List.{List, [], _∷_}
 use lib.ListN.{getD}
@@ -20,13 +20,12 @@ use Rattle.rules.specs.Watched.{Temporaries, watch}
 use Rattle.rules.specs.Answers.{memoryAfter, watchedMemoryAfter}
 use Rattle.rules.proofs.MemoryLaws.{named-map, Covering, inside, below, above, covering, covers-inside}
 use Rattle.rules.proofs.MemoryLaws.{coverage, coverage-named}
-use Rattle.rules.proofs.Invariant.{occupied, at-most-one, recordsOf, Owned, Invariant, Becomes, Onward}
+use Rattle.rules.proofs.Invariant.{occupied, at-most-one, recordsOf, Owned, Invariant, becomes-given, Onward}
 use Rattle.rules.proofs.BlockChanges.{covered-once}
 use Rattle.rules.proofs.Changes.{onward-made}
 use Rattle.rules.proofs.PlainKept.{plain-onward}
 use Rattle.rules.proofs.WatchedKept.{watched-onward}
 use Rattle.rules.proofs.Totals.{liveLength, countOccupied, total, total-occupied}
-use Rattle.rules.specs.declared.Block.{Block}
 use Rattle.rules.specs.declared.Block.the-variants as block
 use Rattle.rules.specs.declared.Recorded.{Recorded}
 use Rattle.rules.specs.declared.Recorded.the-variants as recorded
@@ -108,14 +107,6 @@ elsewhere-free m y i none = go (cellOf m i) (y .owned i)
     go : (c : Cell) → Owned (m .blocks) i c → c ≡ cell.Free
     go cell.Free h = refl
     go (cell.Holds o v) h = absurd (within o (recordedOf (blockOf m o)) refl h)
-
--- a name that was given stays given, a dead one stays dead
-becomes-given : (b c : Block) → Becomes b c → isUnused b ≡ false → isUnused c ≡ false
-becomes-given block.Unused c h e = absurd (true≢false e)
-becomes-given (block.Fixed first n) c h e = ap isUnused h
-becomes-given (block.Freeable first n) c (inl h) e = ap isUnused h
-becomes-given (block.Freeable first n) c (inr h) e = ap isUnused h
-becomes-given block.Dead c h e = ap isUnused h
 
 -- after a run from memory m to memory m₁: "Free cells plus lengths of live blocks make 1,024"; no cell lies in two live
 -- blocks; every cell of a live block has its name as owner, and every other cell is free; the names that were given are
