@@ -9,17 +9,20 @@ use mathlib.Core.List.{List, [], _∷_, map}
 use lib.ListN.{length, getD, set, length-set, length-map}
 use lib.Seq.{getD-set-same, getD-set-other}
 use Rattle.rules.specs.Sizes.{cellCount}
-use Rattle.rules.specs.Memory.{Memory, recordedOf, named, rename, blockOf, cellOf, setCell, isFree, isUnused}
-use Rattle.rules.specs.Memory.{Use, fixed, freeable, blockFor, withBlock, withoutCells, endBlock, one}
+use Rattle.rules.specs.Memory.{Memory, recordedOf, named, rename, blockOf, cellOf, stopped, setCell, storeCell}
+use Rattle.rules.specs.Memory.{isFree, isUnused, Use, fixed, freeable, blockFor, withBlock, withoutCells}
+use Rattle.rules.specs.Memory.{endBlock, one}
 use Rattle.rules.specs.Observation.{covers}
 use Rattle.rules.proofs.Lists.{length-rename, length-fill}
 use Rattle.rules.proofs.MemoryLaws.{map-rename, named-map, named-rename-same, named-rename-other, named-rename}
 use Rattle.rules.proofs.MemoryLaws.{fill-inside, fill-below, fill-above, Covering, inside, below, above}
 use Rattle.rules.proofs.MemoryLaws.{covering, coverage, coverage-rename, coverage-named}
 use Rattle.rules.proofs.Invariant.{occupied, at-most-one, recordsOf, Owned, Invariant, Becomes, becomes-itself}
-use Rattle.rules.proofs.Invariant.{Onward}
+use Rattle.rules.proofs.Invariant.{Onward, onward-itself, changedMemory}
 use Rattle.rules.proofs.Room.{Room}
+use Rattle.rules.proofs.Pointing.{at-pointed}
 use Rattle.rules.proofs.Owners.{given-renamed, rising-renamed, owned-renamed, owned-set}
+use Rattle.rules.specs.declared.Pointer.{Pointer}
 use Rattle.rules.specs.declared.Value.{Value}
 use Rattle.rules.specs.declared.Value.the-variants as value
 use Rattle.rules.specs.declared.Block.{Block}
@@ -43,7 +46,7 @@ covered-once m k i e =
     omega (arith, rw (named-map recordedOf (m .blocks) k block.Dead, e) at z)
 
 -- a store into a cell of a live block, whose name is the cell's owner
-pub onward-store : (m : Memory) (i o : ℕ) (v : Value) → covers (recordedOf (blockOf m o)) i ≡ true → Invariant m
+onward-store : (m : Memory) (i o : ℕ) (v : Value) → covers (recordedOf (blockOf m o)) i ≡ true → Invariant m
     → Onward m (setCell m i (cell.Holds o v))
 onward-store m i o v h y = record {
   invariant = record {
@@ -64,6 +67,11 @@ onward-store m i o v h y = record {
         → coverage (recordsOf m) j ≡ occupied (getD (set (m .cells) i (cell.Holds o v)) j cell.Free)
     go j (no d) = rw (getD-set-other (m .cells) i j (cell.Holds o v) cell.Free d) (y .cover j)
     go j (yes e) = rw (e, getD-set-same (m .cells) i (cell.Holds o v) cell.Free (full .0)) (y .cover i ∙ full .1)
+
+pub onward-cell : (m : Memory) (p : Pointer) (v : Value) → Invariant m → Onward m (changedMemory (storeCell m p v))
+onward-cell m p v y =
+    at-pointed (λ c. Onward m (changedMemory c)) _ (λ k. stopped k m) m p y (λ i h. onward-store m i _ v h y)
+    (onward-itself y)
 
 -- the number of blocks that cover a cell, after the block of one name was set
 coverage-block : (l : List Block) (k : ℕ) (x : Block) (i : ℕ) → 1 ≤ k → k ≤ length l

@@ -7,7 +7,7 @@ use mathlib.Core.Bool.{true, false, true≢false}
 use mathlib.Core.List.{List, map}
 use lib.ListN.{length}
 use Rattle.rules.specs.Sizes.{nameCount, cellCount}
-use Rattle.rules.specs.Memory.{Memory, recordedOf, named, blockOf, cellOf, isUnused}
+use Rattle.rules.specs.Memory.{Memory, recordedOf, named, blockOf, cellOf, Change, changed, stopped, isUnused}
 use Rattle.rules.specs.Observation.{covers}
 use Rattle.rules.proofs.MemoryLaws.{coverage}
 use Rattle.rules.specs.declared.Block.{Block}
@@ -90,3 +90,8 @@ onward-then {m} {m₁} {m₂} p q = record {
   invariant = q .invariant;
   becomes = λ k. becomes-then (blockOf m k) (blockOf m₁ k) (blockOf m₂ k) (p .becomes k) (q .becomes k);
 }
+
+-- the memory after a change, or where it stopped
+abbrev pub changedMemory : Change → Memory
+changedMemory (changed m) = m
+changedMemory (stopped c m) = m

@@ -2,7 +2,7 @@
 -- a cell's owner is its block, names are given in rising order, and none twice.
 use Prim.Native.Nat.{ℕ, zero, suc, _+_, _≤_, _<_}
 use native.Mathlib.Omega.{arith}
-use native.Mathlib.Decide.{ℕ-discrete}
+use native.Mathlib.Decide.{ℕ-discrete, decLt}
 use mathlib.Core.Path.{_≡_, refl, sym, ap, _∙_}
 use mathlib.Core.Logic.{_≢_}
 use mathlib.Core.Bool.{Bool, true, false, true≢false}
@@ -155,6 +155,22 @@ made-unused m m₁ u n k y e = (rw e at (onward-made m u n y)) .0
 pub made-given : (m m₁ : Memory) (u : Use) (n k : ℕ) → Invariant m → makeBlock m u n ≡ made k m₁
     → isUnused (blockOf m₁ k) ≡ false
 made-given m m₁ u n k y e = (rw e at (onward-made m u n y)) .2
+
+-- and one above every name that was given: names rise
+pub made-above : (m m₁ : Memory) (u : Use) (n k : ℕ) → Invariant m → makeBlock m u n ≡ made k m₁
+    → (j : ℕ) → j ≤ nameCount → isUnused (blockOf m j) ≡ false → j < k
+made-above m m₁ u n k y e j l h = go (decLt j k)
+  where
+    unused : isUnused (blockOf m k) ≡ true
+    unused = ap isUnused (made-unused m m₁ u n k y e)
+
+    not-0 : (i : ℕ) → isUnused (blockOf m i) ≡ true → 1 ≤ i
+    not-0 zero w = absurd (true≢false (sym w))
+    not-0 (suc i) w = omega arith
+
+    go : Dec (j < k) → j < k
+    go (yes d) = d
+    go (no d) = absurd (true≢false (sym unused ∙ y .rising k j (not-0 k unused) (omega arith) l h))
 
 -- so no name is given twice, where names stay given from m₁ to m₂, as in every run (`given`) and at a let's end
 -- (`end-given`)

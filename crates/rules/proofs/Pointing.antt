@@ -7,7 +7,7 @@ use lib.Dec.{ltb}
 use lib.IntN.{ℤ, pos, negsuc}
 use borrow.Author.Tests.{ltb-true}
 use Rattle.rules.specs.Sizes.{cellCount}
-use Rattle.rules.specs.Memory.{Memory, recordedOf, blockOf, locatedIn, locate}
+use Rattle.rules.specs.Memory.{Memory, recordedOf, blockOf, locatedIn, locate, atCell}
 use Rattle.rules.specs.Observation.{covers}
 use Rattle.rules.proofs.MemoryLaws.{covers-inside}
 use Rattle.rules.proofs.Invariant.{Invariant}
@@ -40,3 +40,14 @@ leads m p y = go (recordedOf (blockOf m (p .name))) (p .offset) refl
               ap (λ b. covers b (first + o)) e ∙ covers-inside first n (first + o) (omega arith) (omega arith),
               omega (arith, y .within (p .name) first n e),
             )
+
+-- so what is done at a pointer's cell is done at a cell of its block
+pub at-pointed : {A : Type 0} (P : A → Type 0) (at stop : ℕ → A) (m : Memory) (p : Pointer) → Invariant m
+    → ((i : ℕ) → covers (recordedOf (blockOf m (p .name))) i ≡ true → P (at i)) → P (stop 42)
+    → P (atCell at stop (locate m p))
+at-pointed P at stop m p y g h = go (locate m p) (leads m p y)
+  where
+    go : (r : Located) → Leads m (p .name) r → P (atCell at stop r)
+    go (located.At i) w = g i (w .0)
+    go located.Dead w = h
+    go located.Outside w = h
