@@ -1,9 +1,8 @@
 -- From what the parts answer to what the whole does.
 use Prim.Native.Nat.{ℕ}
-use native.Mathlib.Omega.{arith}
 use mathlib.Core.Bool.{Bool, cond}
 use mathlib.Core.List.{List}
-use mathlib.Core.Logic.{_≢_, inl, inr}
+use mathlib.Core.Logic.{_≢_}
 use mathlib.Core.Path.{_≡_, refl, sym, ap, ap₂, _∙_, subst}
 use borrow.Author.Tests.{ne-eqb}
 use Rattle.rules.specs.Memory.{Memory, Change, changed, stopped}
@@ -13,7 +12,8 @@ use Rattle.rules.specs.Plain.{Outcome, finished, ended, next, after, asserted, 
 use Rattle.rules.specs.Layout.{memoryOf}
 use Rattle.rules.specs.declared.Test.{Test}
 use Rattle.rules.specs.declared.Test.the-variants as test
-use Rattle.rules.proofs.Keeping.{Ending}
+use Rattle.rules.specs.Answers.{plainEndings}
+use Rattle.rules.proofs.Among.{Among, among-not}
 use Rattle.rules.proofs.Endings.{PlainEnds, run-endings}
 use Rattle.endings.specs.declared.Ended.{Ended}
 use Rattle.statements.proofs.ChangeLaws.{becomes-same, becomes-then}
@@ -26,9 +26,8 @@ pub ran-is : {o p : Outcome} {r : Ended} {a b : List ℕ} → o ≡ p → Ran p 
 ran-is {o} {p} {r} {a} {b} e h = subst (λ (x : Outcome). Ran x r a b) (sym e) h
 
 -- no ending has the number 0
-ends-above : (c : ℕ) → Ending 48 c → c ≢ 0
-ends-above c (inl h) e = omega arith
-ends-above c (inr h) e = omega arith
+ends-above : (c : ℕ) → Among plainEndings c → c ≢ 0
+ends-above c h = among-not plainEndings c 0 refl h
 
 -- a change that statement n makes
 pub ran-change : (x : Change) (k n f : ℕ) {a b : List ℕ} → PlainEnds (after n f x) → Does x k a b

@@ -2,6 +2,7 @@
 use Prim.Native.Nat.{ℕ, zero, suc}
 use native.Mathlib.Omega.{arith}
 use mathlib.Core.Path.{_≡_, refl, ap, _∙_}
+use mathlib.Core.Logic.{_≢_}
 use lib.IntN.{pos, negsuc}
 use lib.Seq.{getD-set-same}
 use Rattle.rules.specs.Memory.{Memory, recordedOf, blockOf, locate, readCell, setCell, nextName, freeRun, fixed}
@@ -72,9 +73,9 @@ agree-stored : (s : ℕ) (m : Memory) (τ : Temporaries) (f : ℕ) (p : Pointer)
     → let c = stored (withBlock m freeable k first (suc n)) p (pointerTo k 0) r in
     Agree (plain.after s f c) (next (after s (mirror m) τ f c) (recordAfter s))
 agree-stored s m τ f p n k first located.Dead h g y e t₀ t₂ l =
-    both-end (λ (z : _≡_ {A = ℕ} 42 33). absurd (omega arith))
+    both-end (λ (d : _≢_ {A = ℕ} 42 42). absurd (d refl))
 agree-stored s m τ f p n k first located.Outside h g y e t₀ t₂ l =
-    both-end (λ (z : _≡_ {A = ℕ} 42 33). absurd (omega arith))
+    both-end (λ (d : _≢_ {A = ℕ} 42 42). absurd (d refl))
 agree-stored s m τ f p n k first (located.At i) h g y e t₀ t₂ l =
     rw (recordAfter-is s (setCell m₁ i (cell.Holds (p .name) (pointerTo k 0))) (mirror m) (mirror m₁) o₂ τ f
     (pointerTo k 0) back record-block mark) (both-finish refl (full-put τ 1 (pointerTo k 0) l))

@@ -2,19 +2,21 @@
 use Prim.Native.Nat.{ℕ, _≤_}
 use native.Mathlib.Omega.{arith}
 use mathlib.Core.Path.{_≡_, refl, sym, _∙_, subst}
-use mathlib.Core.Bool.{Bool, true, false}
+use mathlib.Core.Bool.{Bool, true, false, cond}
 use mathlib.Core.List.{List}
+use mathlib.Core.Option.{Option, none, some}
 use lib.Dec.{ltb}
 use borrow.Author.Tests.{ltb-true, ltb-false, le-ltb}
-use Rattle.rules.specs.Records.{recordCount}
-use Rattle.rules.specs.Kinds.{Language, source, target}
+use Rattle.rules.specs.Records.{recordCount, kindOf, recordAt}
+use Rattle.rules.specs.Kinds.{Language, source, target, Form, formOf}
 use Rattle.rules.specs.Checker.{lengthFault, countFault, recordFault, shapeFault, scopeFault, levelFault}
-use Rattle.rules.specs.Checker.{lowestRecord, refuseAt, lastRule, check}
-use Rattle.rules.specs.Answers.{checkedAnswer}
+use Rattle.rules.specs.Checker.{lowestRecord, refuseAt, lastRule, check, fieldsFit, childrenFit, faultOf}
+use Rattle.rules.specs.Answers.{refusals, checkedAnswer}
 use Rattle.rules.specs.declared.Search.{Search}
 use Rattle.rules.specs.declared.Search.the-variants as search
 use Rattle.rules.specs.declared.Checked.{Checked}
 use Rattle.rules.specs.declared.Checked.the-variants as checked
+use Rattle.rules.proofs.Among.{Among, among-not}
 use Rattle.rules.proofs.SearchLaws.{lowest-nothing, Outcome, lowest-outcome}
 use Rattle.rules.proofs.ParentLaws.{Passed}
 
@@ -129,34 +131,48 @@ accepted-keeps l t e =
 pub accepted-last : (l : Language) (t : List ℕ) → check l t ≡ checked.Accepted → lastRule l t ≡ checked.Accepted
 accepted-last l t e = accepted-found l t e .last-is
 
--- a refusal's number is not 0
-abbrev Numbered : Checked → Type 0
+-- a refusal has one of the numbers of refusals
+abbrev pub Numbered : Checked → Type 0
 Numbered checked.Accepted = Unit {0}
-Numbered (checked.Refused k n) = 1 ≤ k
+Numbered (checked.Refused k n) = Among refusals k
 
 last-numbered : (l : Language) (t : List ℕ) → Numbered (lastRule l t)
 last-numbered source t = go (lowestRecord t (levelFault t))
   where
     go : (s : Search) → Numbered (refuseAt 8 s)
-    go (search.At n) = omega arith
+    go (search.At n) = refl
     go search.Nothing = tt
 last-numbered target t = tt
 
+-- a record's fault is 3, 4 or 5
+fault-numbered : (l : Language) (t : List ℕ) (n : ℕ) → 1 ≤ recordFault l t n → Among refusals (recordFault l t n)
+unfolding recordFault
+fault-numbered l t n h = go (formOf l (kindOf t n)) h
+  where
+    by-tests : (p q : Bool) → 1 ≤ cond p (cond q 0 5) 4 → Among refusals (cond p (cond q 0 5) 4)
+    by-tests true true k = absurd (omega arith)
+    by-tests true false k = refl
+    by-tests false q k = refl
+
+    go : (f : Option Form) → 1 ≤ faultOf l t n f → Among refusals (faultOf l t n f)
+    go none k = refl
+    go (some f) k = by-tests (fieldsFit f (recordAt t n)) (childrenFit l t n f (recordAt t n)) k
+
 order-numbered : (p q : Bool) (s : Search) (f : ℕ → ℕ) (u v : Search) (r : Checked)
-    → ((n : ℕ) → s ≡ search.At n → 1 ≤ f n) → Numbered r → Numbered (inOrder p q s f u v r)
-order-numbered true q s f u v r g h = omega arith
-order-numbered false true s f u v r g h = omega arith
+    → ((n : ℕ) → s ≡ search.At n → Among refusals (f n)) → Numbered r → Numbered (inOrder p q s f u v r)
+order-numbered true q s f u v r g h = refl
+order-numbered false true s f u v r g h = refl
 order-numbered false false (search.At n) f u v r g h = g n refl
-order-numbered false false search.Nothing f (search.At n) v r g h = omega arith
-order-numbered false false search.Nothing f search.Nothing (search.At n) r g h = omega arith
+order-numbered false false search.Nothing f (search.At n) v r g h = refl
+order-numbered false false search.Nothing f search.Nothing (search.At n) r g h = refl
 order-numbered false false search.Nothing f search.Nothing search.Nothing r g h = h
 
-check-numbered : (l : Language) (t : List ℕ) → Numbered (check l t)
+pub check-numbered : (l : Language) (t : List ℕ) → Numbered (check l t)
 check-numbered l t =
     let p : ℕ → Bool = λ n. ltb 0 (recordFault l t n) in
-    let found-at : (n : ℕ) → recordSearch l t ≡ search.At n → 1 ≤ recordFault l t n =
-    λ n e. ltb-true 0 (recordFault l t n)
-    (subst (Outcome p 1 (recordCount t)) e (lowest-outcome p 1 (recordCount t)) .2) in
+    let found-at : (n : ℕ) → recordSearch l t ≡ search.At n → Among refusals (recordFault l t n) =
+    λ n e. fault-numbered l t n (ltb-true 0 (recordFault l t n)
+    (subst (Outcome p 1 (recordCount t)) e (lowest-outcome p 1 (recordCount t)) .2)) in
     subst Numbered (sym (check-in-order l t))
     (order-numbered (lengthFault t) (countFault l t) (recordSearch l t) (recordFault l t)
     (lowestRecord t (shapeFault l t)) (lowestRecord t (scopeFault l t)) (lastRule l t) found-at (last-numbered l t))
@@ -166,4 +182,4 @@ zero-accepts l t e = go (check l t) (check-numbered l t) e
   where
     go : (c : Checked) → Numbered c → checkedAnswer c .number ≡ 0 → c ≡ checked.Accepted
     go checked.Accepted h e₁ = refl
-    go (checked.Refused k n) h e₁ = absurd (omega (arith, h, e₁))
+    go (checked.Refused k n) h e₁ = absurd (among-not refusals k 0 refl h e₁)

@@ -54,6 +54,7 @@ module _ (t i : List ℕ) (f : ℕ) (c : check source t ≡ checked.Accepted) (e
   agreement p w r s = rw (r, s) record {
     accepted = translation-accepted t sound small;
     bounded = omega (arith, translation-count t, size-bound t c);
+    neither-refused = same .unrefused;
     same-answer = sym (same .same-ending);
     same-memory = ap memoryImage (sym (same .same-memory));
     first-false = ap plainEnded (up-to-first-false (sourceProgram t) (inputsOf i) f);

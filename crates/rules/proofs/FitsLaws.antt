@@ -144,7 +144,7 @@ pub withMarks-fits : (o : Observation) (k : ℕ) (b : Recorded) (first n : ℕ) 
     → FitsObservation (withMarks o k b first n)
 withMarks-fits o k b first n h r = record {
   record-count = length-rename (o .blocks) k b ∙ h .record-count;
-  mark-count = length-fill (o .marks) first n false ∙ h .mark-count;
+  mark-count = length-fill (o .marks) _ _ _ ∙ h .mark-count;
   records-fit = all-rename (h .records-fit) k r;
 }
 

@@ -1,7 +1,5 @@
 -- What holds of evaluations, changes and outcomes, by their parts.
-use Prim.Native.Nat.{ℕ, zero, suc, _≤_, _<_}
-use native.Mathlib.Omega.{arith}
-use mathlib.Core.Logic.{_⊎_, inl, inr}
+use Prim.Native.Nat.{ℕ, zero, suc}
 use mathlib.Core.Path.{_≡_, refl}
 use lib.IntN.{ℤ, pos, negsuc}
 use Rattle.rules.specs.Memory.{Memory, Change, changed, stopped, Use, freeable, Made, made, unmade, makeAt}
@@ -10,6 +8,8 @@ use Rattle.rules.specs.Memory.{storeNew, newOfSize, freeOf, freeAt, assi
 use Rattle.rules.specs.Memory.{onPlace, onInteger, onPointer}
 use Rattle.rules.specs.Evaluation.{onTest}
 use Rattle.rules.specs.Observation.{Observation}
+use Rattle.rules.specs.Answers.{plainEndings}
+use Rattle.rules.proofs.Among.{Among}
 use Rattle.rules.specs.declared.Pointer.{Pointer}
 use Rattle.rules.specs.declared.Value.{Value}
 use Rattle.rules.specs.declared.Value.the-variants as values
@@ -103,13 +103,6 @@ module _ {A : Type 0} (P : A → Type 0) (C : ℕ → Type 0) (stop : ℕ → A)
   at-cell located.Dead at c g = stops 42 c
   at-cell located.Outside at c g = stops 42 c
 
--- "30, 31, 32, 33" of a statement, and 40 up to a limit, which evaluating has too
-abbrev pub Late : ℕ → ℕ → Type 0
-Late limit c = (40 ≤ c) × (c < limit)
-
-abbrev pub Ending : ℕ → ℕ → Type 0
-Ending limit c = ((30 ≤ c) × (c < 34)) ⊎ Late limit c
-
 -- J of the memory after a change, E of the number of a stop; K of a new block's name and memory
 abbrev pub ChangeKeeps : (Memory → Type 0) → (ℕ → Type 0) → Change → Type 0
 ChangeKeeps J E (changed m) = J m
@@ -120,12 +113,12 @@ MadeKeeps K E (made k m) = K k m
 MadeKeeps K E (unmade c) = E c
 
 -- D is of the numbers that evaluating stops with, G of values and H of places
-module _ (J : Memory → Type 0) (D E : ℕ → Type 0) (known : (c : ℕ) → Ending 48 c → E c) (widen : (c : ℕ) → D c → E c)
+module _ (J : Memory → Type 0) (D E : ℕ → Type 0) (known : (c : ℕ) → Among plainEndings c → E c) (widen : (c : ℕ) → D c → E c)
     (G : Value → Type 0) (H : Pointer → Type 0) where
   pub storeCell-keeps : (m : Memory) (p : Pointer) (v : Value) → J m
       → ((i : ℕ) → J (setCell m i (cell.Holds (p .name) v))) → ChangeKeeps J E (storeCell m p v)
   storeCell-keeps m p v j g =
-      at-cell (ChangeKeeps J E) E (λ k. stopped k m) (λ c x. (x, j)) (locate m p) _ (known 42 (inr (omega arith))) g
+      at-cell (ChangeKeeps J E) E (λ k. stopped k m) (λ c x. (x, j)) (locate m p) _ (known 42 refl) g
 
   pub assigned-keeps : (m : Memory) (f : Found) (e : Evaluated) → J m → Finds H D f → Gives G D e
       → ((p : Pointer) (v : Value) → H p → G v → (i : ℕ) → J (setCell m i (cell.Holds (p .name) v)))
@@ -138,8 +131,8 @@ module _ (J : Memory → Type 0) (D E : ℕ → Type 0) (known : (c : ℕ) → E
   pub makeAt-keeps : (K : ℕ → Memory → Type 0) (m : Memory) (u : Use) (n : ℕ) (r s : Search)
       → ((k first : ℕ) → r ≡ search.At k → s ≡ search.At first → K k (withBlock m u k first n))
       → MadeKeeps K E (makeAt m u n r s)
-  makeAt-keeps K m u n search.Nothing s g = known 31 (inl (omega arith))
-  makeAt-keeps K m u n (search.At k) search.Nothing g = known 30 (inl (omega arith))
+  makeAt-keeps K m u n search.Nothing s g = known 31 refl
+  makeAt-keeps K m u n (search.At k) search.Nothing g = known 30 refl
   makeAt-keeps K m u n (search.At k) (search.At first) g = g k first refl refl
 
   storeNew-keeps : {K : ℕ → Memory → Type 0} (m : Memory) (p : Pointer) (x : Made) → J m → MadeKeeps K E x
@@ -163,20 +156,20 @@ module _ (J : Memory → Type 0) (D E : ℕ → Type 0) (known : (c : ℕ) → E
       on-integer (ChangeKeeps J E) D (λ k. stopped k m) (λ c x. (widen c x, j)) G v _ d hv (λ z hz. sized p hp z)))
     where
       sized : (p : Pointer) → H p → (z : ℤ) → ChangeKeeps J E (newOfSize m p z)
-      sized p hp (pos zero) = (known 45 (inr (omega arith)), j)
+      sized p hp (pos zero) = (known 45 refl, j)
       sized p hp (pos (suc n)) = storeNew-keeps m p (makeBlock m freeable (suc n)) j (makes n) g₁ (g₂ p hp)
-      sized p hp (negsuc n) = (known 45 (inr (omega arith)), j)
+      sized p hp (negsuc n) = (known 45 refl, j)
 
   freeAt-keeps : (m : Memory) (k : ℕ) (z : ℤ) → J m → J (endBlock m k) → ChangeKeeps J E (freeAt m k z)
   freeAt-keeps m k (pos zero) j g = by-block (blockOf m k)
     where
       by-block : (b : Block) → ChangeKeeps J E (freeOf m k b)
-      by-block block.Unused = (known 46 (inr (omega arith)), j)
-      by-block (block.Fixed first n) = (known 46 (inr (omega arith)), j)
+      by-block block.Unused = (known 46 refl, j)
+      by-block (block.Fixed first n) = (known 46 refl, j)
       by-block (block.Freeable first n) = g
-      by-block block.Dead = (known 46 (inr (omega arith)), j)
-  freeAt-keeps m k (pos (suc o)) j g = (known 46 (inr (omega arith)), j)
-  freeAt-keeps m k (negsuc o) j g = (known 46 (inr (omega arith)), j)
+      by-block block.Dead = (known 46 refl, j)
+  freeAt-keeps m k (pos (suc o)) j g = (known 46 refl, j)
+  freeAt-keeps m k (negsuc o) j g = (known 46 refl, j)
 
   pub freed-keeps : (m : Memory) (e : Evaluated) → J m → Gives G D e → D 40 → ((k : ℕ) → J (endBlock m k))
       → ChangeKeeps J E (freed m e)

@@ -235,9 +235,10 @@ module _ (o : Observation) (fits : FitsObservation o) where
       record-back FitsRecorded recordedBytes recordedFrom length-recordedBytes recorded-back (o .blocks) recorded.Dead
       (flat markBytes (o .marks)) k (fits .records-fit) tt (omega (arith, fits .record-count))
 
-  pub image-mark : (i : ℕ) → i < cellCount → markAt (observationImage o) i ≡ getD (o .marks) i false
-  unfolding markAt observationImage
-  image-mark i h =
+  pub image-mark-byte : (i : ℕ) → i < cellCount
+      → getD (observationImage o) (markPlace i) 0 ≡ one (getD (o .marks) i false)
+  unfolding observationImage
+  image-mark-byte i h =
       let front : List ℕ = flat recordedBytes (o .blocks) in
       let l : i < length (o .marks) = omega (arith, fits .mark-count) in
       let s : length front ≡ 2040 =
@@ -245,7 +246,11 @@ module _ (o : Observation) (fits : FitsObservation o) where
       let e = append-nil (flat markBytes (o .marks)) in
       let x = row-byte markBytes 1 length-markBytes front (o .marks) [] i false l
       (markPlace i) 0 (omega arith) (omega arith) in
-      rw (← e, x) (mark-back (getD (o .marks) i false))
+      rw (← e) x
+
+  pub image-mark : (i : ℕ) → i < cellCount → markAt (observationImage o) i ≡ getD (o .marks) i false
+  unfolding markAt
+  image-mark i h = rw (image-mark-byte i h) (mark-back (getD (o .marks) i false))
 
   pub observation-back : observationOf (observationImage o) ≡ o
   unfolding observationOf

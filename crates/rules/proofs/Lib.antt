@@ -4,6 +4,7 @@
 pub mod CommonErrors
 -- Tests, searches, bytes and lists.
 pub mod BooleanLaws
+pub mod Among
 pub mod SearchLaws
 pub mod Lists
 pub mod WordLaws
@@ -47,6 +48,7 @@ pub mod DefinedValues
 pub mod EvaluatedValues
 pub mod Outcomes
 pub mod Calls
+pub mod ChangeEndings
 pub mod Endings
 pub mod Fuel
 pub mod Turns
@@ -65,6 +67,9 @@ pub mod Totals
 pub mod Orderly
 pub mod GivenNames
 pub mod WatchedGiven
+pub mod ObservationOrder
+pub mod ObservationKept
+pub mod ObservedRuns
 -- Layouts: what fits, and is read back from its bytes.
 pub mod Fits
 pub mod FitsLaws
@@ -74,6 +79,7 @@ pub mod FittingValues
 pub mod KeptPredicates
 pub mod Reachable
 pub mod ReachableRoundTrip
+pub mod ObservationBytes
 -- What the code's proofs use: changes of one record, runs of free places, tables with bytes behind them, expressions
 -- of both languages, statements kind by kind, and what acceptance gives.
 pub mod FillLaws

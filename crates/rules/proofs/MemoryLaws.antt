@@ -36,6 +36,13 @@ module _ {A B : Type 0} (g : A → B) where
   named-map l (suc k) d = List·getD-map g l k d
 
 module _ {A : Type 0} where
+  -- a name that names more than what stands for none is the name of a record
+  pub named-in : (l : List A) (k : ℕ) (d : A) → named l k d ≢ d → (1 ≤ k) × (k ≤ length l)
+  named-in l zero d h = absurd (h refl)
+  named-in [] (suc k) d h = absurd (h refl)
+  named-in (x ∷ l) (suc zero) d h = (omega arith, omega arith)
+  named-in (x ∷ l) (suc (suc k)) d h = let r = named-in l (suc k) d h in (omega arith, omega arith)
+
   pub named-rename-same : (l : List A) (k : ℕ) (x d : A) → 1 ≤ k → k ≤ length l → named (rename l k x) k d ≡ x
   named-rename-same l zero x d h le = absurd (omega arith)
   named-rename-same l (suc k) x d h le = getD-set-same l k x d (omega arith)
@@ -151,6 +158,33 @@ coverage-at (y ∷ l) (suc k) i = omega (arith, coverage-at l k i)
 pub coverage-named : (l : List Recorded) (k i : ℕ) → one (covers (named l k recorded.Dead) i) ≤ coverage l i
 coverage-named l zero i = omega arith
 coverage-named l (suc k) i = coverage-at l k i
+
+-- the blocks of two names cover a place at most as often as all blocks do
+coverage-two : (l : List Recorded) (j k i : ℕ) → j ≢ k
+    → one (covers (getD l j recorded.Dead) i) + one (covers (getD l k recorded.Dead) i) ≤ coverage l i
+coverage-two [] j k i d = omega arith
+coverage-two (b ∷ l) zero zero i d = absurd (d refl)
+coverage-two (b ∷ l) zero (suc k) i d = omega (arith, coverage-named l (suc k) i)
+coverage-two (b ∷ l) (suc j) zero i d = omega (arith, coverage-named l (suc j) i)
+coverage-two (b ∷ l) (suc j) (suc k) i d = omega (arith, coverage-two l j k i (λ e. d (ap suc e)))
+
+coverage-both : (l : List Recorded) (j k i : ℕ) → j ≢ k
+    → one (covers (named l j recorded.Dead) i) + one (covers (named l k recorded.Dead) i) ≤ coverage l i
+coverage-both l zero k i d = omega (arith, coverage-named l k i)
+coverage-both l (suc j) zero i d = omega (arith, coverage-named l (suc j) i)
+coverage-both l (suc j) (suc k) i d = coverage-two l j k i (λ e. d (ap suc e))
+
+-- where no place is covered twice, the blocks of two names do not cover the same, and live ones share none
+pub not-twice : (l : List Recorded) → ((i : ℕ) → coverage l i ≤ 1) → (j k i : ℕ) → j ≢ k
+    → covers (named l j recorded.Dead) i ≡ true → covers (named l k recorded.Dead) i ≡ true → ⊥
+not-twice l once j k i d e e₁ = let z = rw (e, e₁) at (coverage-both l j k i d) in omega (arith, z, once i)
+
+pub separate : (l : List Recorded) → ((i : ℕ) → coverage l i ≤ 1) → (j k first n first₁ n₁ : ℕ) → j ≢ k
+    → named l j recorded.Dead ≡ recorded.Live first n → named l k recorded.Dead ≡ recorded.Live first₁ n₁
+    → (i : ℕ) → first ≤ i → i < first + n → first₁ ≤ i → i < first₁ + n₁ → ⊥
+separate l once j k s n s₁ n₁ d e e₁ i p q p₁ q₁ =
+    not-twice l once j k i d
+    (ap (λ b. covers b i) e ∙ covers-inside s n i p q) (ap (λ b. covers b i) e₁ ∙ covers-inside s₁ n₁ i p₁ q₁)
 
 -- covered: by one block at least
 pub data Covered (l : List Recorded) (i : ℕ) : Bool → Type 0 where

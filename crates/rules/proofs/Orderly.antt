@@ -6,12 +6,10 @@ use native.Mathlib.Decide.{ℕ-discrete, decLt}
 use mathlib.Core.Path.{_≡_, refl, sym, ap, _∙_}
 use mathlib.Core.Logic.{_≢_}
 use mathlib.Core.Bool.{Bool, true, false, true≢false}
-use mathlib.Core.List.{List, [], _∷_}
-use lib.ListN.{getD}
 use Rattle.rules.specs.Sizes.{nameCount, cellCount}
 use Rattle.rules.specs.Trees.{Statement}
 use Rattle.rules.specs.TargetTrees.{TargetStatement}
-use Rattle.rules.specs.Memory.{Memory, recordedOf, named, blockOf, cellOf, isUnused, Use, made, makeBlock, one}
+use Rattle.rules.specs.Memory.{Memory, recordedOf, named, blockOf, cellOf, isUnused, Use, made, makeBlock}
 use Rattle.rules.specs.Memory.{countFree}
 use Rattle.rules.specs.Evaluation.{Variables}
 use Rattle.rules.specs.Observation.{Observation, covers}
@@ -19,7 +17,7 @@ use Rattle.rules.specs.Plain.{run}
 use Rattle.rules.specs.Watched.{Temporaries, watch}
 use Rattle.rules.specs.Answers.{memoryAfter, watchedMemoryAfter}
 use Rattle.rules.proofs.MemoryLaws.{named-map, Covering, inside, below, above, covering, covers-inside}
-use Rattle.rules.proofs.MemoryLaws.{coverage, coverage-named}
+use Rattle.rules.proofs.MemoryLaws.{not-twice, coverage}
 use Rattle.rules.proofs.Invariant.{occupied, at-most-one, recordsOf, Owned, Invariant, becomes-given, Onward}
 use Rattle.rules.proofs.BlockChanges.{covered-once}
 use Rattle.rules.proofs.Changes.{onward-made}
@@ -32,35 +30,21 @@ use Rattle.rules.specs.declared.Recorded.the-variants as recorded
 use Rattle.rules.specs.declared.Cell.{Cell}
 use Rattle.rules.specs.declared.Cell.the-variants as cell
 
--- the blocks of two names cover a place at most as often as all blocks do
-coverage-two : (l : List Recorded) (j k i : ℕ) → j ≢ k
-    → one (covers (getD l j recorded.Dead) i) + one (covers (getD l k recorded.Dead) i) ≤ coverage l i
-coverage-two [] j k i d = omega arith
-coverage-two (b ∷ l) zero zero i d = absurd (d refl)
-coverage-two (b ∷ l) zero (suc k) i d = omega (arith, coverage-named l (suc k) i)
-coverage-two (b ∷ l) (suc j) zero i d = omega (arith, coverage-named l (suc j) i)
-coverage-two (b ∷ l) (suc j) (suc k) i d = omega (arith, coverage-two l j k i (λ e. d (ap suc e)))
-
-coverage-both : (l : List Recorded) (j k i : ℕ) → j ≢ k
-    → one (covers (named l j recorded.Dead) i) + one (covers (named l k recorded.Dead) i) ≤ coverage l i
-coverage-both l zero k i d = omega (arith, coverage-named l k i)
-coverage-both l (suc j) zero i d = omega (arith, coverage-named l (suc j) i)
-coverage-both l (suc j) (suc k) i d = coverage-two l j k i (λ e. d (ap suc e))
-
+-- no cell lies in two live blocks
 two-covers : (m : Memory) → Invariant m → (j k i : ℕ) → j ≢ k → covers (recordedOf (blockOf m j)) i ≡ true
     → covers (recordedOf (blockOf m k)) i ≡ true → ⊥
 two-covers m y j k i d e e₁ =
-    let z = coverage-both (recordsOf m) j k i d in
-    let at-name = named-map recordedOf (m .blocks) in
-    let z₁ = rw (at-name j block.Dead, e, at-name k block.Dead, e₁) at z in
-    absurd (omega (arith, z₁, y .cover i, at-most-one (cellOf m i)))
+    not-twice (recordsOf m) (λ i₁. omega (arith, y .cover i₁, at-most-one (cellOf m i₁))) j k i d
+    (at-name j ∙ e) (at-name k ∙ e₁)
+  where
+    at-name : (k : ℕ) → covers (named (recordsOf m) k recorded.Dead) i ≡ covers (recordedOf (blockOf m k)) i
+    at-name k = ap (λ b. covers b i) (named-map recordedOf (m .blocks) k block.Dead)
 
 -- a live block covers each of its cells
 covers-live : (m : Memory) (k first n : ℕ) → recordedOf (blockOf m k) ≡ recorded.Live first n → (i : ℕ) → first ≤ i
     → i < first + n → covers (recordedOf (blockOf m k)) i ≡ true
 covers-live m k first n e i p q = ap (λ b. covers b i) e ∙ covers-inside first n i p q
 
--- no cell lies in two live blocks
 pub apart : (m : Memory) → Invariant m → (j k first n first₁ n₁ : ℕ) → j ≢ k
     → recordedOf (blockOf m j) ≡ recorded.Live first n → recordedOf (blockOf m k) ≡ recorded.Live first₁ n₁
     → (i : ℕ) → first ≤ i → i < first + n → first₁ ≤ i → i < first₁ + n₁ → ⊥

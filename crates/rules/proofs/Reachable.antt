@@ -30,7 +30,6 @@ use Rattle.rules.proofs.Calls.{store-called, delete-called, initialise-
 use Rattle.rules.proofs.Lists.{All, all-getD, all-set, all-replicate}
 use Rattle.rules.proofs.Fits.{FitsName, FitsPointer, FitsValue, FitsTemporary}
 use Rattle.rules.proofs.KeptPredicates.{MemoryInvariant, ObservationInvariant, MadeWith, makeBlock-keeps}
-use Rattle.rules.proofs.KeptPredicates.{stored-keeps}
 use Rattle.rules.proofs.FittingValues.{EvaluatedFits, operated-fits, queryObservation-fits, opposite-fits}
 use Rattle.rules.proofs.FittingValues.{held-fits, addressOf-fits, evaluate-fits, findPlace-fits}
 use Rattle.rules.specs.declared.Value.the-variants as value
@@ -241,12 +240,12 @@ module _ (J : Memory → Type 0) (v : MemoryInvariant J) (O : Observation → Ty
   watch-keeps (storeBlock s n) σ h ρ r m o τ f i =
       observed-kept m o τ f i s (calledOnTwo (heldIn τ n) (heldIn τ (suc n)) (observation.storeBlock o))
       (store-called O AnyNumber tt tt o (heldIn τ n) (heldIn τ (suc n)) (any-evaluated (heldIn τ n))
-      (any-evaluated (heldIn τ (suc n))) (stored-keeps O u o (i .observation-kept)))
+      (any-evaluated (heldIn τ (suc n))) (λ k l first. u .calls .storing o k first (suc l) (i .observation-kept)))
   watch-keeps (deleteBlock s n) σ h ρ r m o τ f i =
       observed-kept m o τ f i s (calledOn (heldIn τ n) (observation.deleteBlock o))
       (delete-called O AnyNumber tt tt o (heldIn τ n) (any-evaluated (heldIn τ n))
-      (λ k first l. u .deleting o k first l (i .observation-kept)))
+      (λ k first l. u .calls .deleting o k first l (i .observation-kept)))
   watch-keeps (initialise s n) σ h ρ r m o τ f i =
       observed-kept m o τ f i s (calledOn (heldIn τ n) (observation.initialise o))
       (initialise-called O AnyNumber tt tt o (heldIn τ n) (any-evaluated (heldIn τ n))
-      (λ j. u .marking o j (i .observation-kept)))
+      (λ p j. u .calls .marking o p j (i .observation-kept)))

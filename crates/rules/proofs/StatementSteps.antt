@@ -2,6 +2,7 @@
 use Prim.Native.Nat.{ℕ, zero, suc}
 use native.Mathlib.Omega.{arith}
 use mathlib.Core.Path.{_≡_, refl, ap}
+use mathlib.Core.Logic.{_≢_}
 use lib.IntN.{ℤ, pos, negsuc}
 use Rattle.rules.specs.Numbers.{tested}
 use Rattle.rules.specs.Memory.{Memory, recordedOf, blockOf, locate, atCell, setCell, Change, changed, stopped}
@@ -33,11 +34,11 @@ use Rattle.rules.specs.declared.Block.the-variants as block
 use Rattle.rules.specs.declared.Cell.the-variants as cell
 use Rattle.rules.specs.declared.Temporary.the-variants as temporary
 
--- what the two runs owe each other
+-- what the two runs owe each other: after a new block whose store ends 42 the observation memory lacks that block
 pub data Agree : Outcome → WatchedOutcome → Type 0 where
   both-finish : {m : Memory} {o : Observation} {τ : Temporaries} {f : ℕ} → o ≡ mirror m → Full τ
       → Agree (plain.finished m f) (finished m o τ f)
-  both-end : {c s : ℕ} {m : Memory} {o : Observation} {τ : Temporaries} {f : ℕ} → (c ≡ 33 → o ≡ mirror m)
+  both-end : {c s : ℕ} {m : Memory} {o : Observation} {τ : Temporaries} {f : ℕ} → (c ≢ 42 → o ≡ mirror m)
       → Agree (plain.ended c s m f) (ended c s m o τ f)
 
 -- a step that does so from every memory

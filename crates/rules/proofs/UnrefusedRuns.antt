@@ -1,17 +1,22 @@
--- A run that is not refused: of an accepted table, inputs without fault, and lent memories of the right length.
+-- Every call is refused, with one of the numbers of refusals and its buffers as they were, or runs; it runs where the
+-- table is accepted, the inputs are without fault and the lent memories of the right length.
 use Prim.Native.Nat.{ℕ}
-use mathlib.Core.Bool.{true, false, not}
+use mathlib.Core.Bool.{Bool, true, false, not}
 use mathlib.Core.List.{List}
-use mathlib.Core.Path.{_≡_, ap, _∙_}
+use mathlib.Core.Path.{_≡_, refl, ap, _∙_}
 use borrow.Author.Tests.{eq-eqb}
 use lib.Dec.{eqb}
 use lib.ListN.{length}
 use Rattle.rules.specs.Sizes.{memoryLength, observationLength}
 use Rattle.rules.specs.Kinds.{source, target}
-use Rattle.rules.specs.Checker.{check, inputsFault}
+use Rattle.rules.specs.Checker.{check, inputsFault, memoryFault, observationFault}
+use Rattle.rules.specs.Answers.{refusals}
 use Rattle.rules.specs.Answers.{PlainRun, WatchedRun, plainOutcome, plainRefused, plainEnded, plainBy, runPlain}
 use Rattle.rules.specs.Answers.{watchedOutcome, watchedRefused, watchedEnded, watchedBy, runWatched}
+use Rattle.rules.specs.declared.Checked.{Checked}
 use Rattle.rules.specs.declared.Checked.the-variants as checked
+use Rattle.rules.proofs.Among.{Among}
+use Rattle.rules.proofs.CheckLaws.{Numbered, check-numbered}
 
 -- a buffer of the right length is not refused
 right-length : (l : List ℕ) (n : ℕ) → length l ≡ n → not (eqb (length l) n) ≡ false
@@ -50,3 +55,59 @@ watched-runs t i f memory observation c e h k =
                 ]
           ]
     ])
+
+-- "Numbers 1–22 return the number and record (0 where none) and write no lent byte."
+pub data PlainAnswered (t i : List ℕ) (f : ℕ) (memory : List ℕ) : PlainRun → Type 0 where
+  refused : {k n : ℕ} → Among refusals k → PlainAnswered t i f memory (plainRefused k n memory)
+  ran : PlainAnswered t i f memory (plainEnded (plainOutcome t i f))
+
+pub plain-answered : (t i : List ℕ) (f : ℕ) (memory : List ℕ) → PlainAnswered t i f memory (runPlain t i f memory)
+plain-answered t i f memory = by-check (check source t) (check-numbered source t)
+  where
+    by-tests : (p q : Bool)
+        → PlainAnswered t i f memory
+        (elim p as (λ b. PlainRun) [
+          | true ↦ plainRefused 9 0 memory
+          | false ↦
+              elim q as (λ b. PlainRun) [ true ↦ plainRefused 21 0 memory | false ↦ plainEnded (plainOutcome t i f) ]
+        ])
+    by-tests true q = refused refl
+    by-tests false true = refused refl
+    by-tests false false = ran
+
+    by-check : (c : Checked) → Numbered c → PlainAnswered t i f memory (plainBy c t i f memory)
+    by-check (checked.Refused k n) h = refused h
+    by-check checked.Accepted h = by-tests (inputsFault i) (memoryFault memory)
+
+pub data WatchedAnswered (t i : List ℕ) (f : ℕ) (memory observation : List ℕ) : WatchedRun → Type 0 where
+  refused : {k n : ℕ} → Among refusals k
+      → WatchedAnswered t i f memory observation (watchedRefused k n memory observation)
+  ran : WatchedAnswered t i f memory observation (watchedEnded (watchedOutcome t i f))
+
+pub watched-answered : (t i : List ℕ) (f : ℕ) (memory observation : List ℕ)
+    → WatchedAnswered t i f memory observation (runWatched t i f memory observation)
+watched-answered t i f memory observation = by-check (check target t) (check-numbered target t)
+  where
+    by-tests : (p q r : Bool)
+        → WatchedAnswered t i f memory observation
+        (elim p as (λ b. WatchedRun) [
+          | true ↦ watchedRefused 9 0 memory observation
+          | false ↦
+              elim q as (λ b. WatchedRun) [
+                | true ↦ watchedRefused 21 0 memory observation
+                | false ↦
+                    elim r as (λ b. WatchedRun) [
+                      | true ↦ watchedRefused 22 0 memory observation
+                      | false ↦ watchedEnded (watchedOutcome t i f)
+                    ]
+              ]
+        ])
+    by-tests true q r = refused refl
+    by-tests false true r = refused refl
+    by-tests false false true = refused refl
+    by-tests false false false = ran
+
+    by-check : (c : Checked) → Numbered c
+        → WatchedAnswered t i f memory observation (watchedBy c t i f memory observation)
+    by-check (checked.Refused k n) h = refused h
+    by-check checked.Accepted h = by-tests (inputsFault i) (memoryFault memory) (observationFault observation)

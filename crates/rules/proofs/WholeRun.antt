@@ -1,8 +1,9 @@
 -- Demand 3 for every sound source tree, inputs and fuel.
-use Prim.Native.Nat.{ℕ, _≤_, _<_}
+use Prim.Native.Nat.{ℕ, _≤_}
 use native.Mathlib.Omega.{arith}
+use mathlib.Core.Bool.{false}
 use mathlib.Core.Path.{_≡_, refl, sym}
-use mathlib.Core.Logic.{_≢_, _⊎_, inl, inr, ⊎-elim}
+use mathlib.Core.Logic.{_≢_}
 use mathlib.Core.List.{List}
 use lib.IntN.{ℤ}
 use lib.ListN.{length, length-replicate}
@@ -15,8 +16,10 @@ use Rattle.rules.specs.Plain.{Outcome, run, startVariables}
 use Rattle.rules.specs.Past.{PastOutcome, runPast, atFirstFalse}
 use Rattle.rules.specs.Watched.{WatchedOutcome, watch, startTemporaries}
 use Rattle.rules.specs.Translation.{translate}
+use Rattle.rules.specs.Answers.{isIn, refusals, plainEndings}
 use Rattle.rules.specs.Answers.{endingOf, memoryAfter, watchedEndingOf, watchedMemoryAfter, observationAfter}
 use Rattle.rules.proofs.Sound.{Scope, SoundStatement}
+use Rattle.rules.proofs.Among.{among-none, among-not}
 use Rattle.rules.proofs.PastRun.{past-is}
 use Rattle.rules.proofs.Endings.{PlainEnds, run-endings}
 use Rattle.rules.proofs.StatementSteps.{Agree, both-finish, both-end}
@@ -30,29 +33,25 @@ use Rattle.rules.specs.declared.Temporary.the-variants as temporary
 pub record Same (p : Outcome) (w : WatchedOutcome) : Type 0 where
   pub same-ending : endingOf p ≡ watchedEndingOf w
   pub same-memory : memoryAfter p ≡ watchedMemoryAfter w
-  pub mirrors : (endingOf p .number ≡ 0) ⊎ (endingOf p .number ≡ 33) → observationAfter w ≡ mirror (memoryAfter p)
+  pub unrefused : (isIn (endingOf p .number) refusals ≡ false) × (isIn (watchedEndingOf w .number) refusals ≡ false)
+  pub mirrors : endingOf p .number ≢ 42 → observationAfter w ≡ mirror (memoryAfter p)
   pub no-contradiction : (watchedEndingOf w .number ≢ 48) × (watchedEndingOf w .number ≢ 49)
 
 same-of : {p : Outcome} {w : WatchedOutcome} → Agree p w → PlainEnds p → Same p w
 same-of (both-finish e l) c = record {
   same-ending = refl;
   same-memory = refl;
-  mirrors = λ h. e;
+  unrefused = (refl, refl);
+  mirrors = λ d. e;
   no-contradiction = (omega arith, omega arith);
 }
-same-of (both-end {c = n} {m = m} {o = o} h) c = record {
+same-of (both-end {c = n} h) c = record {
   same-ending = refl;
   same-memory = refl;
-  mirrors = go;
-  no-contradiction = (omega (arith, late), omega (arith, late));
+  unrefused = (among-none plainEndings refusals n refl c, among-none plainEndings refusals n refl c);
+  mirrors = h;
+  no-contradiction = (among-not plainEndings n 48 refl c, among-not plainEndings n 49 refl c);
 }
-  where
-    late : (30 ≤ n) × (n < 48)
-    late = ⊎-elim (λ q. omega (arith, q)) (λ q. omega (arith, q)) c
-
-    go : (n ≡ 0) ⊎ (n ≡ 33) → o ≡ mirror m
-    go (inl z) = absurd (omega (arith, late))
-    go (inr z) = h z
 
 -- the runs of a source tree, and a target tree's
 abbrev pub plainFrom : Statement → List ℤ → ℕ → Outcome

@@ -1,8 +1,8 @@
 -- What each entry point answers: number, values and every lent buffer, of what went in.
 use Prim.Native.Nat.{ℕ, zero, suc, _/_}
-use mathlib.Core.Bool.{Bool, true, false}
+use mathlib.Core.Bool.{Bool, true, false, _||_}
 use mathlib.Core.List.{List, [], _∷_}
-use lib.Dec.{ltb}
+use lib.Dec.{ltb, eqb}
 use lib.IntN.{ℤ}
 use lib.ListN.{length, drop}
 use Rattle.rules.specs.Words.{put, integerAt}
@@ -24,6 +24,35 @@ use Rattle.rules.specs.declared.Answer.{Answer}
 -- `record` is the refused record, the source statement of an ending, or a translation's record count
 abbrev pub answer : ℕ → ℕ → ℕ → ℕ → Answer
 answer k n fuel free = record { number = k; «record» = n; fuel = fuel; «free_cells» = free }
+
+-- is a number one of a list
+abbrev pub isIn : ℕ → List ℕ → Bool
+isIn k [] = false
+isIn k (j ∷ js) = eqb k j || isIn k js
+
+-- the numbers of what is turned away: 1 to 9, and "20 output shorter than the translation; 21 execution memory not
+-- 18,424 bytes; 22 observation memory not 3,064"
+abbrev pub refusals : List ℕ
+refusals = 1 ∷ 2 ∷ 3 ∷ 4 ∷ 5 ∷ 6 ∷ 7 ∷ 8 ∷ 9 ∷ 20 ∷ 21 ∷ 22 ∷ []
+
+-- what evaluating can stop with: "40 wrong sort of value. 41 undefined cell read. 42 cell in a dead block or outside.
+-- 43 overflow. 44 zero divisor. .. 47 base, offset or length of a block not live"
+abbrev pub evaluationEndings : List ℕ
+evaluationEndings = 40 ∷ 41 ∷ 42 ∷ 43 ∷ 44 ∷ 47 ∷ []
+
+-- what a run can end with beside 0: these, and "30 no run of free cells long enough. 31 all names given. 32 fuel is 0 at
+-- a while test. 33 assertion false. .. 45 size below 1. 46 free of a pointer to anything but the first cell of a live
+-- freeable block."
+abbrev pub plainEndings : List ℕ
+plainEndings = 30 ∷ 31 ∷ 32 ∷ 33 ∷ 45 ∷ 46 ∷ evaluationEndings
+
+-- what evaluating with temporaries can stop with: "49 empty temporary" too
+abbrev pub temporaryEndings : List ℕ
+temporaryEndings = 49 ∷ evaluationEndings
+
+-- what a watched run can end with beside 0: "48 observation call that contradicts the record" and 49 too
+abbrev pub watchedEndings : List ℕ
+watchedEndings = 48 ∷ 49 ∷ plainEndings
 
 -- "The checker answers 0 with record 0 for an accepted table." "Numbers 1–22 return the number and record (0 where none)"
 abbrev pub checkedAnswer : Checked → Answer

@@ -2,7 +2,7 @@
 use Prim.Native.Nat.{ℕ, _*_, _≤_}
 use mathlib.Core.Bool.{Bool, true, false}
 use mathlib.Core.List.{List}
-use mathlib.Core.Logic.{_⊎_, _≢_}
+use mathlib.Core.Logic.{_≢_}
 use mathlib.Core.Path.{_≡_}
 use lib.ListN.{length}
 use Rattle.rules.specs.Sizes.{memoryLength, observationLength}
@@ -16,7 +16,7 @@ use Rattle.rules.specs.Past.{PastOutcome, runPast, atFirstFalse}
 use Rattle.rules.specs.Observation.{mirror}
 use Rattle.rules.specs.Translation.{translation}
 use Rattle.rules.specs.Layout.{memoryOf, observationImage}
-use Rattle.rules.specs.Answers.{PlainRun, WatchedRun, inputsOf, plainEnded, runPlain, runWatched}
+use Rattle.rules.specs.Answers.{isIn, refusals, PlainRun, WatchedRun, inputsOf, plainEnded, runPlain, runWatched}
 use Rattle.rules.specs.declared.Checked.the-variants.{Accepted}
 
 -- "Take the source table run by these rules with one change": the run that goes on past false assertions
@@ -28,14 +28,16 @@ pub record Agreement (t i : List ℕ) (f : ℕ) (p : PlainRun) (w : WatchedRun) 
   -- "The translation is refused by none of 1–8." "At most 14 target records come from each source record."
   pub accepted : check target (translation t) ≡ Accepted
   pub bounded : recordCount (translation t) ≤ 14 * recordCount t
-  -- "the same ending, statement, fuel left, free cells and execution memory byte for byte"
+  -- "neither is refused"
+  pub neither-refused : (isIn (p .answer .number) refusals ≡ false) × (isIn (w .answer .number) refusals ≡ false)
+  -- the same ending, statement, fuel left, free cells, and execution memory byte for byte
   pub same-answer : w .answer ≡ p .answer
   pub same-memory : w .memory ≡ p .memory
   -- "Both runs end 33 at the first that is false, with fuel left and memory as then; with none, both end as this run does."
   pub first-false : p ≡ plainEnded (atFirstFalse (pastOutcome t i f))
-  -- "after a finish or such a stop the observation memory names exactly the live blocks, lengths and initialised cells"
-  pub exact :
-      (p .answer .number ≡ 0) ⊎ (p .answer .number ≡ 33) → w .observation ≡ observationImage (mirror (memoryOf (p .memory)))
+  -- "Live blocks, lengths and initialised cells are those of the plain run's execution memory": the observation memory
+  -- names exactly these, but after 42, where a new block may have been made whose pointer could not be stored
+  pub exact : p .answer .number ≢ 42 → w .observation ≡ observationImage (mirror (memoryOf (p .memory)))
   -- "From translated programs 48 and 49 never come."
   pub never-48 : w .answer .number ≢ 48
   pub never-49 : w .answer .number ≢ 49

@@ -110,8 +110,8 @@ abbrev pub temporaryPlace : Form
 temporaryPlace = form 12 place (upTo 63) unnamed unnamed unnamed zeroLiteral
 
 -- "60 tn takes the address of place A; 61 tn takes expression A; 63 tn takes t(n+1) operator t(n+2), operator 1–8 in
--- field C; 64 tn takes a query of t(n+1), field C being 1 .. 5; 65 tn takes 1 if t(n+1) is 0, else 0; 66 if tn then B
--- else C; 67 assert tn; 68 store block, pointer tn, length t(n+1); 69 delete block tn; 70 initialise tn"
+-- field C; 64 tn takes a query of t(n+1), field C being 1 valid, .. 5 length; 65 tn takes 1 if t(n+1) is 0, else 0; 66
+-- if tn then B else C; 67 assert tn; 68 store block, pointer tn, length t(n+1); 69 delete block tn; 70 initialise tn"
 abbrev pub temporaryStatements : Literal → List Form
 temporaryStatements l =
     form 60 statement (upTo 63) (child place) unnamed unnamed l

@@ -20,7 +20,8 @@ use Rattle.rules.specs.declared.Evaluated.{Evaluated}
 use Rattle.rules.specs.declared.Evaluated.the-variants as evaluated
 use Rattle.rules.specs.declared.Test.{Test}
 use Rattle.rules.specs.declared.Test.the-variants as test
-use Rattle.rules.proofs.Keeping.{Ending}
+use Rattle.rules.specs.Answers.{watchedEndings}
+use Rattle.rules.proofs.Among.{Among}
 use Rattle.rules.proofs.Endings.{WatchedEnds, watch-endings}
 use Rattle.rules.proofs.TargetFields.{HasSort, statementAt, numberAt, statement-kinds}
 use Rattle.rules.proofs.TargetArms.{watch-operation, watch-query, watch-not, watch-store-block, watch-delete-block}
@@ -36,7 +37,7 @@ use Rattle.noting.proofs.CallLaws.{note-record, note-delete, note-mark}
 use Rattle.watched_statements.specs.Watching.{lent, goFrom, watchFrom, IsAct, Ran}
 use Rattle.watched_statements.proofs.Laws.{observation-same, ran-is, ends-above}
 
-concluded-stop : (c s f : ℕ) → Ending 50 c → concluded c s f ≡ result c s f
+concluded-stop : (c s f : ℕ) → Among watchedEndings c → concluded c s f ≡ result c s f
 concluded-stop c s f h = ap (λ (b : Bool). cond b (result 0 0 f) (result c s f)) (ne-eqb c 0 (ends-above c h))
 
 -- the outcome by a change of the memory, a value for a temporary, a call, and an assertion

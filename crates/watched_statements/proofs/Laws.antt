@@ -1,8 +1,7 @@
 -- From what the parts answer to what the whole does.
 use Prim.Native.Nat.{ℕ}
-use native.Mathlib.Omega.{arith}
 use mathlib.Core.List.{List}
-use mathlib.Core.Logic.{_≢_, inl, inr}
+use mathlib.Core.Logic.{_≢_}
 use mathlib.Core.Path.{_≡_, refl, sym, ap, _∙_, subst}
 use Rattle.rules.specs.Memory.{Memory, changed}
 use Rattle.rules.specs.Evaluation.{Variables}
@@ -10,7 +9,8 @@ use Rattle.rules.specs.Observation.{Observation}
 use Rattle.rules.specs.TargetTrees.{TargetStatement}
 use Rattle.rules.specs.Watched.{WatchedOutcome, finished, ended, Watching, next}
 use Rattle.rules.specs.Layout.{memoryOf, observationOf, observationImage}
-use Rattle.rules.proofs.Keeping.{Ending}
+use Rattle.rules.specs.Answers.{watchedEndings}
+use Rattle.rules.proofs.Among.{Among, among-not}
 use Rattle.rules.proofs.Endings.{WatchedEnds, watch-endings}
 use Rattle.cells.specs.Changes.{Becomes, Exact}
 use Rattle.observation.specs.Calls.{ObservationBecomes}
@@ -77,9 +77,8 @@ ran-ended x c s f = record {
 }
 
 -- no ending has the number 0
-pub ends-above : (c : ℕ) → Ending 50 c → c ≢ 0
-ends-above c (inl h) e = omega arith
-ends-above c (inr h) e = omega arith
+pub ends-above : (c : ℕ) → Among watchedEndings c → c ≢ 0
+ends-above c h = among-not watchedEndings c 0 refl h
 
 -- the number 0 says that it finished, any other that it ended
 outcome-finished : (w : WatchedOutcome) (r : Ended) (x y : Lent) → WatchedEnds w → Ran w r x y → r .number ≡ 0
