@@ -15,7 +15,9 @@ use Rattle.rules.specs.Watched.{Temporaries, temporaryOf, heldIn, Watche
 use Rattle.rules.specs.Watched.{after, inLet, taken, observed, calledOn, calledOnTwo}
 use Rattle.rules.specs.Answers.{memoryAfter}
 use Rattle.rules.proofs.Invariant.{Invariant, Onward}
-use Rattle.rules.proofs.BlockChanges.{Room, HasRoom, room, onward-make, Leads, leads}
+use Rattle.rules.proofs.Pointing.{Leads, leads}
+use Rattle.rules.proofs.Room.{Room, HasRoom, room}
+use Rattle.rules.proofs.BlockChanges.{onward-make}
 use Rattle.rules.proofs.MemoryLaws.{named-rename-same}
 use Rattle.rules.proofs.Mirror.{mirror-initialise, mirror-store, mirror-delete}
 use Rattle.rules.proofs.PredicateSimulation.{Full, put, full-put, put-same, put-other}
@@ -59,7 +61,7 @@ read-back : (m : Memory) (p q : Pointer) (i : ℕ) → locate m p ≡ located.At
     → readCell (setCell m i (cell.Holds (p .name) (value.Pointer q))) p ≡ evaluated.Value (value.Pointer q)
 read-back m p q i e y =
     let c : Cell = cell.Holds (p .name) (value.Pointer q) in
-    let at : Leads m (located.At i) = rw e at (leads m p y) in
+    let at : Leads m (p .name) (located.At i) = rw e at (leads m p y) in
     rw (locate-set m i c p ∙ e, getD-set-same (m .cells) i c cell.Free (omega (arith, y .size, at .1))) refl
 
 agree-stored : (s : ℕ) (m : Memory) (τ : Temporaries) (f : ℕ) (p : Pointer) (n k first : ℕ) (r : Located)

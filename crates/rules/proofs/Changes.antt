@@ -3,12 +3,13 @@ use Prim.Native.Nat.{ℕ, zero, suc}
 use mathlib.Core.Path.{_≡_, refl}
 use mathlib.Core.Bool.{false}
 use lib.IntN.{ℤ, pos, negsuc}
-use Rattle.rules.specs.Memory.{Memory, blockOf, locate, atCell, setCell, Change, changed, stopped, storeCell}
-use Rattle.rules.specs.Memory.{isUnused, nextName, freeRun, Use, freeable, Made, made, unmade, makeAt}
-use Rattle.rules.specs.Memory.{makeBlock, assigned, storeNew, newOfSize, allocated, freeOf, freed}
+use Rattle.rules.specs.Memory.{Memory, blockOf, Change, changed, stopped, isUnused, nextName, freeRun, Use}
+use Rattle.rules.specs.Memory.{freeable, Made, made, unmade, makeAt, makeBlock, assigned, storeNew, newOfSize}
+use Rattle.rules.specs.Memory.{allocated, freeOf, freed}
 use Rattle.rules.proofs.Keeping.{AnyNumber, ChangeKeeps, MadeKeeps}
-use Rattle.rules.proofs.Invariant.{Invariant, Onward, onward-itself, onward-then}
-use Rattle.rules.proofs.BlockChanges.{onward-store, HasRoom, room, onward-make, make-given, onward-free, Leads, leads}
+use Rattle.rules.proofs.Invariant.{Invariant, Onward, onward-itself, onward-then, changedMemory}
+use Rattle.rules.proofs.Room.{HasRoom, room}
+use Rattle.rules.proofs.BlockChanges.{onward-cell, onward-make, make-given, onward-free}
 use Rattle.rules.specs.declared.Pointer.{Pointer}
 use Rattle.rules.specs.declared.Value.{Value}
 use Rattle.rules.specs.declared.Value.the-variants as value
@@ -16,30 +17,14 @@ use Rattle.rules.specs.declared.Evaluated.{Evaluated}
 use Rattle.rules.specs.declared.Evaluated.the-variants as evaluated
 use Rattle.rules.specs.declared.Found.{Found}
 use Rattle.rules.specs.declared.Found.the-variants as found
-use Rattle.rules.specs.declared.Located.{Located}
-use Rattle.rules.specs.declared.Located.the-variants as located
 use Rattle.rules.specs.declared.Search.{Search}
 use Rattle.rules.specs.declared.Search.the-variants as search
 use Rattle.rules.specs.declared.Block.{Block}
 use Rattle.rules.specs.declared.Block.the-variants as block
-use Rattle.rules.specs.declared.Cell.the-variants as cell
-
-abbrev pub changedMemory : Change → Memory
-changedMemory (changed m) = m
-changedMemory (stopped c m) = m
 
 pub change-kept : (m : Memory) (c : Change) → Onward m (changedMemory c) → ChangeKeeps (Onward m) AnyNumber c
 change-kept m (changed m₁) h = h
 change-kept m (stopped c m₁) h = (tt, h)
-
-onward-cell : (m : Memory) (p : Pointer) (v : Value) → Invariant m → Onward m (changedMemory (storeCell m p v))
-onward-cell m p v y = go (locate m p) (leads m p y)
-  where
-    go : (r : Located) → Leads m r
-        → Onward m (changedMemory (atCell (λ i. changed (setCell m i (cell.Holds (p .name) v))) (λ k. stopped k m) r))
-    go (located.At i) h = onward-store m i (p .name) v (h .0) y
-    go located.Dead h = onward-itself y
-    go located.Outside h = onward-itself y
 
 pub onward-assigned : (m : Memory) (f : Found) (e : Evaluated) → Invariant m
     → Onward m (changedMemory (assigned m f e))

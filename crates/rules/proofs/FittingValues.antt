@@ -5,26 +5,25 @@ use mathlib.Core.Bool.{Bool, true}
 use mathlib.Core.Path.{_≡_, refl}
 use lib.IntN.{ℤ}
 use borrow.Author.Tests.{lt-ltb}
-use Rattle.rules.specs.Trees.{Operator, shift, Query, valid, initialised, base, offset, blockLength, Expression}
-use Rattle.rules.specs.Trees.{literal, read, address, operation, shifted, Place, variable, pointed, temporary}
+use Rattle.rules.specs.Trees.{Operator, Query, valid, initialised, base, offset, blockLength, Expression}
+use Rattle.rules.specs.Trees.{Place}
 use Rattle.rules.specs.Numbers.{inRange, truthValue}
-use Rattle.rules.specs.Memory.{Memory, cellOf, locate, locatedIn, defined, readCell}
-use Rattle.rules.specs.Evaluation.{Variables, Holding, held, pointedBy, addressOf, operated, evaluate}
+use Rattle.rules.specs.Memory.{Memory, cellOf, locatedIn}
+use Rattle.rules.specs.Evaluation.{Variables, Holding, held, addressOf, operated, evaluate}
 use Rattle.rules.specs.Evaluation.{findPlace, isValid, initialisedAt, ofLive, queried, opposite}
 use Rattle.rules.specs.Observation.{Observation, recordOf, markOf, queryObservation}
 use Rattle.rules.proofs.Sound.{Scope, SoundExpression, SoundPlace}
 use Rattle.rules.proofs.Operations.{truth-gives, operated-gives, opposite-gives}
-use Rattle.rules.proofs.Keeping.{AnyNumber, Gives, Finds, on-value, on-place, on-pointer, at-cell}
+use Rattle.rules.proofs.Keeping.{AnyNumber, Gives, Finds, on-pointer}
+use Rattle.rules.proofs.EvaluatedValues.{CellHas, addressOf-has, evaluate-has, findPlace-has}
 use Rattle.rules.proofs.Lists.{all-getD, all-named}
 use Rattle.rules.proofs.Fits.{FitsName, FitsPointer, FitsValue, FitsRecorded, FitsCell, FitsTemporary}
 use Rattle.rules.proofs.Fits.{FitsMemory, FitsObservation}
 use Rattle.rules.specs.declared.Pointer.{Pointer}
 use Rattle.rules.specs.declared.Value.{Value}
-use Rattle.rules.specs.declared.Value.the-variants as values
 use Rattle.rules.specs.declared.Evaluated.{Evaluated}
 use Rattle.rules.specs.declared.Evaluated.the-variants as evaluated
 use Rattle.rules.specs.declared.Found.{Found}
-use Rattle.rules.specs.declared.Found.the-variants as found
 use Rattle.rules.specs.declared.Recorded.{Recorded}
 use Rattle.rules.specs.declared.Recorded.the-variants as recorded
 use Rattle.rules.specs.declared.Cell.{Cell}
@@ -82,42 +81,22 @@ held-fits temporaries.Empty h = tt
 held-fits (temporaries.Holds v) h = h
 
 pub addressOf-fits : (f : Found) → FoundFits f → EvaluatedFits (addressOf f)
-addressOf-fits f h = on-place EvaluatedFits AnyNumber evaluated.Stopped (λ c x. tt) f _ h (λ p l. l)
+addressOf-fits f h = addressOf-has FitsValue f h
 
-pointedBy-fits : (e : Evaluated) → EvaluatedFits e → FoundFits (pointedBy e)
-pointedBy-fits e h =
-    on-value FoundFits AnyNumber found.Stopped (λ c x. tt) e _ h (λ v k.
-    on-pointer FoundFits AnyNumber found.Stopped (λ c x. tt) FitsValue v found.Place tt k (λ p l. l))
-
-defined-fits : (c : Cell) → FitsCell c → EvaluatedFits (defined c)
-defined-fits cell.Free h = tt
-defined-fits (cell.Holds o values.Undefined) h = tt
-defined-fits (cell.Holds o (values.Integer z)) h = h .1
-defined-fits (cell.Holds o (values.Pointer p)) h = h .1
-
-readCell-fits : (m : Memory) (p : Pointer) → FitsMemory m → EvaluatedFits (readCell m p)
-readCell-fits m p h =
-    at-cell EvaluatedFits AnyNumber evaluated.Stopped (λ c x. tt) (locate m p) _ tt
-    (λ i. defined-fits (cellOf m i) (all-getD (h .cells-fit) i cell.Free tt))
+cell-fits : (c : Cell) → FitsCell c → CellHas FitsValue c
+cell-fits cell.Free h = tt
+cell-fits (cell.Holds o v) h = h .1
 
 -- N is what a temporary's name keeps, of no account here
 module _ {T : Type 0} (N : T → Type 0) (τ : Holding T) (holding : (t : T) → EvaluatedFits (held (τ t))) (ρ : Variables)
     (names : (x : ℕ) → FitsName (ρ x)) (m : Memory) (fits : FitsMemory m) (σ : Scope) where
-  mutual
-    unfolding evaluate
+  cells : (i : ℕ) → CellHas FitsValue (cellOf m i)
+  cells i = cell-fits (cellOf m i) (all-getD (fits .cells-fit) i cell.Free tt)
 
-    pub evaluate-fits : (e : Expression T) → SoundExpression e N σ → EvaluatedFits (evaluate e τ ρ m)
-    evaluate-fits (literal z) h = h
-    evaluate-fits (read p) h =
-        on-place EvaluatedFits AnyNumber evaluated.Stopped (λ c x. tt) (findPlace p τ ρ m) (readCell m)
-        (findPlace-fits p h) (λ l k. readCell-fits m l fits)
-    evaluate-fits (address p) h = addressOf-fits (findPlace p τ ρ m) (findPlace-fits p h)
-    evaluate-fits (operation o a b) h =
-        operated-fits o (evaluate a τ ρ m) (evaluate b τ ρ m) (evaluate-fits a (h .1)) (evaluate-fits b (h .2))
-    evaluate-fits (shifted a b) h =
-        operated-fits shift (evaluate a τ ρ m) (evaluate b τ ρ m) (evaluate-fits a (h .0)) (evaluate-fits b (h .1))
+  pub evaluate-fits : (e : Expression T) → SoundExpression e N σ → EvaluatedFits (evaluate e τ ρ m)
+  evaluate-fits e h =
+      evaluate-has FitsValue (λ z e. e) moved-fits N τ holding ρ σ (λ x e. (names x, refl)) m cells e h
 
-    pub findPlace-fits : (p : Place T) → SoundPlace p N σ → FoundFits (findPlace p τ ρ m)
-    findPlace-fits (variable x) h = (names x, refl)
-    findPlace-fits (pointed e) h = pointedBy-fits (evaluate e τ ρ m) (evaluate-fits e h)
-    findPlace-fits (temporary t) h = pointedBy-fits (held (τ t)) (holding t)
+  pub findPlace-fits : (p : Place T) → SoundPlace p N σ → FoundFits (findPlace p τ ρ m)
+  findPlace-fits p h =
+      findPlace-has FitsValue (λ z e. e) moved-fits N τ holding ρ σ (λ x e. (names x, refl)) m cells p h

@@ -1,12 +1,14 @@
 -- What holds of the execution memory at every step, and what can become of a block.
 use Prim.Native.Nat.{ℕ, _+_, _≤_}
 use native.Mathlib.Omega.{arith}
-use mathlib.Core.Path.{_≡_, refl}
+use mathlib.Core.Path.{_≡_, refl, ap}
 use mathlib.Core.Logic.{_⊎_, inl, inr}
+use mathlib.Core.Bool.{true, false, true≢false}
 use mathlib.Core.List.{List, map}
 use lib.ListN.{length}
 use Rattle.rules.specs.Sizes.{nameCount, cellCount}
-use Rattle.rules.specs.Memory.{Memory, recordedOf, blockOf, cellOf}
+use Rattle.rules.specs.Memory.{Memory, recordedOf, named, blockOf, cellOf, Change, changed, stopped, isUnused}
+use Rattle.rules.specs.Observation.{covers}
 use Rattle.rules.proofs.MemoryLaws.{coverage}
 use Rattle.rules.specs.declared.Block.{Block}
 use Rattle.rules.specs.declared.Block.the-variants as block
@@ -26,13 +28,25 @@ at-most-one (cell.Holds o v) = omega arith
 abbrev pub recordsOf : Memory → List Recorded
 recordsOf m = map recordedOf (m .blocks)
 
--- 255 names and 1,024 cells; live blocks lie within the cells; a cell is occupied where one live block covers it,
--- and free where none does
+-- below a name that was given every name was: the names that were given are 1, 2, 3 ..
+abbrev pub Rising : List Block → Type 0
+Rising l = (j k : ℕ) → 1 ≤ j → j ≤ k → k ≤ nameCount → isUnused (named l k block.Dead) ≡ false
+    → isUnused (named l j block.Dead) ≡ false
+
+-- a cell that is not free lies in the live block of its owner's name
+abbrev pub Owned : List Block → ℕ → Cell → Type 0
+Owned l i cell.Free = Unit {0}
+Owned l i (cell.Holds o v) = covers (recordedOf (named l o block.Dead)) i ≡ true
+
+-- 255 names, given in rising order, and 1,024 cells; live blocks lie within the cells; a cell is occupied where one
+-- live block covers it, whose name is its owner, and free where none does
 pub record Invariant (m : Memory) : Type 0 where
   pub names : length (m .blocks) ≡ nameCount
   pub size : length (m .cells) ≡ cellCount
   pub within : (k first n : ℕ) → recordedOf (blockOf m k) ≡ recorded.Live first n → first + n ≤ cellCount
   pub cover : (i : ℕ) → coverage (recordsOf m) i ≡ occupied (cellOf m i)
+  pub rising : Rising (m .blocks)
+  pub owned : (i : ℕ) → Owned (m .blocks) i (cellOf m i)
 
 -- what can become of a block: a name once given is never unused again, a fixed block stays where it is, a freeable one
 -- stays or dies, a dead one stays dead
@@ -55,6 +69,14 @@ becomes-then (block.Freeable first n) b c (inl p) q = rw p at q
 becomes-then (block.Freeable first n) b c (inr p) q = inr (rw p at q)
 becomes-then block.Dead b c p q = rw p at q
 
+-- a name that was given stays given
+pub becomes-given : (b c : Block) → Becomes b c → isUnused b ≡ false → isUnused c ≡ false
+becomes-given block.Unused c h e = absurd (true≢false e)
+becomes-given (block.Fixed first n) c h e = ap isUnused h
+becomes-given (block.Freeable first n) c (inl h) e = ap isUnused h
+becomes-given (block.Freeable first n) c (inr h) e = ap isUnused h
+becomes-given block.Dead c h e = ap isUnused h
+
 -- from memory m to memory m₁
 pub record Onward (m m₁ : Memory) : Type 0 where
   pub invariant : Invariant m₁
@@ -68,3 +90,8 @@ onward-then {m} {m₁} {m₂} p q = record {
   invariant = q .invariant;
   becomes = λ k. becomes-then (blockOf m k) (blockOf m₁ k) (blockOf m₂ k) (p .becomes k) (q .becomes k);
 }
+
+-- the memory after a change, or where it stopped
+abbrev pub changedMemory : Change → Memory
+changedMemory (changed m) = m
+changedMemory (stopped c m) = m

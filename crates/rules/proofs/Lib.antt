@@ -47,6 +47,7 @@ pub mod Keeping
 pub mod Operations
 pub mod EvaluationEndings
 pub mod DefinedValues
+pub mod EvaluatedValues
 pub mod Outcomes
 pub mod Calls
 pub mod ChangeEndings
@@ -57,12 +58,17 @@ pub mod PastRun
 -- Memories: what every change keeps.
 pub mod MemoryLaws
 pub mod Invariant
+pub mod Room
+pub mod Owners
+pub mod Pointing
 pub mod BlockChanges
 pub mod Changes
 pub mod PlainKept
 pub mod WatchedKept
 pub mod Totals
 pub mod Orderly
+pub mod GivenNames
+pub mod WatchedGiven
 pub mod ObservationOrder
 pub mod ObservationKept
 pub mod ObservedRuns
@@ -99,6 +105,7 @@ pub mod Start
 pub mod StartObservation
 pub mod WholeRun
 pub mod Inputs
+pub mod GivenPointers
 pub mod UnrefusedRuns
 pub mod Claim
 pub mod Cases

@@ -42,6 +42,10 @@ module _ {A : Type 0} {P : A → Type 0} where
   all-rename r zero h = r
   all-rename r (suc k) h = all-set r k h
 
+pub all-change : {A : Type 0} {P Q : A → Type 0} → ((x : A) → P x → Q x) → {xs : List A} → All P xs → All Q xs
+all-change g none = none
+all-change g (also p r) = also (g _ p) (all-change g r)
+
 pub all-map : {A B : Type 0} {P : A → Type 0} {Q : B → Type 0} (f : A → B) → ((x : A) → P x → Q (f x))
     → {xs : List A} → All P xs → All Q (map f xs)
 all-map f g none = none

@@ -126,10 +126,10 @@ covering s n i = go (leb s i) (ltb i (s + n)) refl refl
     go true true p q = inside (leb-true s i p) (ltb-true i (s + n) q)
     go true false p q = above (ltb-false i (s + n) q)
 
-pub covers-inside : (s n i : ℕ) → s ≤ i → i < s + n → one (covers (recorded.Live s n) i) ≡ 1
+pub covers-inside : (s n i : ℕ) → s ≤ i → i < s + n → covers (recorded.Live s n) i ≡ true
 covers-inside s n i p q = go (covering s n i)
   where
-    go : {b : Bool} → Covering s n i b → one b ≡ 1
+    go : {b : Bool} → Covering s n i b → b ≡ true
     go (inside p₁ q₁) = refl
     go (below p₁) = absurd (omega arith)
     go (above p₁) = absurd (omega arith)
@@ -174,13 +174,17 @@ coverage-both l zero k i d = omega (arith, coverage-named l k i)
 coverage-both l (suc j) zero i d = omega (arith, coverage-named l (suc j) i)
 coverage-both l (suc j) (suc k) i d = coverage-two l j k i (λ e. d (ap suc e))
 
--- where no place is covered twice, the live blocks of two names share none
+-- where no place is covered twice, the blocks of two names do not cover the same, and live ones share none
+pub not-twice : (l : List Recorded) → ((i : ℕ) → coverage l i ≤ 1) → (j k i : ℕ) → j ≢ k
+    → covers (named l j recorded.Dead) i ≡ true → covers (named l k recorded.Dead) i ≡ true → ⊥
+not-twice l once j k i d e e₁ = let z = rw (e, e₁) at (coverage-both l j k i d) in omega (arith, z, once i)
+
 pub separate : (l : List Recorded) → ((i : ℕ) → coverage l i ≤ 1) → (j k first n first₁ n₁ : ℕ) → j ≢ k
     → named l j recorded.Dead ≡ recorded.Live first n → named l k recorded.Dead ≡ recorded.Live first₁ n₁
     → (i : ℕ) → first ≤ i → i < first + n → first₁ ≤ i → i < first₁ + n₁ → ⊥
 separate l once j k s n s₁ n₁ d e e₁ i p q p₁ q₁ =
-    let z = rw (e, e₁) at (coverage-both l j k i d) in
-    omega (arith, z, once i, covers-inside s n i p q, covers-inside s₁ n₁ i p₁ q₁)
+    not-twice l once j k i d
+    (ap (λ b. covers b i) e ∙ covers-inside s n i p q) (ap (λ b. covers b i) e₁ ∙ covers-inside s₁ n₁ i p₁ q₁)
 
 -- covered: by one block at least
 pub data Covered (l : List Recorded) (i : ℕ) : Bool → Type 0 where

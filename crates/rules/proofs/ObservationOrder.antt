@@ -20,8 +20,8 @@ use Rattle.rules.proofs.RunLaws.{run-bound}
 use Rattle.rules.proofs.Lists.{All, all-getD, all-named, all-replicate, length-rename, length-fill}
 use Rattle.rules.proofs.MemoryLaws.{named-in, named-rename-same, named-rename, fill-inside, fill-below}
 use Rattle.rules.proofs.MemoryLaws.{fill-above, allFree-at, Covering, inside, below, above, covering}
-use Rattle.rules.proofs.MemoryLaws.{covers-inside, coverage, coverage-rename, coverage-named, separate}
-use Rattle.rules.proofs.MemoryLaws.{Covered, some, none, covered-is}
+use Rattle.rules.proofs.MemoryLaws.{covers-inside, coverage, coverage-rename, coverage-named, separate, Covered}
+use Rattle.rules.proofs.MemoryLaws.{some, none, covered-is}
 use Rattle.rules.proofs.Fits.{InsideRecorded}
 use Rattle.rules.proofs.BlockChanges.{live-parts, dead-is-not-live}
 use Rattle.rules.proofs.Keeping.{AnyNumber}
@@ -215,7 +215,7 @@ leads-into (recorded.Live first n) (pos x) = pick (ltb x n) refl
   where
     pick : (t : Bool) → ltb x n ≡ t
         → LeadsInto (recorded.Live first n) (cond t (located.At (first + x)) located.Outside)
-    pick true e = covers-inside first n (first + x) (omega arith) (omega (arith, ltb-true x n e))
+    pick true e = ap one (covers-inside first n (first + x) (omega arith) (omega (arith, ltb-true x n e)))
     pick false e = tt
 
 mark-orderly : (o : Observation) (p : Pointer) (i : ℕ) → OrderlyObservation o → locateMark o p ≡ located.At i

@@ -12,7 +12,7 @@ use Rattle.rules.specs.Watched.{Temporaries, temporaryOf, watch}
 use Rattle.rules.specs.Translation.{embed, embedPlace, translate}
 use Rattle.rules.proofs.Sound.{Scope, adding, SoundStatement}
 use Rattle.rules.proofs.Invariant.{Invariant}
-use Rattle.rules.proofs.BlockChanges.{room}
+use Rattle.rules.proofs.Room.{room}
 use Rattle.rules.proofs.PlainKept.{plain-onward}
 use Rattle.rules.proofs.DefinedValues.{fair-source}
 use Rattle.rules.proofs.PredicateSimulation.{embed-is, embedPlace-is, Full, predicate-agrees}

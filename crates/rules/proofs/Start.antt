@@ -1,16 +1,16 @@
 -- The memory's invariant holds at the start.
 use Prim.Native.Nat.{ℕ, zero, suc, _+_, _-_, _≤_, _<_}
 use native.Mathlib.Omega.{arith}
-use mathlib.Core.Path.{_≡_, refl, ap}
-use mathlib.Core.Bool.{Bool, true, false}
+use mathlib.Core.Path.{_≡_, refl, sym, ap, _∙_}
+use mathlib.Core.Bool.{Bool, true, false, true≢false}
 use mathlib.Core.List.{List, [], _∷_, _++_, map}
 use lib.IntN.{ℤ}
 use lib.ListN.{length, getD, replicate, length-append, length-map, length-replicate}
 use Rattle.rules.specs.Sizes.{nameCount, cellCount, inputLimit}
-use Rattle.rules.specs.Memory.{recordedOf, blockOf, cellOf, one, startMemory}
+use Rattle.rules.specs.Memory.{recordedOf, blockOf, cellOf, isUnused, one, startMemory}
 use Rattle.rules.specs.Observation.{covers}
-use Rattle.rules.proofs.MemoryLaws.{Covering, inside, below, above, covering, coverage}
-use Rattle.rules.proofs.Invariant.{occupied, recordsOf, Invariant}
+use Rattle.rules.proofs.MemoryLaws.{Covering, inside, below, above, covering, covers-inside, coverage}
+use Rattle.rules.proofs.Invariant.{occupied, recordsOf, Rising, Owned, Invariant}
 use Rattle.rules.proofs.BlockChanges.{live-parts, dead-is-not-live}
 use Rattle.rules.specs.declared.Value.the-variants as value
 use Rattle.rules.specs.declared.Block.the-variants as block
@@ -91,10 +91,44 @@ start-cover is (suc i) =
           input-free is (1023 - length is) i (omega arith),
         )
 
+unused-at : (r k : ℕ) → k < r → isUnused (getD (replicate r block.Unused) k block.Dead) ≡ true
+unused-at zero k h = absurd (omega arith)
+unused-at (suc r) zero h = refl
+unused-at (suc r) (suc k) h = unused-at r k (omega arith)
+
+start-rising : (is : List ℤ) → Rising (startMemory is .blocks)
+unfolding startMemory
+start-rising is zero k a b c h = absurd (omega arith)
+start-rising is (suc zero) k a b c h = refl
+start-rising is (suc (suc zero)) k a b c h = refl
+start-rising is (suc (suc (suc j))) (suc (suc (suc k))) a b c h =
+    absurd (true≢false (sym (unused-at 253 k (omega arith)) ∙ h))
+start-rising is (suc (suc (suc j))) zero a b c h = absurd (omega arith)
+start-rising is (suc (suc (suc j))) (suc zero) a b c h = absurd (omega arith)
+start-rising is (suc (suc (suc j))) (suc (suc zero)) a b c h = absurd (omega arith)
+
+-- what holds of a free cell, and of block 2's where there are inputs, holds of every cell from cell 1 on
+input-cell : (C : Cell → Type 0) → C cell.Free → (is : List ℤ) (r i : ℕ)
+    → (i < length is → (z : ℤ) → C (cell.Holds 2 (value.Integer z))) → C (getD (inputCells is r) i cell.Free)
+input-cell C f [] zero i h = f
+input-cell C f [] (suc r) zero h = f
+input-cell C f [] (suc r) (suc i) h = input-cell C f [] r i (λ p. absurd (omega arith))
+input-cell C f (z ∷ is) r zero h = h (omega arith) z
+input-cell C f (z ∷ is) r (suc i) h = input-cell C f is r i (λ p. h (omega arith))
+
+start-owned : (is : List ℤ) (i : ℕ) → Owned (startMemory is .blocks) i (cellOf (startMemory is) i)
+unfolding startMemory
+start-owned is zero = refl
+start-owned is (suc i) =
+    input-cell (Owned (startMemory is .blocks) (suc i)) tt is (1023 - length is) i
+    (λ p z. covers-inside 1 (length is) (suc i) (omega arith) (omega arith))
+
 pub start-invariant : (is : List ℤ) → length is ≤ inputLimit → Invariant (startMemory is)
 start-invariant is h = record {
   names = start-names is;
   size = start-size is h;
   within = start-within is h;
   cover = start-cover is;
+  rising = start-rising is;
+  owned = start-owned is;
 }

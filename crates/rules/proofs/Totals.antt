@@ -1,4 +1,4 @@
--- Free cells and the lengths of live blocks make 1,024.
+-- Free cells and the lengths of live blocks make 1,024, and so the occupied cells number those lengths.
 use Prim.Native.Nat.{ℕ, zero, suc, _+_, _≤_, _<_}
 use native.Mathlib.Omega.{arith}
 use mathlib.Core.Path.{_≡_, refl, sym, _∙_}
@@ -108,6 +108,17 @@ sum-occupied [] = refl
 sum-occupied (cell.Free ∷ l) = omega (arith, sum-occupied l)
 sum-occupied (cell.Holds o v ∷ l) = omega (arith, sum-occupied l)
 
+-- the number of cells that are not free
+abbrev pub countOccupied : List Cell → ℕ
+countOccupied [] = 0
+countOccupied (c ∷ cs) = occupied c + countOccupied cs
+
+free-or-occupied : (l : List Cell) → countFree l + countOccupied l ≡ length l
+unfolding countFree
+free-or-occupied [] = refl
+free-or-occupied (cell.Free ∷ l) = omega (arith, free-or-occupied l)
+free-or-occupied (cell.Holds o v ∷ l) = omega (arith, free-or-occupied l)
+
 -- at any number of cells
 total-of : (N : ℕ) (l : List Recorded) (c : List Cell) → length c ≡ N
     → ((i : ℕ) → coverage l i ≡ occupied (getD c i cell.Free))
@@ -119,3 +130,6 @@ total-of N l c e h w =
 pub total : (m : Memory) → Invariant m → countFree (m .cells) + liveLength (recordsOf m) ≡ cellCount
 total m y = total-of cellCount (recordsOf m) (m .cells) (y .size) (y .cover)
     (λ k s n e. y .within (suc k) s n (sym (named-map recordedOf (m .blocks) (suc k) block.Dead) ∙ e))
+
+pub total-occupied : (m : Memory) → Invariant m → countOccupied (m .cells) ≡ liveLength (recordsOf m)
+total-occupied m y = omega (arith, free-or-occupied (m .cells), y .size, total m y)

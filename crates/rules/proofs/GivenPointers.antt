@@ -1,0 +1,94 @@
+-- No cell and no temporary points to a name that was never given, in any run of an accepted table.
+use Prim.Native.Nat.{ℕ, zero, suc, _-_, _/_, _≤_}
+use native.Mathlib.Omega.{arith}
+use mathlib.Core.Path.{_≡_, refl, sym, subst}
+use mathlib.Core.Bool.{true, false, false≢true}
+use mathlib.Core.List.{List, [], _∷_, map}
+use lib.IntN.{ℤ, pos}
+use lib.ListN.{length}
+use Rattle.rules.specs.Sizes.{temporaryCount, inputLimit}
+use Rattle.rules.specs.Kinds.{source, target}
+use Rattle.rules.specs.Checker.{check, inputsFault}
+use Rattle.rules.specs.Nodes.{sourceProgram, targetProgram}
+use Rattle.rules.specs.TargetTrees.{TargetStatement}
+use Rattle.rules.specs.Memory.{startMemory}
+use Rattle.rules.specs.Observation.{Observation, startObservation}
+use Rattle.rules.specs.Plain.{startVariables}
+use Rattle.rules.specs.Watched.{Temporaries, startTemporaries, WatchedOutcome, watch}
+use Rattle.rules.specs.Watched as watched
+use Rattle.rules.specs.Translation.{translate}
+use Rattle.rules.specs.Answers.{inputsOf, memoryAfter, plainOutcome, watchedMemoryAfter, watchedOutcome}
+use Rattle.rules.proofs.Sound.{startScope, SoundTarget}
+use Rattle.rules.proofs.SoundTranslation.{sound-translation}
+use Rattle.rules.proofs.AcceptedPrograms.{accepted-program}
+use Rattle.rules.proofs.Keeping.{AnyNumber}
+use Rattle.rules.proofs.Outcomes.{WatchedOutcomes}
+use Rattle.rules.proofs.Lists.{All, none, also, all-append, all-replicate}
+use Rattle.rules.proofs.EvaluatedValues.{CellHas}
+use Rattle.rules.proofs.WatchedGiven.{PointersGiven, GivenState, watch-given}
+use Rattle.rules.proofs.GivenNames.{IsGiven, GivenValue, CellsGiven, TemporariesGiven}
+use Rattle.rules.proofs.Start.{start-invariant}
+use Rattle.rules.proofs.Inputs.{inputs-few, inputs-some}
+use Rattle.rules.proofs.WholeRun.{runs-same}
+use Rattle.rules.specs.declared.Value.the-variants as value
+use Rattle.rules.specs.declared.Checked.the-variants as checked
+use Rattle.rules.specs.declared.Cell.the-variants as cell
+use Rattle.rules.specs.declared.Temporary.the-variants as temporary
+
+start-given : (is : List ℤ) → length is ≤ inputLimit
+    → PointersGiven startScope startVariables (startMemory is) startTemporaries
+unfolding startMemory
+start-given is le = record {
+  invariant = start-invariant is le;
+  cells =
+      also {x = cell.Holds 1 (value.Pointer (record { name = 2; offset = pos 0 }))} (omega arith, omega arith, refl)
+      (all-append (integers is) (all-replicate (1023 - length is) cell.Free tt));
+  temporaries = all-replicate temporaryCount temporary.Empty tt;
+  variables = λ x e. first x e;
+}
+  where
+    integers : (is₁ : List ℤ)
+        → All (CellHas (GivenValue (startMemory is))) (map (λ z. cell.Holds 2 (value.Integer z)) is₁)
+    integers [] = none
+    integers (z ∷ is₁) = also tt (integers is₁)
+
+    first : (x : ℕ) → startScope x ≡ true → IsGiven (startMemory is) (startVariables x)
+    first zero e = (omega arith, omega arith, refl)
+    first (suc x) e = absurd (false≢true e)
+
+-- the temporaries after a watched run
+abbrev pub temporariesAfter : WatchedOutcome → Temporaries
+temporariesAfter (watched.finished m o τ f) = τ
+temporariesAfter (watched.ended c s m o τ f) = τ
+
+-- every pointer that a watched run leaves in a cell or in a temporary has a name that was given
+abbrev pub AllGiven : WatchedOutcome → Type 0
+AllGiven w = CellsGiven (watchedMemoryAfter w) × TemporariesGiven (watchedMemoryAfter w) (temporariesAfter w)
+
+after-given : (w : WatchedOutcome) → WatchedOutcomes (GivenState startScope startVariables) AnyNumber w → AllGiven w
+after-given (watched.finished m o τ f) h = (h .cells, h .temporaries)
+after-given (watched.ended c s m o τ f) h = (h .1 .cells, h .1 .temporaries)
+
+from-start : (a : TargetStatement) (is : List ℤ) (o : Observation) (f : ℕ) → SoundTarget a startScope
+    → length is ≤ inputLimit → AllGiven (watch a startVariables (startMemory is) o startTemporaries f)
+from-start a is o f h le =
+    after-given (watch a startVariables (startMemory is) o startTemporaries f)
+    (watch-given a startScope h startVariables (startMemory is) o startTemporaries f (start-given is le))
+
+-- every accepted target table, a hand-made one too
+pub watched-given : (t i : List ℕ) (f : ℕ) → check target t ≡ checked.Accepted → inputsFault i ≡ false
+    → AllGiven (watchedOutcome t i f)
+watched-given t i f c e =
+    from-start (targetProgram t) (inputsOf i) (startObservation (length i / 8)) f
+    (accepted-program target t c .last .sound) (inputs-few i e)
+
+-- every accepted source table: its plain run leaves the memory of its translation's watched run
+pub plain-given : (t i : List ℕ) (f : ℕ) → check source t ≡ checked.Accepted → inputsFault i ≡ false
+    → CellsGiven (memoryAfter (plainOutcome t i f))
+plain-given t i f c e =
+    let sound = accepted-program source t c .last .sound in
+    let is = inputsOf i in
+    let same = runs-same (sourceProgram t) startScope is f sound (inputs-some i e) (inputs-few i e) in
+    subst CellsGiven (sym (same .same-memory))
+    (from-start (translate (sourceProgram t)) is (startObservation (length is)) f
+    (sound-translation (sourceProgram t) startScope sound) (inputs-few i e) .0)
