@@ -1,7 +1,8 @@
 -- Facts about the definitions.
 
--- Where people err: first, so that a wrong definition is named by what goes wrong.
+-- Where people err, and P1 to P4: first, so that a wrong definition is named by what goes wrong.
 pub mod CommonErrors
+pub mod FirstCases
 -- Tests, searches, bytes and lists.
 pub mod BooleanLaws
 pub mod Among

@@ -12,8 +12,7 @@ use Rattle.rules.specs.Watched.{WatchedOutcome, watch, startTemporaries}
 use Rattle.rules.specs.Translation.{translate}
 use Rattle.rules.specs.Layout.{blockBytes, recordedBytes}
 use Rattle.rules.specs.Answers.{endingOf, memoryAfter, watchedEndingOf, watchedMemoryAfter, observationAfter}
-use Rattle.rules.specs.Cases.{line, of, five, letFive, p5, p6, p7, p9}
-use Rattle.rules.specs.declared.Answer.{Answer}
+use Rattle.rules.specs.Cases.{line, of, literal, stop, five, letFive, p5, p6, p7, p9}
 
 -- a program's plain run, and the watched run of its translation
 unfoldable pub plainly : List Record → Outcome
@@ -24,34 +23,30 @@ watchedly rs =
     watch (translate (sourceProgram (tableBytes rs))) startVariables (startMemory (pos 7 ∷ pos 9 ∷ []))
     (startObservation 2) startTemporaries 0
 
--- number and statement of an ending
-abbrev pub stop : Answer → List ℕ
-stop a = a .number ∷ a .«record» ∷ []
-
 unfoldable pub stops : List Record → List ℕ
 stops rs = stop (endingOf (plainly rs)) ++ stop (watchedEndingOf (watchedly rs))
 
 -- "reporting 33 where 41 stops the evaluation": in a fresh let, assert x = 1
 abbrev pub undecided : List Record
 undecided =
-    five ∷ of 2 1 0 ∷ of 20 2 0 ∷ line 1 0 0 0 0 (pos 1) ∷ of 20 4 0 ∷ line 32 7 3 5 0 (pos 0) ∷ of 48 6 0 ∷ letFive 7 ∷ []
+    five ∷ of 2 1 0 ∷ of 20 2 0 ∷ literal (pos 1) ∷ of 20 4 0 ∷ line 32 7 3 5 0 (pos 0) ∷ of 48 6 0 ∷ letFive 7 ∷ []
 
 -- a later assertion that is false: assert 1 = 1, then assert 0 = 1
 abbrev pub later : List Record
 later =
-    line 1 0 0 0 0 (pos 1) ∷ of 20 1 0 ∷ line 1 0 0 0 0 (pos 1) ∷ of 20 3 0 ∷ line 32 7 2 4 0 (pos 0) ∷ of 48 5 0
-    ∷ line 1 0 0 0 0 (pos 0) ∷ of 20 7 0 ∷ line 1 0 0 0 0 (pos 1) ∷ of 20 9 0 ∷ line 32 7 8 10 0 (pos 0) ∷ of 48 11 0
+    literal (pos 1) ∷ of 20 1 0 ∷ literal (pos 1) ∷ of 20 3 0 ∷ line 32 7 2 4 0 (pos 0) ∷ of 48 5 0
+    ∷ literal (pos 0) ∷ of 20 7 0 ∷ literal (pos 1) ∷ of 20 9 0 ∷ line 32 7 8 10 0 (pos 0) ∷ of 48 11 0
     ∷ of 44 6 12 ∷ []
 
 -- p takes a new cell, which is freed, and then *p = 5
 abbrev pub dangling : List Record
 dangling =
-    five ∷ line 1 0 0 0 0 (pos 1) ∷ of 42 1 2 ∷ five ∷ of 2 4 0 ∷ of 43 5 0
-    ∷ five ∷ of 2 7 0 ∷ of 11 8 0 ∷ line 1 0 0 0 0 (pos 5) ∷ of 41 9 10 ∷ of 44 6 11 ∷ of 44 3 12 ∷ letFive 13 ∷ []
+    five ∷ literal (pos 1) ∷ of 42 1 2 ∷ five ∷ of 2 4 0 ∷ of 43 5 0
+    ∷ five ∷ of 2 7 0 ∷ of 11 8 0 ∷ literal (pos 5) ∷ of 41 9 10 ∷ of 44 6 11 ∷ of 44 3 12 ∷ letFive 13 ∷ []
 
 -- p takes a new cell, which is freed
 abbrev pub freedBlock : List Record
-freedBlock = five ∷ line 1 0 0 0 0 (pos 1) ∷ of 42 1 2 ∷ five ∷ of 2 4 0 ∷ of 43 5 0 ∷ of 44 3 6 ∷ letFive 7 ∷ []
+freedBlock = five ∷ literal (pos 1) ∷ of 42 1 2 ∷ five ∷ of 2 4 0 ∷ of 43 5 0 ∷ of 44 3 6 ∷ letFive 7 ∷ []
 
 -- the states of blocks 3, the let's, and 4, the new one
 abbrev pub states : Memory → List ℕ
