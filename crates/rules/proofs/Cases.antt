@@ -5,7 +5,7 @@ use mathlib.Core.Bool.{Bool, true, false}
 use mathlib.Core.List.{List, [], _∷_, _++_, map}
 use mathlib.Core.Path.{_≡_, refl, ap, _∙_}
 use lib.IntN.{pos}
-use lib.ListN.{length, getD-replicate}
+use lib.ListN.{getD-replicate}
 use Rattle.rules.specs.Words.{little, digits, part, wordAt, flat}
 use Rattle.rules.specs.Records.{Record, tableBytes}
 use Rattle.rules.specs.Kinds.{source, lookUp, formOf}
@@ -20,14 +20,17 @@ use Rattle.rules.specs.Memory.{withBlock, makeAt, storeNew, endBlock, st
 use Rattle.rules.specs.Evaluation.{extend, evaluate, queried, evaluateTerm, evaluatePredicate}
 use Rattle.rules.specs.Plain.{finished, next, after, inLet, turns, run, startVariables}
 use Rattle.rules.specs.Observation.{startObservation, covered, markAll}
-use Rattle.rules.specs.Watched.{WatchedOutcome, watch, startTemporaries}
+use Rattle.rules.specs.Watched.{watch, startTemporaries}
 use Rattle.rules.specs.Translation.{embed, translateTerm, translatePredicate, translate}
 use Rattle.rules.specs.Layout.{blockBytes, memoryImage, blockPlace}
 use Rattle.rules.specs.Answers.{PlainRun, inputsOf, endingOf, memoryAfter, watchedEndingOf}
 use Rattle.rules.specs.Cases.{minus, inputs, stop, ending, endings, p5, p6, p7, p8, p9, p10, blockAfter}
 use Rattle.rules.specs.Cases.{worked, onPaper}
+use Rattle.rules.specs.CommonErrors.{stops}
+use Rattle.rules.specs.CommonErrors as errors
 use Rattle.rules.proofs.FirstCases.{listing-of-P1, divisions-of-P2-to-P4, plainly, plain-is, ending-is}
 use Rattle.rules.proofs.FirstCases.{endings-are}
+use Rattle.rules.proofs.CommonErrors.{each-right}
 use Rattle.rules.proofs.Sound.{startScope, SoundStatement}
 use Rattle.rules.proofs.AcceptedPrograms.{accepted-program}
 use Rattle.rules.proofs.SizeBound.{size-bound}
@@ -40,23 +43,18 @@ use Rattle.rules.specs.declared.Cell.the-variants as cell
 use Rattle.rules.specs.declared.Checked.the-variants as checked
 
 -- A translation is accepted, and read back as the translated tree: it need not be emitted.
-watchedFrom : TargetStatement → WatchedOutcome
-watchedFrom a =
-    watch a startVariables (startMemory (inputsOf inputs)) (startObservation (length inputs / 8)) startTemporaries 0
-
-stops : List Record → List ℕ
-stops rs =
-    stop (endingOf (plainly rs)) ++ stop (watchedEndingOf (watchedFrom (translate (sourceProgram (tableBytes rs)))))
-
 stops-are : (rs : List Record) → check source (tableBytes rs) ≡ checked.Accepted → endings rs ≡ stops rs
-unfolding stops watchedFrom
+unfolding little digits wordAt stops errors.plainly errors.watchedly
 stops-are rs c =
     let t : List ℕ = tableBytes rs in
     let a = accepted-program source t c in
     let sound : SoundStatement (sourceProgram t) startScope = a .last .sound in
     let small : translatedSize t ≤ 4096 = omega (arith, size-bound t c, a .not-too-many) in
     endings-are rs c (translation-accepted t sound small)
-    ∙ ap (λ (p : TargetStatement). stop (endingOf (plainly rs)) ++ stop (watchedEndingOf (watchedFrom p)))
+    ∙ ap (λ (p : TargetStatement).
+    stop (endingOf (plainly rs))
+    ++ stop (watchedEndingOf (watch p startVariables (startMemory (inputsOf inputs)) (startObservation 2)
+    startTemporaries 0)))
     (translation-program t sound small)
 
 -- no bytes of a cell are worked out for a block's record
@@ -116,7 +114,7 @@ last-fits =
     (makeAt inLetFive freeable 1020 (search.At 4) (last-room i))))
     (λ m f. finished (endBlock m 3) f))))
 
--- P5 to P10
+-- P5 to P10; P6, P7 and an offset of P5 are told where people err
 runs :
     (endings (p5 (pos 0)) ≡ (0 ∷ 0 ∷ 0 ∷ 0 ∷ []))
     × (endings (p5 (pos 1)) ≡ (0 ∷ 0 ∷ 0 ∷ 0 ∷ []))
@@ -132,14 +130,14 @@ runs :
 unfolding little digits wordAt flat lookUp formOf lowest recordFault timesChildOf timesChild shapeFault parentOf
     inScope scopeFault levelOf levelFault check makeNode nodes nodeAt onIntegers onPointerAndInteger onPointers
     operate locate allFree lowestRun startMemory evaluate queried evaluateTerm evaluatePredicate turns run covered
-    markAll watch embed translateTerm translatePredicate translate stops watchedFrom
+    markAll watch embed translateTerm translatePredicate translate stops errors.plainly errors.watchedly
 runs = (
-  stops-are (p5 (pos 0)) refl,
+  stops-are (p5 (pos 0)) refl ∙ each-right .0,
   stops-are (p5 (pos 1)) refl,
   stops-are (p5 (minus 1)) refl,
   stops-are (p5 (pos 2)) refl,
-  stops-are p6 refl,
-  stops-are p7 refl,
+  stops-are p6 refl ∙ each-right .1,
+  stops-are p7 refl ∙ each-right .2,
   ending-is (p8 1020) refl ∙ last-fits,
   ending-is (p8 1021) refl,
   ending-is (p8 0) refl,

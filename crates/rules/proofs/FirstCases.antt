@@ -1,4 +1,5 @@
--- P1 to P4 as runs of whole tables, by computation: early, so that a wrong definition is named by the case it gets wrong.
+-- P1 to P4 as a listing and runs of whole tables, by computation. No law of translations or memories is used, so that a
+-- wrong definition is refused by the case that it gets wrong.
 use Prim.Native.Nat.{ℕ, _^_}
 use mathlib.Core.List.{List, [], _∷_, _++_, map}
 use mathlib.Core.Path.{_≡_, refl, ap}

@@ -1,8 +1,8 @@
 -- Facts about the definitions.
 
--- Where people err, and P1 to P4: first, so that a wrong definition is named by what goes wrong.
-pub mod CommonErrors
+-- P1 to P4, and where people err: by computation from the definitions alone.
 pub mod FirstCases
+pub mod CommonErrors
 -- Tests, searches, bytes and lists.
 pub mod BooleanLaws
 pub mod Among

@@ -9,10 +9,11 @@ use Rattle.rules.specs.Memory.{Memory, blockOf, startMemory}
 use Rattle.rules.specs.Observation.{Observation, recordOf, startObservation}
 use Rattle.rules.specs.Plain.{Outcome, run, startVariables}
 use Rattle.rules.specs.Watched.{WatchedOutcome, watch, startTemporaries}
-use Rattle.rules.specs.Translation.{translate}
+use Rattle.rules.specs.Translation.{translate, translation}
 use Rattle.rules.specs.Layout.{blockBytes, recordedBytes}
-use Rattle.rules.specs.Answers.{endingOf, memoryAfter, watchedEndingOf, watchedMemoryAfter, observationAfter}
-use Rattle.rules.specs.Cases.{line, of, literal, stop, five, letFive, p5, p6, p7, p9}
+use Rattle.rules.specs.Answers.{endingOf, memoryAfter, watchedOutcome, watchedEndingOf, watchedMemoryAfter}
+use Rattle.rules.specs.Answers.{observationAfter}
+use Rattle.rules.specs.Cases.{inputs, line, of, literal, stop, five, letFive, p5, p6, p7, p9}
 
 -- a program's plain run, and the watched run of its translation
 unfoldable pub plainly : List Record → Outcome
@@ -23,8 +24,13 @@ watchedly rs =
     watch (translate (sourceProgram (tableBytes rs))) startVariables (startMemory (pos 7 ∷ pos 9 ∷ []))
     (startObservation 2) startTemporaries 0
 
+-- number and statement of both endings
 unfoldable pub stops : List Record → List ℕ
 stops rs = stop (endingOf (plainly rs)) ++ stop (watchedEndingOf (watchedly rs))
+
+-- and of the watched run's, from the translation's bytes on
+unfoldable pub readBack : List Record → List ℕ
+readBack rs = stop (watchedEndingOf (watchedOutcome (translation (tableBytes rs)) inputs 0))
 
 -- "reporting 33 where 41 stops the evaluation": in a fresh let, assert x = 1
 abbrev pub undecided : List Record
@@ -67,7 +73,7 @@ told =
     ∷ stops p7
     ∷ states (memoryAfter (plainly p9))
     ∷ stops undecided
-    ∷ stops later
+    ∷ (stops later ++ readBack later)
     ∷ stops dangling
     ∷ (states (memoryAfter (plainly freedBlock)) ++ watchedStates (watchedly freedBlock))
     ∷ []
@@ -79,7 +85,7 @@ right =
     ∷ (0 ∷ 0 ∷ 0 ∷ 0 ∷ [])
     ∷ (3 ∷ 3 ∷ [])
     ∷ (41 ∷ 7 ∷ 41 ∷ 7 ∷ [])
-    ∷ (33 ∷ 12 ∷ 33 ∷ 12 ∷ [])
+    ∷ (33 ∷ 12 ∷ 33 ∷ 12 ∷ 33 ∷ 12 ∷ [])
     ∷ (42 ∷ 11 ∷ 42 ∷ 11 ∷ [])
     ∷ (3 ∷ 3 ∷ 3 ∷ 3 ∷ 2 ∷ 2 ∷ [])
     ∷ []
