@@ -46,13 +46,13 @@ same-length c =
 
 returns : tie.Need-returns
 returns c =
-    let x = c .before .before in
-    let q = x .before .before .before .before in
-    let p = q .before .before .before .before in
-    let s = p .before .before .before .before in
+    let sequence = c .before .before in
+    let part = sequence .before .before .before .before in
+    let test = part .before .before .before .before in
+    let s = test .before .before .before .before in
     emitted-sequence _ _ (s .args .s) (test-some (now (s .args .table)) (s .args .a) (s .args .s) 0 (s .pre .0)) some
-    (p .emit-test .ensures) (q .emit-part .ensures)
-    (s .pre .1 .1) (x .emit-sequence .ensures .0) (x .emit-sequence .ensures .1)
+    (test .emit-test .ensures) (part .emit-part .ensures)
+    (s .pre .1 .1) (sequence .emit-sequence .ensures .0) (sequence .emit-sequence .ensures .1)
 
 pub emit-assert-spec : {M : Type 1} → statement M
 emit-assert-spec =
