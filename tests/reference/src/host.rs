@@ -33,6 +33,23 @@ pub fn watched(table: &[u8], inputs: &[u8], fuel: u32) -> (Answer, Vec<u8>, Vec<
     (answer, memory, observation)
 }
 
+/// Both runs of an accepted source, each with memories of its own. They must agree, and after an ending 0 or 33 the
+/// observation memory must mirror the execution memory.
+pub fn both(source: &[u8], inputs: &[u8], fuel: u32) -> (Answer, Vec<u8>) {
+    let (answer, memory) = plain(source, inputs, fuel);
+    let target = translated(source).expect("accepted");
+    let (watched_answer, watched_memory, observation) = watched(&target, inputs, fuel);
+    assert_eq!(answer, watched_answer);
+    assert!(memory == watched_memory, "the execution memories differ");
+    if matches!(answer.number, 0 | 33) {
+        assert!(
+            observation == mirror(&memory),
+            "no mirror of the execution memory"
+        );
+    }
+    (answer, memory)
+}
+
 /// The bytes of a translation, or the refusal by 1–8.
 pub fn translated(source: &[u8]) -> Result<Vec<u8>, Answer> {
     translation(source).map(|translation| table(&translation.records))

@@ -1,7 +1,7 @@
 //! How assertions end: truth, skipping, and faults within terms; plain and translated alike.
 
 use reference::builder::Builder;
-use reference::host::{inputs, mirror, plain, translated, watched};
+use reference::host::{both, inputs};
 
 /// The ending of `let 1 in (1 = new 2; free 1; let 2 in (2 = new 3; assert predicate))`, where
 /// variable 1 points to a dead block and variable 2 to a live undefined one of 3 cells.
@@ -16,14 +16,7 @@ fn asserting(build: impl FnOnce(&mut Builder) -> u16) -> u32 {
     let inner = b.let_in(2, inner);
     let body = b.sequence(&[first, free, inner]);
     b.let_in(1, body);
-    let (source, inputs) = (b.table(), inputs(&[7, 9]));
-    let (answer, memory) = plain(&source, &inputs, 10);
-    let target = translated(&source).expect("accepted");
-    let (watched_answer, watched_memory, observation) = watched(&target, &inputs, 10);
-    assert_eq!((answer, &memory), (watched_answer, &watched_memory));
-    if matches!(answer.number, 0 | 33) {
-        assert_eq!(observation, mirror(&memory));
-    }
+    let (answer, _) = both(&b.table(), &inputs(&[7, 9]), 10);
     let statement = if answer.number == 0 {
         0
     } else {

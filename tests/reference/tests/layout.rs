@@ -1,7 +1,7 @@
 //! The bytes of both memories for one small program, written out by hand.
 
 use reference::builder::Builder;
-use reference::host::{inputs, plain, translated, watched};
+use reference::host::{inputs, mirror, plain, translated, watched};
 use reference::Answer;
 
 /// let 5 in (5 = new 2; free 5; 5 = new 3; *5 = -2; *(5+1) = &5 - 3; assert false).
@@ -90,6 +90,11 @@ fn both_memories_have_the_bytes_written_here() {
     assert_eq!(memory, execution_memory());
     assert_eq!(observation.len(), 3_064);
     assert_eq!(observation, observation_memory());
+}
+
+#[test]
+fn the_observation_memory_written_here_mirrors_the_execution_memory() {
+    assert_eq!(mirror(&execution_memory()), observation_memory());
 }
 
 #[test]

@@ -1,6 +1,29 @@
-//! Operators 1 to 7 at their ends, and operator 5 by what it means.
+//! Operators 1 to 8 by number, 1 to 7 at their ends, and operator 5 by what it means.
 
 use reference::numbers::operate;
+use reference::value::{self, Pointer, Value};
+
+#[test]
+fn each_operator_does_what_its_number_says() {
+    let on_7_and_9 = [(1, 16), (2, -2), (3, 63), (4, 0), (5, 1), (6, 1), (7, 0)];
+    for (operator, result) in on_7_and_9 {
+        let given = value::operate(operator, Value::Integer(7), Value::Integer(9));
+        assert_eq!(given, Ok(Value::Integer(result)), "operator {operator}");
+    }
+    let pointer = |offset| Value::Pointer(Pointer { name: 2, offset });
+    assert_eq!(
+        value::operate(8, pointer(7), Value::Integer(9)),
+        Ok(pointer(16))
+    );
+    assert_eq!(
+        value::operate(7, pointer(7), pointer(7)),
+        Ok(Value::Integer(1))
+    );
+    assert_eq!(
+        value::operate(7, pointer(7), pointer(9)),
+        Ok(Value::Integer(0))
+    );
+}
 
 #[test]
 fn overflow_is_43_at_the_first_value_outside_64_bits() {

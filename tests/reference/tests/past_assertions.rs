@@ -59,6 +59,26 @@ fn predicts_33_at_the_first_false_one_with_fuel_and_memory_as_then() {
 }
 
 #[test]
+fn of_two_false_assertions_the_first_is_named() {
+    let mut b = Builder::source();
+    let [first, second] = [0; 2].map(|_| {
+        let falsehood = b.compare_literals(7, 0, 1);
+        b.assert(falsehood)
+    });
+    b.then(first, second);
+    let past = past(&b.table(), &inputs(&[7, 9]), 4).expect("accepted");
+    let reached = past
+        .reached
+        .iter()
+        .map(|reached| (reached.statement, reached.truth));
+    let expected = [first, second].map(|statement| (u32::from(statement), Truth::False));
+    assert!(reached.eq(expected));
+    let ending = Answer::ending(33, u32::from(first), 4, 1021);
+    assert_eq!(past.predicted().0, ending);
+    assert_eq!(plain(&b.table(), &inputs(&[7, 9]), 4).0, ending);
+}
+
+#[test]
 fn a_loop_cut_short_by_fuel_predicts_32() {
     let (source, [inside, _]) = program();
     let past = past(&source, &inputs(&[7, 9]), 1).expect("accepted");

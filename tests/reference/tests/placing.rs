@@ -2,7 +2,7 @@
 
 use reference::builder::Builder;
 use reference::generator::random::Random;
-use reference::host::{inputs, mirror, plain, translated, watched};
+use reference::host::{both, inputs};
 use reference::limits::lowest_run;
 
 #[test]
@@ -42,11 +42,8 @@ fn first_cell_of(size: i64) -> u16 {
     for variable in 1..=3 {
         body = b.let_in(variable, body);
     }
-    let (answer, memory) = plain(&b.table(), &inputs(&[7, 9]), 0);
+    let (answer, memory) = both(&b.table(), &inputs(&[7, 9]), 0);
     assert_eq!(answer.number, 33);
-    let target = translated(&b.table()).expect("accepted");
-    let (_, watched_memory, observation) = watched(&target, &inputs(&[7, 9]), 0);
-    assert_eq!((&memory, &mirror(&memory)), (&watched_memory, &observation));
     // Names 1 and 2 are the inputs', 3 to 5 the lets', 6 and 7 the first two blocks'.
     u16::from_le_bytes([memory[7 * 8 + 2], memory[7 * 8 + 3]])
 }

@@ -1,20 +1,14 @@
 //! The cases worked on paper, P1 to P10, and R1.
 
 use reference::builder::Builder;
-use reference::host::{inputs, plain, translated, watched};
+use reference::host::{self, inputs, plain, translated, watched};
 use reference::listing::listing;
 use reference::numbers::operate;
 use reference::Answer;
 
-/// Both runs of a source on inputs 7, 9 and fuel 10; they must agree.
+/// Both runs of a source on inputs 7, 9 and fuel 10.
 fn both(source: &[u8]) -> (Answer, Vec<u8>) {
-    let inputs = inputs(&[7, 9]);
-    let (answer, memory) = plain(source, &inputs, 10);
-    let target = translated(source).expect("accepted");
-    let (watched_answer, watched_memory, _) = watched(&target, &inputs, 10);
-    assert_eq!(answer, watched_answer);
-    assert_eq!(memory, watched_memory);
-    (answer, memory)
+    host::both(source, &inputs(&[7, 9]), 10)
 }
 
 fn number(source: &[u8]) -> u32 {

@@ -100,28 +100,49 @@ fn an_initialise_is_48_outside_a_live_record() {
     });
 }
 
-#[test]
-fn deleted_marks_serve_again_from_the_lowest_run_and_start_at_0() {
+/// Answer and observation memory of the watched run on inputs 7, 9.
+fn observed(build: impl FnOnce(&mut Target)) -> (Answer, Vec<u8>) {
     let mut t = Target {
         b: Builder::target(1),
         parts: Vec::new(),
     };
-    // Names 3 and 4 get 3 and 2 marks; those of name 3 are given back before name 5 comes.
-    t.new_block(0, 3)
-        .integer(1, 3)
-        .statement(68, 0, 0)
-        .statement(70, 0, 0);
-    t.new_block(2, 2)
-        .integer(3, 2)
-        .statement(68, 2, 0)
-        .statement(70, 2, 0);
-    t.new_block(4, 9)
-        .integer(5, 3)
-        .statement(69, 0, 0)
-        .statement(68, 4, 0);
+    build(&mut t);
     let parts = t.parts.clone();
     t.b.sequence(&parts);
     let (answer, _, observation) = watched(&t.b.table(), &inputs(&[7, 9]), 5);
+    (answer, observation)
+}
+
+#[test]
+fn the_marks_of_a_deleted_block_are_0() {
+    let (answer, observation) = observed(|t| {
+        t.new_block(0, 2).integer(1, 2);
+        t.statement(68, 0, 0)
+            .statement(70, 0, 0)
+            .statement(69, 0, 0);
+    });
+    assert_eq!(answer, Answer::ending(0, 0, 5, 1024 - 3 - 2));
+    // The inputs' marks, and none where the block of 2 stood.
+    assert_eq!(observation[2040..2046], [1, 1, 1, 0, 0, 0]);
+}
+
+#[test]
+fn deleted_marks_serve_again_from_the_lowest_run_and_start_at_0() {
+    let (answer, observation) = observed(|t| {
+        // Names 3 and 4 get 3 and 2 marks; those of name 3 are given back before name 5 comes.
+        t.new_block(0, 3)
+            .integer(1, 3)
+            .statement(68, 0, 0)
+            .statement(70, 0, 0);
+        t.new_block(2, 2)
+            .integer(3, 2)
+            .statement(68, 2, 0)
+            .statement(70, 2, 0);
+        t.new_block(4, 9)
+            .integer(5, 3)
+            .statement(69, 0, 0)
+            .statement(68, 4, 0);
+    });
     assert_eq!(answer, Answer::ending(0, 0, 5, 1024 - 3 - 14));
     let block = |name: usize| &observation[8 * (name - 1)..8 * name];
     assert_eq!(block(3), [2, 0, 0, 0, 0, 0, 0, 0]);

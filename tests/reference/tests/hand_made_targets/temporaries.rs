@@ -43,6 +43,12 @@ fn not_branch_and_assert_take_integers() {
         ends(49, |t| t.here(kind, mark, 0).end());
         ends(40, |t| t.inputs(1, 0).here(kind, mark, 0).end());
     }
+    ends(40, |t| {
+        t.inputs(1, 0).b.label = HERE;
+        let (then, otherwise) = (t.b.skip(), t.b.skip());
+        t.parts.push(t.b.add(66, 1, [0, then, otherwise]));
+        t.b.label = 1;
+    });
     ends(33, |t| t.integer(1, 0).here(67, 1, 0).end());
     ends(0, |t| t.integer(1, -3).here(67, 1, 0).end());
     ends(0, |t| {

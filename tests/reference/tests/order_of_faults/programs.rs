@@ -1,17 +1,12 @@
 //! Running and building the programs of these tests.
 
 use reference::builder::Builder;
-use reference::host::{inputs, plain, translated, watched};
+use reference::host::{self, inputs};
 use reference::Answer;
 
 /// Both runs on inputs 7, 9 with this fuel.
 pub fn both(b: &Builder, fuel: u32) -> (Answer, Vec<u8>) {
-    let (source, inputs) = (b.table(), inputs(&[7, 9]));
-    let (answer, memory) = plain(&source, &inputs, fuel);
-    let target = translated(&source).expect("accepted");
-    let (watched_answer, watched_memory, _) = watched(&target, &inputs, fuel);
-    assert_eq!((answer, &memory), (watched_answer, &watched_memory));
-    (answer, memory)
+    host::both(&b.table(), &inputs(&[7, 9]), fuel)
 }
 
 /// Builds a program, which tells the statement it should name, and expects its ending.
