@@ -1,57 +1,95 @@
 #!/usr/bin/env bash
-# Checks that every definition, theorem, function and file that docs/SENTENCES.md names exists, and every must-fail
-# edit that docs/PROVED.md names.
+# Checks that what the documents name is there: definitions, theorems, functions, files, tests and must-fail edits; and
+# that every sentence of docs/SENTENCES.md has a test or says why it has none.
 set -euo pipefail
 cd "$(dirname "$0")/.."
-page=docs/SENTENCES.md
 missing=0
 
 miss() {
-    echo "$page names $1, which is not there"
+    echo "$1"
     missing=1
 }
 
-# The names between backquotes, each once.
-names=$(grep -o '`[^`]*`' "$page" | tr -d '`' | sort -u)
-[ -n "$names" ] || { echo "$page names nothing"; exit 1; }
+# The names between backquotes in the text read, each once.
+names() {
+    grep -o '`[^`]*`' | tr -d '`' | sort -u
+}
 
-while IFS= read -r name; do
+# exists NAME: a name is told by its form; a word that has none of these forms is not a name.
+exists() {
+    local name=$1
     case $name in
-    *::*) grep -qE "(fn ${name##*::}\(|pub use [a-z_:]+::${name##*::};)" "crates/${name%%::*}/src/"*.rt 2>/dev/null || miss "$name" ;;
-    crates/* | tests/*) [ -e "$name" ] || miss "$name" ;;
-    rules/*) [ -e "crates/$name" ] || miss "$name" ;;
-    reference/* | compare/*) [ -e "tests/$name" ] || miss "$name" ;;
+    *.rs::*) grep -A1 -Fx '#[test]' "tests/${name%%::*}" | grep -qxF "fn ${name##*::}() {" ;;
+    *::*) grep -qE "(fn ${name##*::}\(|pub use [a-z_:]+::${name##*::};)" "crates/${name%%::*}/src/"*.rt ;;
+    crates/* | docs/* | tests/*) [ -e "$name" ] ;;
+    reference/* | compare/*) [ -e "tests/$name" ] ;;
+    */*.*) [ -e "crates/$name" ] ;;
+    */*) [ -f "crates/${name%%/*}/must-fail/${name#*/}.edit" ] ;;
     [A-Z]*.*)
         grep -qE "^ *((pub|abbrev|unfoldable|record|data) )*${name#*.} *[:(]" \
-            "crates/rules/specs/${name%%.*}.antt" "crates/rules/proofs/${name%%.*}.antt" 2>/dev/null || miss "$name"
+            "crates/rules/specs/${name%%.*}.antt" "crates/rules/proofs/${name%%.*}.antt"
         ;;
-    [A-Z]*) [ -e "crates/rules/proofs/$name.antt" ] || grep -q "enum $name " crates/rules/src/lib.rt || miss "$name" ;;
-    esac
-done <<<"$names"
+    [A-Z]*) [ -e "crates/rules/proofs/$name.antt" ] || grep -q "enum $name " crates/rules/src/lib.rt ;;
+    esac 2>/dev/null
+}
 
-page=docs/PROVED.md
-edits=$(sed -n '/^## Versions/,/^## What/p' "$page" | grep '^|' | grep -o '`[^`]*/[^`]*`' | tr -d '`' | sort -u)
-[ -n "$edits" ] || { echo "$page names no edit"; exit 1; }
-while IFS=/ read -r crate edit; do
-    [ -f "crates/$crate/must-fail/$edit.edit" ] || miss "$crate/$edit"
-done <<<"$edits"
+# names_exist PAGE NAMES: every one of the names, of which there are some.
+names_exist() {
+    [ -n "$2" ] || miss "$1 names nothing"
+    while IFS= read -r name; do
+        exists "$name" || miss "$1 names $name, which is not there"
+    done <<<"$2"
+    echo "$1: $(wc -l <<<"$2") names"
+}
 
-# docs/RULES.md: every definition that it names stands in crates/rules/specs; every section names one, and every module
-# there has one named.
-page=docs/RULES.md
-defined=$(grep -o '`[A-Z][A-Za-z0-9]*\.[^`]*`' "$page" | tr -d '`' | sort -u)
-while IFS=. read -r module name; do
-    grep -qE "^ *((pub|abbrev|unfoldable|record|data) )*$name *[:(]" "crates/rules/specs/$module.antt" 2>/dev/null ||
-        miss "$module.$name"
-done <<<"$defined"
-for file in crates/rules/specs/*.antt; do
-    module=$(basename "$file" .antt)
-    [ "$module" = Lib ] || grep -q "^$module\." <<<"$defined" || { echo "$page names nothing of $module"; missing=1; }
-done
-unnamed=$(awk '/^## / { if (h && !d) print h; h = $0; d = 0 } /`[A-Z][A-Za-z0-9]*\.[A-Za-z]/ { d = 1 }
-    END { if (!d) print h }' "$page")
-[ -z "$unnamed" ] || { echo "$page names no definition in: $unnamed"; missing=1; }
+# rows_tested PAGE: in a table whose last column is Test, each row has a test function there, or "no test" and why.
+rows_tested() {
+    local row
+    while IFS= read -r row; do
+        [ -z "$row" ] || miss "$1 has no test for$row"
+    done <<<"$(awk -F'|' '
+        !/^\|/ { tests = 0; next }
+        $(NF - 1) == " Test " { tests = 1; next }
+        tests && !/^\|-/ && $(NF - 1) !~ /\.rs::[a-z]/ && $(NF - 1) !~ /^ no test: [a-z]/ { print $2 }' "$1")"
+}
+
+# theorems_stand PAGE: in the table with a column Theorem before a column File, each theorem stands in one of its files.
+theorems_stand() {
+    local theorems files theorem file found
+    while IFS='|' read -r theorems files; do
+        for theorem in $(names <<<"$theorems"); do
+            found=
+            for file in $(names <<<"$files"); do
+                grep -qE "^ *(pub )?(record )?${theorem#*.} *[:(]" "crates/rules/proofs/$file.antt" 2>/dev/null && found=1
+            done
+            [ -n "$found" ] || miss "$1 names $theorem, which is not in$files"
+        done
+    done <<<"$(awk -F'|' '
+        !/^\|/ { theorems = 0; next }
+        $3 == " Theorem " && $4 == " File " { theorems = 1; next }
+        theorems && !/^\|-/ { print $3 "|" $4 }' "$1")"
+}
+
+# every_module_named PAGE DEFINITIONS: each section names a definition, and each module of the definitions has one named.
+every_module_named() {
+    local file module section
+    for file in crates/rules/specs/*.antt; do
+        module=$(basename "$file" .antt)
+        [ "$module" = Lib ] || grep -q "^$module\." <<<"$2" || miss "$1 names nothing of $module"
+    done
+    while IFS= read -r section; do
+        [ -z "$section" ] || miss "$1 names no definition in: $section"
+    done <<<"$(awk '/^## / { if (h && !d) print h; h = $0; d = 0 } /`[A-Z][A-Za-z0-9]*\.[A-Za-z]/ { d = 1 }
+        END { if (!d) print h }' "$1")"
+}
+
+names_exist docs/SENTENCES.md "$(names <docs/SENTENCES.md)"
+rows_tested docs/SENTENCES.md
+names_exist docs/PROVED.md "$(sed -n '/^## Versions/,/^## What/p' docs/PROVED.md | grep '^|' | names | grep / || true)"
+theorems_stand docs/PROVED.md
+defined=$(names <docs/RULES.md | grep '^[A-Z][A-Za-z0-9]*\.[a-zA-Z]' || true)
+names_exist docs/RULES.md "$defined"
+every_module_named docs/RULES.md "$defined"
 
 [ "$missing" -eq 0 ] || exit 1
-echo "$(wc -l <<<"$defined") definitions in RULES, of every module"
-echo "the documents' names are all there: $(wc -l <<<"$names") in SENTENCES, $(wc -l <<<"$edits") edits in PROVED"
+echo "what the documents name is all there"

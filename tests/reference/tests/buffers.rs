@@ -72,8 +72,16 @@ fn a_watched_run_refuses_1_to_7_then_9_then_21_then_22() {
         watched_refusal(&skip(1), &good, (18_425, 3_064)),
         Answer::of(21, 0)
     );
-    assert_eq!(watched_refusal(&skip(1), &[0; 7], (0, 0)), Answer::of(9, 0));
-    assert_eq!(watched_refusal(&skip(0), &[0; 7], (0, 0)), Answer::of(4, 1));
+    for lengths in [(0, 0), (18_424, 3_064)] {
+        assert_eq!(
+            watched_refusal(&skip(1), &[0; 7], lengths),
+            Answer::of(9, 0)
+        );
+        assert_eq!(
+            watched_refusal(&skip(0), &[0; 7], lengths),
+            Answer::of(4, 1)
+        );
+    }
 }
 
 #[test]

@@ -88,11 +88,11 @@ fn places_lead_where_their_kinds_say() {
     });
     assert_eq!(of_variable_63, Pointer(3, 0));
     let pointed = taken(|b| {
-        let pointer = b.read_variable(0);
+        let pointer = b.shifted_variable(0, 1);
         let place = b.pointed(pointer);
         b.address(place)
     });
-    assert_eq!(pointed, Pointer(2, 0));
+    assert_eq!(pointed, Pointer(2, 1));
 }
 
 #[test]
@@ -164,6 +164,16 @@ fn predicates_hold_as_their_kinds_say() {
     };
     assert_eq!([30, 31].map(|kind| of_pointer(kind, 1)), [true; 2]);
     assert_eq!([30, 31].map(|kind| of_pointer(kind, 2)), [false; 2]);
+    let of_undefined = |kind: u8| {
+        let (answer, _) = after(|b| {
+            let term = b.address_term(1);
+            let predicate = b.add(kind, 0, [term, 0, 0]);
+            let assertion = b.assert(predicate);
+            b.let_in(1, assertion);
+        });
+        answer.number
+    };
+    assert_eq!([30, 31].map(of_undefined), [0, 33]);
     let compared = |operator, left, right| holds(|b| b.compare_literals(operator, left, right));
     assert_eq!(
         [compared(6, 1, 2), compared(6, 2, 2), compared(6, 2, 1)],

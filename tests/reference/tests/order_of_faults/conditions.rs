@@ -29,6 +29,22 @@ fn a_test_that_would_be_false_costs_fuel_too() {
 }
 
 #[test]
+fn nothing_but_a_while_test_costs_fuel() {
+    let mut b = Builder::source();
+    let new = b.new_in(1, 2);
+    let free = b.free_variable(1);
+    let store = b.take_literal(1, 5);
+    let truth = b.compare_literals(7, 1, 1);
+    let assertion = b.assert(truth);
+    let condition = b.literal(1);
+    let (then, otherwise) = (b.skip(), b.skip());
+    let branch = b.if_else(condition, then, otherwise);
+    let body = b.sequence(&[new, free, store, assertion, branch]);
+    b.let_in(1, body);
+    assert_eq!(both(&b, 5).0, Answer::ending(0, 0, 5, 1021));
+}
+
+#[test]
 fn a_condition_takes_an_integer_and_names_its_own_statement() {
     ends(40, |b| {
         let pointer = b.address_of_variable(0);

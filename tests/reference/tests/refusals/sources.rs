@@ -131,6 +131,11 @@ fn the_shape_names_the_lowest_record_that_is_not_a_child_exactly_once() {
     assert_eq!(end(&table(&[skip, skip])), (6, 1));
     assert_eq!(end(&table(&[skip, record(44, 0, [1, 1, 0], 0)])), (6, 1));
     assert_eq!(end(&table(&[variable, record(2, 0, [1, 0, 0], 0)])), (6, 2));
+    assert_eq!(end(&table(&[variable])), (6, 1));
+    let term = record(20, 0, [1, 0, 0], 0);
+    assert_eq!(end(&table(&[literal, term])), (6, 2));
+    let predicate = record(30, 0, [2, 0, 0], 0);
+    assert_eq!(end(&table(&[literal, term, predicate])), (6, 3));
     assert_eq!(end(&table(&[skip, literal])), (6, 1));
     let twice = [
         skip,
