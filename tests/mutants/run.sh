@@ -8,7 +8,7 @@
 set -euo pipefail
 cd "$(dirname "$0")/../.."
 only=${1:-}
-source=tests/reference
+reference=tests/reference
 copy=build/mutants/reference
 export CARGO_TARGET_DIR=$PWD/build/mutants/target CARGO_PROFILE_DEV_DEBUG=0
 failed=0 tried=0
@@ -53,19 +53,22 @@ try() {
         programs+=(--test "$(program "$test")") functions+=("$(function_in "$test")")
     done
     said=$(timeout 300 cargo test --offline --no-fail-fast --manifest-path "$copy/Cargo.toml" \
-        "${programs[@]}" -- --exact "${functions[@]}" 2>&1) || true
+        "${programs[@]}" -- --exact "${functions[@]}" </dev/null 2>&1) || true
     for test in ${found#*$'\t'}; do
         if grep -qF "test $(function_in "$test") ... FAILED" <<<"$said"; then
             some=1 caught["${found%%$'\t'*}$test"]=1
         fi
     done
     tried=$((tried + 1))
-    [ "$some" -eq 1 ] || { wrong "not caught: $title"; grep -E '^error|test result' <<<"$said" || true; }
+    [ "$some" -eq 1 ] || { wrong "not caught: $title"; grep -m 5 -E '^error|test result' <<<"$said" || true; }
 }
 
-rm -rf "$copy"
+# One run at a time: they share the copy.
 mkdir -p "$copy"
-cp -r "$source"/* "$copy"
+exec 9>build/mutants/lock
+flock -n 9 || { echo "another run has the copy"; exit 1; }
+rm -rf "$copy"/*
+cp -r "$reference"/* "$copy"
 title='' row='' file='' old='' new=''
 while IFS= read -r line; do
     case $line in
@@ -81,7 +84,7 @@ while IFS= read -r line; do
         [ -n "$title" ] || continue
         change
         case $row in *"$only"*) try ;; esac
-        cp "$source"/src/*.rs "$copy/src"
+        cp "$reference"/src/*.rs "$copy/src"
         title=''
         ;;
     *) wrong "no line of a mutant: $line" ;;
@@ -94,5 +97,6 @@ while [ -z "$only" ] && IFS=$'\t' read -r words tests; do
     done
 done <<<"$rows"
 
+[ "$tried" -gt 0 ] || wrong "no mutant's row has '$only'"
 [ "$failed" -eq 0 ] || exit 1
 echo "$tried mutants caught"
