@@ -4,7 +4,13 @@
 set -euo pipefail
 cd "$(dirname "$0")/.."
 room=
-trap '[ $? -eq 0 ] || echo "the gate failed"; [ -z "$room" ] || rm -rf "$room"' EXIT
+mutants=
+finish() {
+    [ "$1" -eq 0 ] || echo "the gate failed"
+    [ -z "$mutants" ] || kill "$mutants" 2>/dev/null || true
+    [ -z "$room" ] || rm -rf "$room"
+}
+trap 'finish $?' EXIT
 
 tests/documents.sh
 
@@ -16,11 +22,13 @@ if [ "${TMPDIR:-/tmp}" = /tmp ] && [ "$(df --output=avail /dev/shm 2>/dev/null |
 fi
 
 # Cargo's folder lies outside target/, which `rt ci` removes. The second implementation's own tests need no proof, and
-# the first crates to be proved leave a processor idle.
+# the first crates to be proved leave a processor idle. So do other batches, which its mutants fill at low priority.
 export CARGO_TARGET_DIR="$PWD/build/cargo"
 mkdir -p build
 cargo test --release --offline --manifest-path tests/reference/Cargo.toml >build/reference.log 2>&1 &
 reference=$!
+nice -n 19 tests/mutants/run.sh >build/mutants.log 2>&1 &
+mutants=$!
 
 # rt waits for a whole batch before the next: four at a time keep two processors busy beside the longest of them.
 export RT_JOBS="${RT_JOBS:-4}"
@@ -30,6 +38,9 @@ grep -qxE '[1-9][0-9]* passed, 0 failed' <<<"$verdict"
 
 wait "$reference" || { cat build/reference.log; exit 1; }
 cat build/reference.log
+wait "$mutants" || { cat build/mutants.log; exit 1; }
+mutants=
+cat build/mutants.log
 
 # The listing program against stored texts, which the second implementation derives.
 tests/listing/compare.sh target/bin/listing
