@@ -15,7 +15,8 @@ use Rattle.rules.specs.Plain.{startVariables}
 use Rattle.rules.specs.Watched.{watch, startTemporaries}
 use Rattle.rules.specs.Translation.{translate, translation}
 use Rattle.rules.specs.Layout.{memoryImage, observationImage}
-use Rattle.rules.specs.Answers.{PlainRun, WatchedRun, inputsOf, plainOutcome, plainEnded, watchedOutcome, watchedEnded}
+use Rattle.rules.specs.Answers.{PlainRun, WatchedRun, inputsOf, plainOutcome, plainEnded, watchedOutcome}
+use Rattle.rules.specs.Answers.{watchedEnded}
 use Rattle.rules.specs.Demand3.{Agreement, Demand3}
 use Rattle.rules.specs.declared.Checked.the-variants as checked
 use Rattle.rules.proofs.UnrefusedRuns.{plain-runs, watched-runs}

@@ -6,7 +6,8 @@ use mathlib.Core.Bool.{false}
 use mathlib.Core.Path.{_≡_}
 use lib.ListN.{length-replicate}
 use Rattle.rules.specs.Sizes.{nameCount, cellCount}
-use Rattle.rules.specs.Memory.{Memory, setCell, cellOf, isFree, nextName, freeRun, Use, withBlock, makeBlock, endBlock}
+use Rattle.rules.specs.Memory.{Memory, setCell, cellOf, isFree, nextName, freeRun, Use, withBlock, makeBlock}
+use Rattle.rules.specs.Memory.{endBlock}
 use Rattle.rules.specs.Observation.{Observation, markRun, emptyObservation, startObservation}
 use Rattle.rules.proofs.Keeping.{AnyNumber, AnyValue, AnyPlace, AnyMemory, MadeKeeps, makeAt-keeps}
 use Rattle.rules.proofs.Calls.{CallsKeep}

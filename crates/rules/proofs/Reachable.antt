@@ -20,7 +20,8 @@ use Rattle.rules.specs.Observation as observation
 use Rattle.rules.specs.Plain.{run, startVariables}
 use Rattle.rules.specs.Watched.{Temporaries, startTemporaries, temporaryOf, heldIn, watch, calledOn, calledOnTwo}
 use Rattle.rules.specs.Watched as watched
-use Rattle.rules.proofs.Sound.{Scope, adding, NoName, Named, SoundExpression, SoundPlace, SoundStatement, SoundTarget}
+use Rattle.rules.proofs.Sound.{Scope, adding, NoName, Named, SoundExpression, SoundPlace, SoundStatement}
+use Rattle.rules.proofs.Sound.{SoundTarget}
 use Rattle.rules.proofs.Keeping.{AnyNumber, any-test, any-evaluated, ChangeKeeps, on-value, assigned-keeps}
 use Rattle.rules.proofs.Keeping.{allocated-keeps, freed-keeps}
 use Rattle.rules.proofs.Outcomes.{Outcomes, next-keeps, after-keeps, decide-keeps, turns-keeps, inLet-keeps}

@@ -7,18 +7,22 @@ use mathlib.Core.Path.{_≡_, refl, sym, ap, _∙_, subst}
 use mathlib.Core.List.{List}
 use mathlib.Core.Option.{some}
 use Rattle.rules.specs.Records.{recordCount, kindOf, childA, childB, childC}
-use Rattle.rules.specs.Kinds.{source, Sort, sortNumber, expression, place, term, predicate, statement, Field, unnamed}
+use Rattle.rules.specs.Kinds.{source, Sort, sortNumber, expression, place, term, predicate, statement, Field}
+use Rattle.rules.specs.Kinds.{unnamed}
 use Rattle.rules.specs.Kinds.{child, number, Form, forms, formOf}
 use Rattle.rules.specs.Nodes.{SourceNode, expressionNode, placeNode, termNode, predicateNode, statementNode, junk}
 use Rattle.rules.specs.Nodes.{nodeSort, asExpression, asPlace, asTerm, asPredicate, sourceStatement, nodeAt}
 use Rattle.rules.specs.Trees.{Term, Predicate}
 use Rattle.rules.specs.Trees as tree
-use Rattle.rules.specs.Translation.{embed, embedPlace, translateTerm, translatePredicate, translate, RecordTree, none}
+use Rattle.rules.specs.Translation.{embed, embedPlace, translateTerm, translatePredicate, translate, RecordTree}
+use Rattle.rules.specs.Translation.{none}
 use Rattle.rules.specs.Translation.{expressionTree, placeTree, statementTree, treeSize}
 use Rattle.rules.proofs.BooleanLaws.{three-pass}
 use Rattle.rules.proofs.KindViews.{formAt, found-at, every, found-passes, SourceKind, literal, read}
-use Rattle.rules.proofs.KindViews.{address, operation, shifted, variable, pointed, value, base, offset, blockLength}
-use Rattle.rules.proofs.KindViews.{combined, valid, initialised, compared, negated, both, either, skip, assign, new}
+use Rattle.rules.proofs.KindViews.{address, operation, shifted, variable, pointed, value, base, offset}
+use Rattle.rules.proofs.KindViews.{blockLength}
+use Rattle.rules.proofs.KindViews.{combined, valid, initialised, compared, negated, both, either, skip, assign}
+use Rattle.rules.proofs.KindViews.{new}
 use Rattle.rules.proofs.KindViews.{free, sequence, branch, while, letIn, assert}
 use Rattle.rules.proofs.FormLaws.{some-sort, FieldHolds, nodeAs}
 use Rattle.rules.proofs.NodeLaws.{node-zero}

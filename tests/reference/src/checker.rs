@@ -70,7 +70,7 @@ fn children_hold(records: &[Record], number: usize) -> bool {
     })
 }
 
-/// "Last record no statement, or another not a child exactly once."
+/// "last record no statement, or another not a child exactly once."
 fn shape_offenders(records: &[Record]) -> Vec<usize> {
     let mut uses = vec![0_u32; records.len() + 1];
     for record in records {
@@ -134,7 +134,7 @@ fn level_offenders(records: &[Record]) -> Vec<usize> {
     offenders
 }
 
-/// "Within one number the lowest record is named."
+/// "within one number the lowest record is named."
 fn lowest(number: u32, offenders: Vec<usize>) -> Result<(), Answer> {
     match offenders.into_iter().min() {
         Some(record) => Err(Answer::of(number, record as u32)),

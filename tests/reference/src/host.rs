@@ -55,7 +55,7 @@ pub fn translated(source: &[u8]) -> Result<Vec<u8>, Answer> {
     translation(source).map(|translation| table(&translation.records))
 }
 
-/// The observation memory that mirrors an execution memory, byte by byte: "for its block states
+/// The observation memory that mirrors an execution memory, byte by byte: "For its block states
 /// 0, 1, 2, 3 the observation states are 0, 1, 1, 2, with equal first and length".
 pub fn mirror(memory: &[u8]) -> Vec<u8> {
     let (blocks, cells) = memory.split_at(memory.len().min(NAMES * BLOCK_BYTES));

@@ -3,7 +3,7 @@
 use crate::translator::translation;
 use std::fmt::Write;
 
-/// "One line a target record"; "for a refused table one line, refusal number and record".
+/// "one line a target record"; "for a refused table one line, refusal number and record".
 pub fn listing(input: &[u8]) -> String {
     let translation = match translation(input) {
         Ok(translation) => translation,

@@ -41,7 +41,7 @@ impl Memory {
         }
     }
 
-    /// "Block 1 is its cell, pointing to block 2, which holds the inputs."
+    /// "block 1 is its cell, pointing to block 2, which holds the inputs."
     pub fn with_inputs(inputs: &[i64]) -> Result<Memory, u32> {
         let mut memory = Memory::cleared();
         let variable = memory.new_block(State::Fixed, 1)?;
@@ -65,7 +65,7 @@ impl Memory {
         self.cells.iter().filter(|cell| cell.is_none()).count() as u32
     }
 
-    /// "At a new block 45, 31, 30." Its cells are undefined.
+    /// "at a new block 45, 31, 30." Its cells are undefined.
     pub fn new_block(&mut self, state: State, size: i64) -> Result<Pointer, u32> {
         if size < 1 {
             return Err(SIZE_BELOW_ONE);
@@ -138,7 +138,7 @@ impl Memory {
         self.place(pointer).is_some()
     }
 
-    /// "Valid and not undefined, otherwise false."
+    /// "valid and not undefined, otherwise false."
     pub fn initialised(&self, pointer: Pointer) -> bool {
         self.place(pointer)
             .is_some_and(|place| self.contents(place) != Value::Undefined)
@@ -178,7 +178,7 @@ impl Memory {
         (offset < block.length).then(|| block.first + offset)
     }
 
-    /// "255 block records of 8 bytes, then 1,024 cells of 16."
+    /// "255 block records of 8 bytes .., then 1,024 cells of 16."
     pub fn image(&self) -> Vec<u8> {
         let mut image = Vec::with_capacity(EXECUTION_BYTES);
         for index in 0..NAMES {

@@ -20,7 +20,7 @@ pub fn operate(operator: u8, left: i64, right: i64) -> Result<i64, u32> {
     i64::try_from(exact).map_err(|_| OVERFLOW)
 }
 
-/// "Halves away from zero": a half is added to the quotient of the sizes, then the sign put back.
+/// "halves away from zero": a half is added to the quotient of the sizes, then the sign put back.
 fn nearest(left: i128, right: i128) -> i128 {
     let size = (2 * left.abs() + right.abs()) / (2 * right.abs());
     if (left < 0) != (right < 0) {

@@ -118,7 +118,7 @@ impl Observation {
         free
     }
 
-    /// "255 block records, then 1,024 marks of one byte."
+    /// "255 block records .., then 1,024 marks of one byte."
     pub fn image(&self) -> Vec<u8> {
         let mut image = Vec::with_capacity(OBSERVATION_BYTES);
         for block in &self.blocks {

@@ -35,7 +35,7 @@ pub struct Past {
 }
 
 impl Past {
-    /// "Both runs end 33 at the first that is false; with none, both end as this run does."
+    /// "Both runs end 33 at the first that is false, .. with none, both end as this run does."
     pub fn predicted(&self) -> (Answer, &Memory) {
         match &self.first_false {
             Some((answer, memory)) => (*answer, memory),

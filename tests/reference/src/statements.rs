@@ -39,7 +39,7 @@ fn condition(machine: &Machine, number: u16) -> Result<bool, Stop> {
         .map_err(|fault| machine.stop(fault, number))
 }
 
-/// "One unit of fuel goes for each while test, before the condition is evaluated."
+/// "One unit of fuel .. goes for each while test, before the condition is evaluated."
 fn run_while<O: Own>(machine: &mut Machine, own: &mut O, number: u16) -> Result<(), Stop> {
     let body = machine.record(number).b;
     loop {

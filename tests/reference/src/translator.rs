@@ -118,7 +118,7 @@ impl Translator<'_> {
         self.write(from.origin, record)
     }
 
-    /// "Read of 12 t0."
+    /// "read of 12 t0."
     fn read_of_t0(&mut self, from: From) -> u16 {
         let place = Record {
             kind: 12,

@@ -9,7 +9,7 @@ pub struct Pointer {
     pub offset: i64,
 }
 
-/// "An integer, a pointer with its block name and offset, or undefined."
+/// "an integer, a pointer with its block name and offset, or undefined."
 #[derive(Debug, Clone, Copy, PartialEq, Eq)]
 pub enum Value {
     Undefined,
