@@ -83,7 +83,7 @@ fn the_order_of_refusals() {
 }
 
 /// The library alone: the watched run of its own translation is its plain run over again, and the
-/// observation memory mirrors the execution memory after an ending 0 or 33.
+/// observation memory mirrors the execution memory at every ending but 42.
 #[test]
 fn both_runs_of_the_library_agree() {
     let mut target = vec![0; SOURCE_RECORDS * 14 * 16];
@@ -100,7 +100,7 @@ fn both_runs_of_the_library_agree() {
         let other = library::run_watched(target, &inputs, fuel, &mut watched, &mut observation);
         assert_eq!(other, answer, "{what}");
         assert!(watched == plain, "{what}: the memories part");
-        if matches!(answer.number, 0 | 33) {
+        if answer.number != 42 {
             assert!(observation == mirror(&plain), "{what}: no mirror");
         }
         [answer.number]

@@ -98,7 +98,7 @@ fn demand_three(source: &[u8], inputs: &[u8], fuel: u32, counts: &mut Counts) {
     assert!(memory == watched_memory);
     free_cells_add_up(&memory, answer.free_cells);
     assert!(!matches!(watched_answer.number, 48 | 49));
-    if matches!(answer.number, 0 | 33) {
+    if answer.number != 42 {
         assert!(observation == mirror(&memory));
     }
 
