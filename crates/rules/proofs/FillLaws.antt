@@ -11,6 +11,7 @@ use borrow.Author.Tests.{ltb-true, ltb-false, leb-true, leb-false}
 use Rattle.rules.specs.Words.{flat}
 use Rattle.rules.specs.Memory.{one, fill}
 use Rattle.rules.specs.Layout.{markBytes}
+use Rattle.rules.proofs.MemoryLaws.{fill-inside, fill-below, fill-above}
 
 module _ {A : Type 0} (x : A) where
   pub fill-none : (l : List A) (s : ℕ) → fill l s 0 x ≡ l
@@ -57,38 +58,14 @@ module _ {A : Type 0} (x : A) where
   fill-right (y ∷ a) b s n zero e = absurd (omega arith)
   fill-right (y ∷ a) b s n (suc i) e = ap (λ (t : List A). y ∷ t) (fill-right a b s n i (omega arith))
 
-  pub getD-fill-in : (l : List A) (s n i : ℕ) (d : A) → s ≤ i → i < s + n → i < length l → getD (fill l s n x) i d ≡ x
-  getD-fill-in [] s n i d a b h = absurd (omega arith)
-  getD-fill-in (y ∷ ys) zero zero i d a b h = absurd (omega arith)
-  getD-fill-in (y ∷ ys) zero (suc n) zero d a b h = refl
-  getD-fill-in (y ∷ ys) zero (suc n) (suc i) d a b h =
-      getD-fill-in ys zero n i d (omega arith) (omega arith) (le-of-suc-le-suc h)
-  getD-fill-in (y ∷ ys) (suc s) n zero d a b h = absurd (omega arith)
-  getD-fill-in (y ∷ ys) (suc s) n (suc i) d a b h =
-      getD-fill-in ys s n i d (omega arith) (omega arith) (le-of-suc-le-suc h)
-
-  pub getD-fill-before : (l : List A) (s n i : ℕ) (d : A) → i < s → getD (fill l s n x) i d ≡ getD l i d
-  getD-fill-before [] s n i d a = refl
-  getD-fill-before (y ∷ ys) zero n i d a = absurd (omega arith)
-  getD-fill-before (y ∷ ys) (suc s) n zero d a = refl
-  getD-fill-before (y ∷ ys) (suc s) n (suc i) d a = getD-fill-before ys s n i d (le-of-suc-le-suc a)
-
-  pub getD-fill-after : (l : List A) (s n i : ℕ) (d : A) → s + n ≤ i → getD (fill l s n x) i d ≡ getD l i d
-  getD-fill-after [] s n i d a = refl
-  getD-fill-after (y ∷ ys) zero zero i d a = refl
-  getD-fill-after (y ∷ ys) zero (suc n) zero d a = absurd (omega arith)
-  getD-fill-after (y ∷ ys) zero (suc n) (suc i) d a = getD-fill-after ys zero n i d (omega arith)
-  getD-fill-after (y ∷ ys) (suc s) n zero d a = absurd (omega arith)
-  getD-fill-after (y ∷ ys) (suc s) n (suc i) d a = getD-fill-after ys s n i d (omega arith)
-
   pub getD-fill : (l : List A) (s n i : ℕ) (d : A) → i < length l
       → getD (fill l s n x) i d ≡ cond (leb s i && ltb i (s + n)) x (getD l i d)
   getD-fill l s n i d h = pick (leb s i) (ltb i (s + n)) refl refl
     where
       pick : (a b : Bool) → leb s i ≡ a → ltb i (s + n) ≡ b → getD (fill l s n x) i d ≡ cond (a && b) x (getD l i d)
-      pick true true e f = getD-fill-in l s n i d (leb-true s i e) (ltb-true i (s + n) f) h
-      pick true false e f = getD-fill-after l s n i d (ltb-false i (s + n) f)
-      pick false b e f = getD-fill-before l s n i d (leb-false s i e)
+      pick true true e f = fill-inside l s n x i d h (leb-true s i e) (ltb-true i (s + n) f)
+      pick true false e f = fill-above l s n x i d (ltb-false i (s + n) f)
+      pick false b e f = fill-below l s n x i d (leb-false s i e)
 
 -- marks are bytes of one
 pub flat-marks-fill : (l : List Bool) (s n : ℕ) (b : Bool)

@@ -10,7 +10,7 @@ use borrow.Author.Tests.{ltb-true}
 use lib.ListN.{length, set, replicate, length-append, length-map, length-replicate, length-set}
 use Rattle.rules.specs.Sizes.{nameCount, cellCount}
 use Rattle.rules.specs.Numbers.{inRange}
-use Rattle.rules.specs.Memory.{Memory, recordedOf, blockOf, locate, locatedIn, setCell, allFree, lowestRun}
+use Rattle.rules.specs.Memory.{Memory, recordedOf, blockOf, locate, locatedIn, setCell}
 use Rattle.rules.specs.Memory.{isUnused, nextName, Use, fixed, freeable, blockFor, withBlock, withoutCells}
 use Rattle.rules.specs.Memory.{endBlock, startMemory}
 use Rattle.rules.specs.Observation.{Observation, recordOf, locateMark, withMarks}
@@ -31,12 +31,6 @@ use Rattle.rules.specs.declared.Cell.{Cell}
 use Rattle.rules.specs.declared.Cell.the-variants as cell
 
 -- ---- what a search finds is in range
-pub lowestRun-places : (p : ℕ → Bool) (n first : ℕ) → lowestRun p n ≡ search.At first → first + n ≤ cellCount
-unfolding lowestRun
-lowestRun-places p n first e =
-    let h = subst (Outcome (λ s. allFree p s n) 0 (suc cellCount - n)) e (lowest-outcome _ 0 (suc cellCount - n)) in
-    omega (arith, h .0, h .1)
-
 pub nextName-fits : (m : Memory) (k : ℕ) → nextName m ≡ search.At k → FitsName k
 nextName-fits m k e =
     let h = subst (Outcome (λ j. isUnused (blockOf m j)) 1 nameCount) e (lowest-outcome _ 1 nameCount) in

@@ -14,7 +14,8 @@ use Rattle.rules.proofs.Calls.{CallsKeep}
 use Rattle.rules.proofs.ObservationKept.{startObservation-keeps}
 use Rattle.rules.proofs.Lists.{all-replicate}
 use Rattle.rules.proofs.Fits.{FitsName, FitsCell, FitsMemory, FitsObservation, InsideMemory, InsideObservation}
-use Rattle.rules.proofs.FitsLaws.{lowestRun-places, nextName-fits, setCell-fits, setCell-inside}
+use Rattle.rules.proofs.RunLaws.{run-bound}
+use Rattle.rules.proofs.FitsLaws.{nextName-fits, setCell-fits, setCell-inside}
 use Rattle.rules.proofs.FitsLaws.{withBlock-fits, withBlock-inside, endBlock-fits, endBlock-inside}
 use Rattle.rules.proofs.FitsLaws.{withMarks-fits, withMarks-inside, marked-fits}
 use Rattle.rules.specs.declared.Search.the-variants as search
@@ -49,7 +50,7 @@ inside-invariant = record {
 }
 
 markRun-places : (o : Observation) (n first : ℕ) → markRun o n ≡ search.At first → first + n ≤ cellCount
-markRun-places o n first e = lowestRun-places _ n first e
+markRun-places o n first e = run-bound _ n first e
 
 pub fits-observation-invariant : ObservationInvariant FitsObservation
 fits-observation-invariant = record {
@@ -88,7 +89,7 @@ makeBlock-keeps J v m u n h =
     makeAt-keeps AnyMemory AnyNumber AnyNumber (λ c x. tt) (λ c x. tt) AnyValue AnyPlace (MadeWith J) m u n
     (nextName m) (freeRun m n) (λ k first a b.
     let l : FitsName k = nextName-fits m k a in
-    (l, v .making m u k first n h l (lowestRun-places (λ i. isFree (cellOf m i)) n first b)))
+    (l, v .making m u k first n h l (run-bound (λ i. isFree (cellOf m i)) n first b)))
 
 pub empty-inside : InsideObservation emptyObservation
 empty-inside = record {
