@@ -4,13 +4,7 @@
 set -euo pipefail
 cd "$(dirname "$0")/.."
 room=
-mutants=
-finish() {
-    [ "$1" -eq 0 ] || echo "the gate failed"
-    [ -z "$mutants" ] || kill "$mutants" 2>/dev/null || true
-    [ -z "$room" ] || rm -rf "$room"
-}
-trap 'finish $?' EXIT
+trap '[ $? -eq 0 ] || echo "the gate failed"; [ -z "$room" ] || rm -rf "$room"' EXIT
 
 tests/documents.sh
 
@@ -22,13 +16,11 @@ if [ "${TMPDIR:-/tmp}" = /tmp ] && [ "$(df --output=avail /dev/shm 2>/dev/null |
 fi
 
 # Cargo's folder lies outside target/, which `rt ci` removes. The second implementation's own tests need no proof, and
-# the first crates to be proved leave a processor idle. So do other batches, which its mutants fill at low priority.
+# the first crates to be proved leave a processor idle.
 export CARGO_TARGET_DIR="$PWD/build/cargo"
 mkdir -p build
 cargo test --release --offline --manifest-path tests/reference/Cargo.toml >build/reference.log 2>&1 &
 reference=$!
-nice -n 19 tests/mutants/run.sh >build/mutants.log 2>&1 &
-mutants=$!
 
 # rt waits for a whole batch before the next: four at a time keep two processors busy beside the longest of them.
 export RT_JOBS="${RT_JOBS:-4}"
@@ -38,9 +30,6 @@ grep -qxE '[1-9][0-9]* passed, 0 failed' <<<"$verdict"
 
 wait "$reference" || { cat build/reference.log; exit 1; }
 cat build/reference.log
-wait "$mutants" || { cat build/mutants.log; exit 1; }
-mutants=
-cat build/mutants.log
 
 # The listing program against stored texts, which the second implementation derives.
 tests/listing/compare.sh target/bin/listing
