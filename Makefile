@@ -44,4 +44,4 @@ $(LIBRARY): $(LIBRARY_FILES)
 # The listing program.
 target/bin/listing: $(LIBRARY)
 	@rt check listing
-	@touch $@
+	@test -x $@ && touch $@
