@@ -5,11 +5,11 @@ use Rattle.blocks.specs.declared.Making.{Making}
 use Rattle.blocks.specs.declared.Making.the-variants as making
 
 -- what making a block answers, and the memory after it
-abbrev pub makingOf : Made → Making
+abbrev pub makingOf : Made Memory → Making
 makingOf (made k m) = making.Name k
 makingOf (unmade c) = making.Stopped c
 
-abbrev pub madeMemory : Memory → Made → Memory
+abbrev pub madeMemory : Memory → Made Memory → Memory
 madeMemory m (made k m₁) = m₁
 madeMemory m (unmade c) = m
 

@@ -27,11 +27,11 @@ pub record Becomes (entry exit : List ℕ) (m : Memory) : Type 0 where
   pub exact : Exact entry → Exact exit
 
 -- the number of a change, 0 where there is one, and the memory after it
-abbrev pub changeNumber : Change → ℕ
+abbrev pub changeNumber : Change Memory → ℕ
 changeNumber (changed m) = 0
 changeNumber (stopped k m) = k
 
-abbrev pub changeMemory : Change → Memory
+abbrev pub changeMemory : Change Memory → Memory
 changeMemory (changed m) = m
 changeMemory (stopped k m) = m
 

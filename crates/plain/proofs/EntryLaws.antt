@@ -12,10 +12,10 @@ use Rattle.rules.specs.Kinds.{source}
 use Rattle.rules.specs.Checker.{check, inputsFault, memoryFault}
 use Rattle.rules.specs.Nodes.{sourceStatement, sourceProgram}
 use Rattle.rules.specs.Memory.{Memory, countFree, startMemory}
-use Rattle.rules.specs.Plain.{Outcome, finished, ended, run, startVariables}
+use Rattle.rules.specs.Flow.{ending}
+use Rattle.rules.specs.Plain.{run, startVariables}
 use Rattle.rules.specs.Layout.{memoryOf, memoryImage}
-use Rattle.rules.specs.Answers.{answer, inputsOf, endingOf, memoryAfter, plainOutcome, plainEnded, plainRefused}
-use Rattle.rules.specs.Answers.{plainBy, PlainRun}
+use Rattle.rules.specs.Answers.{answer, inputsOf, plainOutcome, plainEnded, plainRefused, plainBy, PlainRun}
 use Rattle.rules.specs.declared.Answer.{Answer}
 use Rattle.rules.specs.declared.Checked.{Checked}
 use Rattle.rules.specs.declared.Checked.the-variants as checked
@@ -28,7 +28,7 @@ use Rattle.rules.proofs.ReachableRoundTrip.{start-inside, plain-round-trip}
 use Rattle.rules.proofs.Padding.{node-padded}
 use Rattle.rules.proofs.PlainArms.{statementAt}
 use Rattle.endings.specs.declared.Ended.{Ended}
-use Rattle.plain_runs.specs.Running.{Ready, resultOf, Ran}
+use Rattle.plain_runs.specs.Running.{Ready, Ran}
 use Rattle.plain_runs.proofs.Laws.{ran-is}
 use Rattle.plain.specs.Answering.{AnsweredBy}
 
@@ -53,11 +53,6 @@ module _ (t l : List ℕ) (h : check source t ≡ checked.Accepted) where
       }
 
 -- ---- the end
-ending-is : (o : Outcome)
-    → answer (resultOf o .number) (resultOf o .statement) (resultOf o .fuel) (countFree (memoryAfter o .cells)) ≡ endingOf o
-ending-is (finished m f) = refl
-ending-is (ended c s m f) = refl
-
 module _ (i : List ℕ) (e : inputsFault i ≡ false) (l : List ℕ) (s : l ≡ memoryImage (startMemory (inputsOf i))) where
   start-fits : FitsMemory (startMemory (inputsOf i))
   start-fits = start-inside i e .memory-fits
@@ -73,22 +68,21 @@ module _ (i : List ℕ) (e : inputsFault i ≡ false) (l : List ℕ) (s : l ≡ 
       → Ran (run (sourceProgram t) startVariables (memoryOf l) f) r l l₁ → length l₁ ≡ 18424
   exit-length t f r l₁ h w =
       let o = plainOutcome t i f in
-      let v : Ran o r l l₁ = ran-is (ap (λ (m : Memory). run (sourceProgram t) startVariables m f) (sym start-view)) w in
+      let v : Ran o r l l₁ = ran-is (ap (λ (m : Memory). ending (run (sourceProgram t) startVariables m f)) (sym start-view)) w in
       ap length (v .memory .exact (s ∙ ap memoryImage (sym start-view)) ∙ ap memoryImage (v .memory .view))
       ∙ plain-round-trip t i f (accepted-program source t h .last .sound) e .image-length
 
   pub entry-ends : (t : List ℕ) (f : ℕ) (r : Ended) (l₁ : List ℕ) (k : ℕ) (exit : List ℕ)
       → Ran (run (sourceProgram t) startVariables (memoryOf l) f) r l l₁ → k ≡ countFree (memoryOf l₁ .cells)
       → exit ≡ l₁
-      → AnsweredBy (plainEnded (plainOutcome t i f)) (answer (r .number) (r .statement) (r .fuel) k) exit
+      → AnsweredBy (plainEnded (ending (plainOutcome t i f))) (answer (r .number) (r .statement) (r .fuel) k) exit
   entry-ends t f r l₁ k exit w g x =
       let o = plainOutcome t i f in
-      let v : Ran o r l l₁ = ran-is (ap (λ (m : Memory). run (sourceProgram t) startVariables m f) (sym start-view)) w in
+      let v : Ran o r l l₁ = ran-is (ap (λ (m : Memory). ending (run (sourceProgram t) startVariables m f)) (sym start-view)) w in
       record {
         answer =
-            (λ j. answer (v .answer j .number) (v .answer j .statement) (v .answer j .fuel)
-            ((g ∙ ap (λ (m : Memory). countFree (m .cells)) (v .memory .view)) j))
-            ∙ ending-is o;
+            λ j. answer (v .answer j .number) (v .answer j .statement) (v .answer j .fuel)
+            ((g ∙ ap (λ (m : Memory). countFree (m .cells)) (v .memory .view)) j);
         memory =
             x ∙ v .memory .exact (s ∙ ap memoryImage (sym start-view)) ∙ ap memoryImage (v .memory .view);
       }
@@ -100,13 +94,13 @@ module _ (t i : List ℕ) (f : ℕ) (m : List ℕ) where
       ≡ (elim b [
         | true ↦ plainRefused 9 0 m
         | false ↦
-            elim c [ true ↦ plainRefused 21 0 m | false ↦ plainEnded (plainOutcome t i f) ]
+            elim c [ true ↦ plainRefused 21 0 m | false ↦ plainEnded (ending (plainOutcome t i f)) ]
       ])
   by-faults b c p q =
       λ j. elim (p j) [
         | true ↦ plainRefused 9 0 m
         | false ↦
-            elim (q j) [ true ↦ plainRefused 21 0 m | false ↦ plainEnded (plainOutcome t i f) ]
+            elim (q j) [ true ↦ plainRefused 21 0 m | false ↦ plainEnded (ending (plainOutcome t i f)) ]
       ]
 
   pub refuse-inputs : (r : Answer) → inputsFault i ≡ true → r ≡ answer 9 0 0 0
@@ -122,7 +116,7 @@ module _ (t i : List ℕ) (f : ℕ) (m : List ℕ) where
       (record { answer = e; memory = refl })
 
   pub run-both : (r : Answer) (exit : List ℕ) → inputsFault i ≡ false → memoryFault m ≡ false
-      → AnsweredBy (plainEnded (plainOutcome t i f)) r exit → AnsweredBy (plainBy checked.Accepted t i f m) r exit
+      → AnsweredBy (plainEnded (ending (plainOutcome t i f))) r exit → AnsweredBy (plainBy checked.Accepted t i f m) r exit
   run-both r exit p q h = subst (λ (x : PlainRun). AnsweredBy x r exit) (sym (by-faults false false p q)) h
 
 -- ---- the checker's answer

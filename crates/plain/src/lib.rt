@@ -7,6 +7,7 @@ ghost use Rattle.rules.specs.Answers.{plainEnded, plainOutcome, plainBy, runPla
 ghost use Rattle.rules.specs.declared.Checked.the-variants as checked;
 ghost use Rattle.rules.proofs.Fits.{FitsMemory};
 ghost use Rattle.rules.specs.Kinds.{source};
+ghost use Rattle.rules.specs.Flow.{ending};
 ghost use Rattle.rules.specs.Plain.{run, startVariables};
 ghost use Rattle.rules.specs.Layout.{memoryOf};
 ghost use Rattle.rules.proofs.PlainArms.{statementAt};
@@ -42,7 +43,7 @@ fn run_table(table: &[u8], mem: &mut [u8; 18424], fuel: u32) -> Ended
 fn run_inputs(table: &[u8], inputs: &[u8], fuel: u32, memory: &mut [u8]) -> Answer
     requires { ⌜ (check source (now table) ≡ checked.Accepted) × (inputsFault (now inputs) ≡ false)
         × (memoryFault (now memory) ≡ false) ⌝ }
-    ensures { λ r. ⌜ AnsweredBy (plainEnded (plainOutcome (now (table .entry)) (now (inputs .entry)) fuel)) r
+    ensures { λ r. ⌜ AnsweredBy (plainEnded (ending (plainOutcome (now (table .entry)) (now (inputs .entry)) fuel))) r
         (now (memory .exit)) ⌝ }
 {
     let mut mem = [0u8; 18424];

@@ -9,32 +9,37 @@ use Rattle.rules.specs.Records.{kindOf, markOf, childA, childB, childC}
 use Rattle.rules.specs.Memory.{Memory, fixed, Made, made, makeBlock, endBlock}
 use Rattle.rules.specs.Trees.{Statement}
 use Rattle.rules.specs.Evaluation.{Variables, evaluateSource, condition, extend}
-use Rattle.rules.specs.Plain.{Outcome, finished, ended, next, decide, inLet, run}
+use Rattle.rules.specs.Flow.{Outcome, finished, ended, Ending, ending, into, next, decide, inLet}
+use Rattle.rules.specs.Plain.{plainMeaning, run}
 use Rattle.rules.specs.Layout.{memoryOf}
 use Rattle.rules.specs.declared.Test.{Test}
 use Rattle.rules.proofs.Fits.{FitsMemory}
-use Rattle.rules.proofs.Fuel.{fuelOf, run-fuel}
+use Rattle.rules.proofs.Fuel.{run-fuel}
+use Rattle.rules.proofs.Outcomes.{into-ending, next-ending, decide-ending}
 use Rattle.rules.proofs.StatementArms.{let-child, sound-let}
-use Rattle.rules.proofs.PlainArms.{expressionAt, statementAt, run-branch, run-while-zero, run-while-suc, run-let}
+use Rattle.rules.proofs.PlainArms.{expressionAt, statementAt, run-sequence, run-branch, run-while-zero}
+use Rattle.rules.proofs.PlainArms.{run-while-suc, run-let}
 use Rattle.cells.specs.Changes.{Becomes}
 use Rattle.blocks.specs.Blocks.{makingOf, madeMemory}
 use Rattle.blocks.specs.declared.Making.the-variants as making
 use Rattle.endings.specs.declared.Ended.{Ended}
 use Rattle.endings.specs.Ending.{result}
-use Rattle.plain_runs.specs.Running.{Ready, Inside, enclosed, resultOf, Ran}
+use Rattle.plain_runs.specs.Running.{Ready, Inside, enclosed, EndsSo, Ran}
 use Rattle.statements.proofs.ChangeLaws.{becomes-same, becomes-is, becomes-then, made-by, unmade-by, name-fits}
 use Rattle.plain_runs.proofs.Laws.{ran-is, run-finished, next-goes, next-stays}
 use Rattle.plain_runs.proofs.ReadyLaws.{ready-within, ready-inside, run-kept, made-kept}
 
 -- what came before counts for the bytes alone
-pub ran-from : {o : Outcome} {r : Ended} {m : Memory} {a b c : List ℕ} → Becomes a b m → Ran o r b c → Ran o r a c
+pub ran-from : {e : Ending Memory} {r : Ended} {m : Memory} {a b c : List ℕ} → Becomes a b m → EndsSo e r b c
+    → EndsSo e r a c
 ran-from p h = record { answer = h .answer; memory = becomes-then p (h .memory) }
 
 -- nothing changed
 pub ran-finished : (l : List ℕ) (f : ℕ) → Ran (finished (memoryOf l) f) (result 0 0 f) l l
 ran-finished l f = record { answer = refl; memory = becomes-same refl }
 
-pub ran-ended : (l : List ℕ) (c s f : ℕ) → Ran (ended c s (memoryOf l) f) (result c s f) l l
+pub ran-ended : (l : List ℕ) (c s f : ℕ)
+    → EndsSo (record { number = c; statement = s; state = memoryOf l; fuel = f }) (result c s f) l l
 ran-ended l c s f = record { answer = refl; memory = becomes-same refl }
 
 module _ {t : List ℕ} {n : ℕ} {ρ : Variables} {m : Memory} (h : Ready t n ρ m) where
@@ -42,53 +47,70 @@ module _ {t : List ℕ} {n : ℕ} {ρ : Variables} {m : Memory} (h : Ready t n �
   conditionIn m₁ = condition (evaluateSource (expressionAt t (childA t n)) ρ m₁)
 
   -- a branch
-  abbrev deciding : Test → ℕ → Outcome
-  deciding x f =
-      decide n x (λ m₁ f₁. run (statementAt t (childB t n)) ρ m₁ f₁)
-      (λ m₁ f₁. run (statementAt t (childC t n)) ρ m₁ f₁) m f
+  abbrev deciding : Test → ℕ → Outcome Memory
+  deciding x f = decide n ρ x m f (run (statementAt t (childB t n)) ρ m f) (run (statementAt t (childC t n)) ρ m f)
 
   pub branch-by : kindOf t n ≡ 45 → (f : ℕ) (x : Test) → conditionIn m ≡ x
-      → run (statementAt t n) ρ m f ≡ deciding x f
-  branch-by q f x e = run-branch t n (h .is) ρ m f q ∙ ap (λ (y : Test). deciding y f) e
+      → ending (run (statementAt t n) ρ m f) ≡ ending (deciding x f)
+  branch-by q f x e =
+      ap ending (run-branch t n (h .is) ρ m f q)
+      ∙ decide-ending n ρ (conditionIn m) m f _ _ _ _ (into-ending 1 (run (statementAt t (childB t n)) ρ m f))
+      (into-ending 2 (run (statementAt t (childC t n)) ρ m f))
+      ∙ ap (λ (y : Test). ending (deciding y f)) e
 
   -- a turn of a while, in memory m₁
-  abbrev turning : Memory → Test → ℕ → Outcome
+  abbrev turning : Memory → Test → ℕ → Outcome Memory
   turning m₁ x f =
-      decide n x (λ m₂ f₁. next (run (statementAt t (childB t n)) ρ m₂ f₁)
-      (λ m₃ f₂. run (statementAt t n) ρ m₃ f₂)) finished m₁ f
+      decide n ρ x m₁ f (next (run (statementAt t (childB t n)) ρ m₁ f) (λ m₂ f₁. run (statementAt t n) ρ m₂ f₁))
+      (finished m₁ f)
 
   pub turn-by : kindOf t n ≡ 46 → (m₁ : Memory) (f : ℕ) → 0 < f → (x : Test) → conditionIn m₁ ≡ x
-      → run (statementAt t n) ρ m₁ f ≡ turning m₁ x (f - 1)
+      → ending (run (statementAt t n) ρ m₁ f) ≡ ending (turning m₁ x (f - 1))
   turn-by q m₁ f z x e =
       let d : f ≡ suc (f - 1) = omega arith in
-      ap (run (statementAt t n) ρ m₁) d
-      ∙ run-while-suc t n (h .is) q ρ m₁ (f - 1)
-      ∙ ap (λ (y : Test). turning m₁ y (f - 1)) e
+      ap (λ (g : ℕ). ending (run (statementAt t n) ρ m₁ g)) d
+      ∙ ap ending (run-while-suc t n (h .is) q ρ m₁ (f - 1))
+      ∙ decide-ending n ρ (conditionIn m₁) m₁ (f - 1) _ _ _ _
+      (next-ending 1 (run (statementAt t (childB t n)) ρ m₁ (f - 1)) _ _ (λ m₂ f₁. refl)) refl
+      ∙ ap (λ (y : Test). ending (turning m₁ y (f - 1))) e
 
-  pub turn-out : kindOf t n ≡ 46 → (m₁ : Memory) (f : ℕ) → f ≤ 0 → run (statementAt t n) ρ m₁ f ≡ ended 32 n m₁ 0
+  pub turn-out : kindOf t n ≡ 46 → (m₁ : Memory) (f : ℕ) → f ≤ 0
+      → ending (run (statementAt t n) ρ m₁ f) ≡ record { number = 32; statement = n; state = m₁; fuel = 0 }
   turn-out q m₁ f z =
       let d : f ≡ 0 = omega arith in
-      ap (run (statementAt t n) ρ m₁) d ∙ run-while-zero t n (h .is) q ρ m₁
+      ap (λ (g : ℕ). ending (run (statementAt t n) ρ m₁ g)) d ∙ ap ending (run-while-zero t n (h .is) q ρ m₁)
+
+  -- a sequence
+  pub sequence-by : kindOf t n ≡ 44 → (m₁ : Memory) (f : ℕ)
+      → ending (run (statementAt t n) ρ m₁ f)
+      ≡ ending (next (run (statementAt t (childA t n)) ρ m₁ f) (λ m₂ f₁. run (statementAt t (childB t n)) ρ m₂ f₁))
+  sequence-by q m₁ f =
+      ap ending (run-sequence t n (h .is) ρ m₁ f q)
+      ∙ next-ending 0 (run (statementAt t (childA t n)) ρ m₁ f) _ _
+      (λ m₂ f₁. into-ending 1 (run (statementAt t (childB t n)) ρ m₂ f₁))
 
 -- a let, and its block, made in memory l
 module _ {t : List ℕ} {n : ℕ} {ρ : Variables} {l l₁ : List ℕ} (h : Ready t n ρ (memoryOf l)) (q : kindOf t n ≡ 47)
     (w : Becomes l l₁ (madeMemory (memoryOf l) (makeBlock (memoryOf l) fixed 1))) where
-  abbrev block : Made
+  abbrev block : Made Memory
   block = makeBlock (memoryOf l) fixed 1
 
-  enclosing : (f : ℕ) (x : Made) → block ≡ x
-      → run (statementAt t n) ρ (memoryOf l) f
-      ≡ inLet n (memoryOf l) f x (λ k m₁ f₁. run (statementAt t (childA t n)) (extend ρ (markOf t n) k) m₁ f₁)
+  abbrev inside : ℕ → Memory → ℕ → Outcome Memory
+  inside k m₁ f₁ = run (statementAt t (childA t n)) (extend ρ (markOf t n) k) m₁ f₁
+
+  enclosing : (f : ℕ) (x : Made Memory) → block ≡ x
+      → ending (run (statementAt t n) ρ (memoryOf l) f)
+      ≡ ending (inLet n ρ (memoryOf l) f x endBlock (λ k m₁ f₁. into 0 (inside k m₁ f₁)))
   enclosing f x e =
-      run-let t n (h .is) ρ (memoryOf l) f q
-      ∙ ap (λ (y : Made). inLet n (memoryOf l) f y
-      (λ k m₁ f₁. run (statementAt t (childA t n)) (extend ρ (markOf t n) k) m₁ f₁)) e
+      ap ending (run-let t n (h .is) ρ (memoryOf l) f q)
+      ∙ ap (λ (y : Made Memory). ending (inLet n ρ (memoryOf l) f y endBlock (λ k m₁ f₁. into 0 (inside k m₁ f₁)))) e
 
   pub let-made : (f : ℕ) {k : ℕ} → making.Name k ≡ makingOf block
-      → run (statementAt t n) ρ (memoryOf l) f ≡ enclosed t n ρ (memoryOf l₁) f k
+      → ending (run (statementAt t n) ρ (memoryOf l) f) ≡ ending (enclosed t n ρ (memoryOf l₁) f k)
   let-made f {k} e =
       enclosing f (made k (madeMemory (memoryOf l) block)) (made-by block k (memoryOf l) e)
-      ∙ ap (λ (m : Memory). enclosed t n ρ m f k) (sym (w .view))
+      ∙ next-ending 0 (inside k (madeMemory (memoryOf l) block) f) _ _ (λ m₁ f₁. refl)
+      ∙ ap (λ (m : Memory). ending (enclosed t n ρ m f k)) (sym (w .view))
 
   pub let-unmade : (f c : ℕ) → making.Stopped c ≡ makingOf block
       → Ran (run (statementAt t n) ρ (memoryOf l) f) (result c n f) l l₁
@@ -111,7 +133,7 @@ module _ {t : List ℕ} {n : ℕ} {ρ : Variables} {l l₁ : List ℕ} (h : Read
 -- what ran so far of statement n: statement m is left to run
 pub record Remaining (t : List ℕ) (n : ℕ) (ρ : Variables) (entry : List ℕ) (fuel m : ℕ) (l : List ℕ) (left : ℕ)
     : Type 0 where
-  pub rest : run (statementAt t n) ρ (memoryOf entry) fuel ≡ run (statementAt t m) ρ (memoryOf l) left
+  pub rest : ending (run (statementAt t n) ρ (memoryOf entry) fuel) ≡ ending (run (statementAt t m) ρ (memoryOf l) left)
   pub bytes : Becomes entry l (memoryOf l)
   pub fits : FitsMemory (memoryOf l)
 
@@ -120,12 +142,12 @@ pub record Part (t : List ℕ) (n : ℕ) (ρ : Variables) (entry : List ℕ) (fu
     (r : Ended) (l₁ : List ℕ) : Type 0 where
   pub earlier : Remaining t n ρ entry fuel m l left
   pub ran : Ran (run (statementAt t x) ρ (memoryOf l) f) r l l₁
-  pub leads : run (statementAt t m) ρ (memoryOf l) left
-      ≡ next (run (statementAt t x) ρ (memoryOf l) f) (λ m₂ f₂. run (statementAt t k) ρ m₂ f₂)
+  pub leads : ending (run (statementAt t m) ρ (memoryOf l) left)
+      ≡ ending (next (run (statementAt t x) ρ (memoryOf l) f) (λ m₂ f₂. run (statementAt t k) ρ m₂ f₂))
 
 module _ {t : List ℕ} {n : ℕ} {ρ : Variables} {entry : List ℕ} {fuel m : ℕ} {l : List ℕ} {left x k f : ℕ} {r : Ended}
     {l₁ : List ℕ} (p : Part t n ρ entry fuel m l left x k f r l₁) where
-  abbrev following : Memory → ℕ → Outcome
+  abbrev following : Memory → ℕ → Outcome Memory
   following m₂ f₂ = run (statementAt t k) ρ m₂ f₂
 
   finish : r .number ≡ 0 → run (statementAt t x) ρ (memoryOf l) f ≡ finished (memoryOf l₁) (r .fuel)
@@ -139,18 +161,18 @@ module _ {t : List ℕ} {n : ℕ} {ρ : Variables} {entry : List ℕ} {fuel m : 
   pub part-finishes : r .number ≡ 0 → Ready t x ρ (memoryOf l) → Remaining t n ρ entry fuel k l₁ (r .fuel)
   part-finishes d h =
       record {
-        rest = p .earlier .rest ∙ p .leads ∙ ap (λ (o : Outcome). next o following) (finish d);
+        rest = p .earlier .rest ∙ p .leads ∙ ap (λ (o : Outcome Memory). ending (next o following)) (finish d);
         bytes = becomes-is (sym (p .ran .memory .view)) (becomes-then (p .earlier .bytes) (p .ran .memory));
         fits = subst FitsMemory (sym (p .ran .memory .view)) (run-kept h f);
       }
 
   pub part-spends : r .number ≡ 0 → f < left → r .fuel < left
-  part-spends d z = omega (arith, ap fuelOf (finish d), run-fuel (statementAt t x) ρ (memoryOf l) f)
+  part-spends d z = omega (arith, ap (λ (o : Outcome Memory). ending o .fuel) (finish d), run-fuel plainMeaning (statementAt t x) ρ (memoryOf l) f)
 
 -- a let's child ran: where it finished, the block ends
 module _ {t : List ℕ} {n : ℕ} {ρ : Variables} {k : ℕ} {r : Ended} {a b : List ℕ} (i : Inside t n ρ (memoryOf a) k)
     (f : ℕ) (w : Ran (run (statementAt t (childA t n)) (extend ρ (markOf t n) k) (memoryOf a) f) r a b) where
-  abbrev closing : Memory → ℕ → Outcome
+  abbrev closing : Memory → ℕ → Outcome Memory
   closing m₁ f₁ = finished (endBlock m₁ k) f₁
 
   abbrev child : Statement
@@ -161,7 +183,10 @@ module _ {t : List ℕ} {n : ℕ} {ρ : Variables} {k : ℕ} {r : Ended} {a b : 
   inside-ends e {c} v =
       next-goes child (extend ρ (markOf t n) k) f closing r a b w r c e
       (record {
-        answer = w .answer ∙ ap resultOf (run-finished child (extend ρ (markOf t n) k) f closing r a b w e);
+        answer =
+            w .answer
+            ∙ ap (λ (o : Outcome Memory). result (ending o .number) (ending o .statement) (ending o .fuel))
+            (run-finished child (extend ρ (markOf t n) k) f closing r a b w e);
         memory = v;
       })
 

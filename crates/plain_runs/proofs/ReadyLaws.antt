@@ -10,8 +10,8 @@ use Rattle.rules.specs.Nodes.{SourceNode, sourceStatement}
 use Rattle.rules.specs.Records.{kindOf, markOf, childA, childB, childC}
 use Rattle.rules.specs.Memory.{Memory, Use, made, makeBlock}
 use Rattle.rules.specs.Evaluation.{Variables, noTemporaries, evaluateSource, extend}
+use Rattle.rules.specs.Flow.{ending}
 use Rattle.rules.specs.Plain.{run}
-use Rattle.rules.specs.Answers.{memoryAfter}
 use Rattle.rules.proofs.KindViews.{formAt, SourceKind, skip, assign, new, free, sequence, branch, while, letIn, assert}
 use Rattle.rules.proofs.FormLaws.{nodeAs}
 use Rattle.rules.proofs.Standing.{stands, stands-at}
@@ -64,7 +64,7 @@ module _ {t : List ℕ} {n : ℕ} {ρ : Variables} {m : Memory} (r : Ready t n �
       (expressionAt t (childB t n)) (sound-assign source t n (r .is) (r .scope) (r .sound) e .1))
 
   -- after the run the numbers still fit
-  pub run-kept : (f : ℕ) → FitsMemory (memoryAfter (run (statementAt t n) ρ m f))
+  pub run-kept : (f : ℕ) → FitsMemory (ending (run (statementAt t n) ρ m f) .state)
   run-kept f = run-fits (statementAt t n) (r .scope) (r .sound) ρ (r .names) m f (r .fits)
 
   -- its parts

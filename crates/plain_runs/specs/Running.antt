@@ -6,8 +6,8 @@ use Rattle.rules.specs.Records.{markOf, childA}
 use Rattle.rules.specs.Kinds.{statement}
 use Rattle.rules.specs.Memory.{Memory, endBlock}
 use Rattle.rules.specs.Evaluation.{Variables, extend}
-use Rattle.rules.specs.Plain.{Outcome, finished, ended, next, run}
-use Rattle.rules.specs.Answers.{memoryAfter}
+use Rattle.rules.specs.Flow.{Outcome, finished, Ending, ending, next}
+use Rattle.rules.specs.Plain.{run}
 use Rattle.rules.proofs.Sound.{Scope, SoundStatement}
 use Rattle.rules.proofs.Fits.{FitsMemory}
 use Rattle.rules.proofs.Reachable.{NamesFit}
@@ -33,16 +33,15 @@ pub record Inside (t : List ℕ) (n : ℕ) (ρ : Variables) (m : Memory) (k : �
   pub body : Ready t (childA t n) (extend ρ (markOf t n) k) m
 
 -- a let from where its block is made
-abbrev pub enclosed : List ℕ → ℕ → Variables → Memory → ℕ → ℕ → Outcome
+abbrev pub enclosed : List ℕ → ℕ → Variables → Memory → ℕ → ℕ → Outcome Memory
 enclosed t n ρ m f k =
     next (run (statementAt t (childA t n)) (extend ρ (markOf t n) k) m f) (λ m₁ f₁. finished (endBlock m₁ k) f₁)
 
--- the answer of an outcome
-abbrev pub resultOf : Outcome → Ended
-resultOf (finished m f) = result 0 0 f
-resultOf (ended c s m f) = result c s f
+-- a run's result and memory are those of an ending
+pub record EndsSo (e : Ending Memory) (r : Ended) (entry exit : List ℕ) : Type 0 where
+  pub answer : r ≡ result (e .number) (e .statement) (e .fuel)
+  pub memory : Becomes entry exit (e .state)
 
--- a run's result and memory are those of an outcome
-pub record Ran (o : Outcome) (r : Ended) (entry exit : List ℕ) : Type 0 where
-  pub answer : r ≡ resultOf o
-  pub memory : Becomes entry exit (memoryAfter o)
+-- and so of an outcome
+abbrev pub Ran : Outcome Memory → Ended → List ℕ → List ℕ → Type 0
+Ran o r entry exit = EndsSo (ending o) r entry exit

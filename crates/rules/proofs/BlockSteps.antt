@@ -6,14 +6,13 @@ use mathlib.Core.Logic.{_≢_}
 use lib.IntN.{pos, negsuc}
 use lib.Seq.{getD-set-same}
 use Rattle.rules.specs.Memory.{Memory, recordedOf, blockOf, locate, readCell, setCell, nextName, freeRun, fixed}
-use Rattle.rules.specs.Memory.{freeable, withBlock, makeAt, endBlock, onPlace, storeNew, allocated}
-use Rattle.rules.specs.Evaluation.{pointedBy, addressOf}
+use Rattle.rules.specs.Memory.{freeable, withBlock, madeIn, makeAt, endBlock, onPlace, storeNew, allocated}
+use Rattle.rules.specs.Evaluation.{Variables, pointedBy, addressOf}
 use Rattle.rules.specs.Observation.{Observation, noted, storeBlock, deleteBlock, initialise, pointerTo, mirror}
-use Rattle.rules.specs.Plain.{Outcome}
-use Rattle.rules.specs.Plain as plain
-use Rattle.rules.specs.Watched.{Temporaries, temporaryOf, heldIn, WatchedOutcome, finished, Watching, next}
-use Rattle.rules.specs.Watched.{after, inLet, taken, observed, calledOn, calledOnTwo}
-use Rattle.rules.specs.Answers.{memoryAfter}
+use Rattle.rules.specs.Flow.{Outcome, finished, ending, into, next, after, inLet}
+use Rattle.rules.specs.Watched.{Temporaries, temporaryOf, heldIn, WatchedState, watching, withMemory, taken}
+use Rattle.rules.specs.Watched.{observed, calledOn, calledOnTwo}
+use Rattle.rules.proofs.TargetRuns.{storing, deleting, initialising, closing}
 use Rattle.rules.proofs.Invariant.{Invariant, Onward}
 use Rattle.rules.proofs.Pointing.{Leads, leads}
 use Rattle.rules.proofs.Room.{Room, HasRoom, room}
@@ -21,7 +20,8 @@ use Rattle.rules.proofs.BlockChanges.{onward-make}
 use Rattle.rules.proofs.MemoryLaws.{named-rename-same}
 use Rattle.rules.proofs.Mirror.{mirror-initialise, mirror-store, mirror-delete}
 use Rattle.rules.proofs.PredicateSimulation.{Full, put, full-put, put-same, put-other}
-use Rattle.rules.proofs.StatementSteps.{Agree, both-finish, both-end, Agreeing, stored}
+use Rattle.rules.proofs.StatementSteps.{Watching, Running, Agree, both-finish, both-end, Agreeing, agree-within, stored}
+use Rattle.rules.proofs.StatementSteps.{changing}
 use Rattle.rules.specs.declared.Pointer.{Pointer}
 use Rattle.rules.specs.declared.Value.{Value}
 use Rattle.rules.specs.declared.Value.the-variants as value
@@ -39,18 +39,19 @@ use Rattle.rules.specs.declared.Cell.the-variants as cell
 use Rattle.rules.specs.declared.Temporary.the-variants as temporary
 
 -- a new block: made, its pointer stored and read back, the block recorded, the pointer's cell marked
-abbrev recordAfter : ℕ → Watching
-recordAfter s m o τ f =
-    next (taken s 1 (onPlace (pointedBy (heldIn τ 0)) evaluated.Stopped (readCell m)) m o τ f) (λ m₁ o₁ τ₁ f₁.
-    next (observed s (calledOnTwo (heldIn τ₁ 1) (heldIn τ₁ 2) (storeBlock o₁)) m₁ o₁ τ₁ f₁) (λ m₂ o₂ τ₂ f₂.
-    observed s (calledOn (heldIn τ₂ 0) (initialise o₂)) m₂ o₂ τ₂ f₂))
+abbrev recordAfter : ℕ → Variables → Watching
+recordAfter s ρ x f =
+    into 1 (next (into 0 (after s ρ f (taken x 1
+    (onPlace (pointedBy (heldIn (x .temporaries) 0)) evaluated.Stopped (readCell (x .memory)))))) (λ y g.
+    into 1 (next (into 0 (after s ρ g (observed y (storing 1 y)))) (λ z h.
+    into 1 (after s ρ h (observed z (initialising 0 z)))))))
 
-recordAfter-is : (s : ℕ) (m : Memory) (o o₁ o₂ : Observation) (τ : Temporaries) (f : ℕ) (v : Value)
+recordAfter-is : (s : ℕ) (ρ : Variables) (m : Memory) (o o₁ o₂ : Observation) (τ : Temporaries) (f : ℕ) (v : Value)
     → onPlace (pointedBy (heldIn τ 0)) evaluated.Stopped (readCell m) ≡ evaluated.Value v
     → calledOnTwo (heldIn (put τ 1 v) 1) (heldIn (put τ 1 v) 2) (storeBlock o) ≡ noted o₁
     → calledOn (heldIn (put τ 1 v) 0) (initialise o₁) ≡ noted o₂
-    → recordAfter s m o τ f ≡ finished m o₂ (put τ 1 v) f
-recordAfter-is s m o o₁ o₂ τ f v a b c = rw (a, b, c) refl
+    → recordAfter s ρ (watching m o τ) f ≡ finished (watching m o₂ (put τ 1 v)) f
+recordAfter-is s ρ m o o₁ o₂ τ f v a b c = rw (a, b, c) refl
 
 locate-set : (m : Memory) (i : ℕ) (c : Cell) (p : Pointer) → locate (setCell m i c) p ≡ locate m p
 unfolding locate
@@ -64,20 +65,20 @@ read-back m p q i e y =
     let at : Leads m (p .name) (located.At i) = rw e at (leads m p y) in
     rw (locate-set m i c p ∙ e, getD-set-same (m .cells) i c cell.Free (omega (arith, y .size, at .1))) refl
 
-agree-stored : (s : ℕ) (m : Memory) (τ : Temporaries) (f : ℕ) (p : Pointer) (n k first : ℕ) (r : Located)
+agree-stored : (s : ℕ) (ρ : Variables) (m : Memory) (τ : Temporaries) (f : ℕ) (p : Pointer) (n k first : ℕ) (r : Located)
     → Room m (suc n) k first → freeRun m (suc n) ≡ search.At first → Invariant m
     → locate (withBlock m freeable k first (suc n)) p ≡ r
     → temporaryOf τ 0 ≡ temporary.Holds (value.Pointer p)
     → temporaryOf τ 2 ≡ temporary.Holds (value.Integer (pos (suc n)))
     → Full τ
     → let c = stored (withBlock m freeable k first (suc n)) p (pointerTo k 0) r in
-    Agree (plain.after s f c) (next (after s (mirror m) τ f c) (recordAfter s))
-agree-stored s m τ f p n k first located.Dead h g y e t₀ t₂ l =
+    Agree (after s ρ f c) (next (changing s ρ (watching m (mirror m) τ) f c) (recordAfter s ρ))
+agree-stored s ρ m τ f p n k first located.Dead h g y e t₀ t₂ l =
     both-end (λ (d : _≢_ {A = ℕ} 42 42). absurd (d refl))
-agree-stored s m τ f p n k first located.Outside h g y e t₀ t₂ l =
+agree-stored s ρ m τ f p n k first located.Outside h g y e t₀ t₂ l =
     both-end (λ (d : _≢_ {A = ℕ} 42 42). absurd (d refl))
-agree-stored s m τ f p n k first (located.At i) h g y e t₀ t₂ l =
-    rw (recordAfter-is s (setCell m₁ i (cell.Holds (p .name) (pointerTo k 0))) (mirror m) (mirror m₁) o₂ τ f
+agree-stored s ρ m τ f p n k first (located.At i) h g y e t₀ t₂ l =
+    rw (recordAfter-is s ρ (setCell m₁ i (cell.Holds (p .name) (pointerTo k 0))) (mirror m) (mirror m₁) o₂ τ f
     (pointerTo k 0) back record-block mark) (both-finish refl (full-put τ 1 (pointerTo k 0) l))
   where
     m₁ : Memory
@@ -104,45 +105,45 @@ agree-stored s m τ f p n k first (located.At i) h g y e t₀ t₂ l =
     mark =
         rw (put-other τ 1 0 (pointerTo k 0) (omega arith) ∙ t₀) (mirror-initialise m₁ p i (pointerTo k 0) tt e)
 
-agree-new : (s : ℕ) (m : Memory) (τ : Temporaries) (f : ℕ) (p : Pointer) (n : ℕ) (r₁ r₂ : Search)
+agree-new : (s : ℕ) (ρ : Variables) (m : Memory) (τ : Temporaries) (f : ℕ) (p : Pointer) (n : ℕ) (r₁ r₂ : Search)
     → HasRoom m (suc n) r₁ r₂
     → freeRun m (suc n) ≡ r₂ → Invariant m
     → temporaryOf τ 0 ≡ temporary.Holds (value.Pointer p)
     → temporaryOf τ 2 ≡ temporary.Holds (value.Integer (pos (suc n)))
     → Full τ
     → let c = storeNew m p (makeAt m freeable (suc n) r₁ r₂) in
-    Agree (plain.after s f c) (next (after s (mirror m) τ f c) (recordAfter s))
-agree-new s m τ f p n search.Nothing r₂ h g y t₀ t₂ l = both-end (λ z. refl)
-agree-new s m τ f p n (search.At k) search.Nothing h g y t₀ t₂ l = both-end (λ z. refl)
-agree-new s m τ f p n (search.At k) (search.At first) h g y t₀ t₂ l =
-    agree-stored s m τ f p n k first (locate (withBlock m freeable k first (suc n)) p) h g y refl t₀ t₂ l
+    Agree (after s ρ f c) (next (changing s ρ (watching m (mirror m) τ) f c) (recordAfter s ρ))
+agree-new s ρ m τ f p n search.Nothing r₂ h g y t₀ t₂ l = both-end (λ z. refl)
+agree-new s ρ m τ f p n (search.At k) search.Nothing h g y t₀ t₂ l = both-end (λ z. refl)
+agree-new s ρ m τ f p n (search.At k) (search.At first) h g y t₀ t₂ l =
+    agree-stored s ρ m τ f p n k first (locate (withBlock m freeable k first (suc n)) p) h g y refl t₀ t₂ l
 
-pub agree-allocated : (s : ℕ) (m : Memory) (τ : Temporaries) (f : ℕ) (x : Found) (r : Evaluated)
-    (x₁ : Temporaries → Memory → Found) (r₁ : Temporaries → Memory → Evaluated) → Invariant m → Full τ
-    → ((t : Temporaries) → x₁ t m ≡ x) → ((t : Temporaries) → r₁ t m ≡ r)
-    → Agree (plain.after s f (allocated m x r))
-    (next (taken s 0 (addressOf (x₁ τ m)) m (mirror m) τ f) (λ m₁ o₁ τ₁ f₁.
-    next (taken s 2 (r₁ τ₁ m₁) m₁ o₁ τ₁ f₁) (λ m₂ o₂ τ₂ f₂.
-    next (after s o₂ τ₂ f₂ (allocated m₂ (x₁ τ₂ m₂) (r₁ τ₂ m₂))) (recordAfter s))))
-agree-allocated s m τ f (found.Stopped c) r x₁ r₁ y l h g = rw (h τ) (both-end (λ z. refl))
-agree-allocated s m τ f (found.Place p) (evaluated.Stopped c) x₁ r₁ y l h g =
+pub agree-allocated : (s : ℕ) (ρ : Variables) (m : Memory) (τ : Temporaries) (f : ℕ) (x : Found) (r : Evaluated)
+    (x₁ : WatchedState → Found) (r₁ : WatchedState → Evaluated) → Invariant m → Full τ
+    → ((t : Temporaries) → x₁ (watching m (mirror m) t) ≡ x) → ((t : Temporaries) → r₁ (watching m (mirror m) t) ≡ r)
+    → Agree (after s ρ f (allocated m x r))
+    (next (into 0 (after s ρ f (taken (watching m (mirror m) τ) 0 (addressOf (x₁ (watching m (mirror m) τ)))))) (λ y g.
+    into 1 (next (into 0 (after s ρ g (taken y 2 (r₁ y)))) (λ z h.
+    into 1 (next (changing s ρ z h (allocated (z .memory) (x₁ z) (r₁ z))) (recordAfter s ρ))))))
+agree-allocated s ρ m τ f (found.Stopped c) r x₁ r₁ y l h g = rw (h τ) (both-end (λ z. refl))
+agree-allocated s ρ m τ f (found.Place p) (evaluated.Stopped c) x₁ r₁ y l h g =
     rw (h τ, g (put τ 0 (value.Pointer p))) (both-end (λ z. refl))
-agree-allocated s m τ f (found.Place p) (evaluated.Value v) x₁ r₁ y l h g =
+agree-allocated s ρ m τ f (found.Place p) (evaluated.Value v) x₁ r₁ y l h g =
     rw (
       h τ,
       g (put τ 0 (value.Pointer p)),
       h (put (put τ 0 (value.Pointer p)) 2 v),
       g (put (put τ 0 (value.Pointer p)) 2 v),
-    ) (go v)
+    ) (agree-within 1 (agree-within 1 (go v)))
   where
     go : (v : Value)
         → let c = allocated m (found.Place p) (evaluated.Value v) in
-        Agree (plain.after s f c)
-        (next (after s (mirror m) (put (put τ 0 (value.Pointer p)) 2 v) f c) (recordAfter s))
+        Agree (after s ρ f c)
+        (next (changing s ρ (watching m (mirror m) (put (put τ 0 (value.Pointer p)) 2 v)) f c) (recordAfter s ρ))
     go value.Undefined = both-end (λ z. refl)
     go (value.Integer (pos zero)) = both-end (λ z. refl)
     go (value.Integer (pos (suc n))) =
-        agree-new s m (put (put τ 0 (value.Pointer p)) 2 (value.Integer (pos (suc n)))) f p n (nextName m)
+        agree-new s ρ m (put (put τ 0 (value.Pointer p)) 2 (value.Integer (pos (suc n)))) f p n (nextName m)
         (freeRun m (suc n)) (room m (suc n)) refl y
         (put-other (put τ 0 (value.Pointer p)) 2 0 (value.Integer (pos (suc n))) (omega arith)
         ∙ put-same τ 0 (value.Pointer p) l (omega arith))
@@ -153,39 +154,42 @@ agree-allocated s m τ f (found.Place p) (evaluated.Value v) x₁ r₁ y l h g =
     go (value.Pointer q) = both-end (λ z. refl)
 
 -- a let: its block is recorded before the body and deleted after it
-abbrev removeAfter : ℕ → ℕ → Watching
-removeAfter s j m o τ f =
-    next (taken s 0 (evaluated.Value (pointerTo j 0)) m o τ f) (λ m₁ o₁ τ₁ f₁.
-    observed s (calledOn (heldIn τ₁ 0) (deleteBlock o₁)) m₁ o₁ τ₁ f₁)
+abbrev removeAfter : ℕ → Variables → ℕ → Watching
+removeAfter s ρ j x f =
+    into 1 (next (into 0 (after s ρ f (taken x 0 (evaluated.Value (pointerTo j 0))))) (λ y g.
+    into 1 (after s ρ g (observed y (deleting 0 y)))))
 
-removeAfter-is : (s k first n : ℕ) (m : Memory) (τ : Temporaries) (f : ℕ) → blockOf m k ≡ block.Fixed first n → Full τ
-    → removeAfter s k m (mirror m) τ f ≡ finished m (mirror (endBlock m k)) (put τ 0 (pointerTo k 0)) f
-removeAfter-is s k first n m τ f e l =
+removeAfter-is : (s : ℕ) (ρ : Variables) (k first n : ℕ) (m : Memory) (τ : Temporaries) (f : ℕ)
+    → blockOf m k ≡ block.Fixed first n → Full τ
+    → removeAfter s ρ k (watching m (mirror m) τ) f
+    ≡ finished (watching m (mirror (endBlock m k)) (put τ 0 (pointerTo k 0))) f
+removeAfter-is s ρ k first n m τ f e l =
     rw (put-same τ 0 (pointerTo k 0) l (omega arith), mirror-delete m k first n (ap recordedOf e)) refl
 
-let-end : (s : ℕ) (m : Memory) (k first : ℕ) {p : Outcome} {w : WatchedOutcome} → Agree p w → Onward m (memoryAfter p)
-    → blockOf m k ≡ block.Fixed first 1
-    → Agree (plain.next p (λ m₂ f₂. plain.finished (endBlock m₂ k) f₂))
-    (next (next w (removeAfter s k)) (λ m₂ o₂ τ₂ f₂. finished (endBlock m₂ k) o₂ τ₂ f₂))
-let-end s m k first (both-finish {m = m₂} {o} {τ} {f} e l) h g =
+let-end : (s : ℕ) (ρ : Variables) (m : Memory) (k first : ℕ) {p : Outcome Memory} {w : Outcome WatchedState} → Agree p w
+    → Onward m (ending p .state) → blockOf m k ≡ block.Fixed first 1
+    → Agree (next (into 0 p) (λ m₂ f₂. finished (endBlock m₂ k) f₂))
+    (next (into 0 (into 1 (into 1 (into 1 (next (into 0 w) (removeAfter s ρ k)))))) (λ x g. finished (closing x k) g))
+let-end s ρ m k first (both-finish {m = m₂} {o} {τ} {f} e l) h g =
     let there : blockOf m₂ k ≡ block.Fixed first 1 = rw g at (h .becomes k) in
-    rw (e, removeAfter-is s k first 1 m₂ τ f there l) (both-finish refl (full-put τ 0 (pointerTo k 0) l))
-let-end s m k first (both-end h) y g = both-end h
+    rw (e, removeAfter-is s ρ k first 1 m₂ τ f there l) (both-finish refl (full-put τ 0 (pointerTo k 0) l))
+let-end s ρ m k first (both-end h) y g = both-end h
 
-pub agree-let : (s : ℕ) (m : Memory) (τ : Temporaries) (f : ℕ) (at : ℕ → ℕ) (b : ℕ → Memory → ℕ → Outcome)
-    (bw : ℕ → Watching)
+pub agree-let : (s : ℕ) (ρ : Variables) (m : Memory) (τ : Temporaries) (f : ℕ) (inner : ℕ → Variables) (at : ℕ → ℕ)
+    (b : ℕ → Running) (bw : ℕ → Watching)
     (r₁ r₂ : Search) → HasRoom m 1 r₁ r₂ → freeRun m 1 ≡ r₂ → Invariant m → Full τ → ((k : ℕ) → at k ≡ k)
     → ((k : ℕ) → Agreeing (b k) (bw k))
-    → ((k : ℕ) (m₁ : Memory) (f₁ : ℕ) → Invariant m₁ → Onward m₁ (memoryAfter (b k m₁ f₁)))
-    → Agree (plain.inLet s m f (makeAt m fixed 1 r₁ r₂) b)
-    (inLet s (makeAt m fixed 1 r₁ r₂) (λ k m₁ o₁ τ₁ f₁.
-    next (taken s 0 (evaluated.Value (pointerTo (at k) 0)) m₁ o₁ τ₁ f₁) (λ m₂ o₂ τ₂ f₂.
-    next (taken s 1 (evaluated.Value (value.Integer (pos 1))) m₂ o₂ τ₂ f₂) (λ m₃ o₃ τ₃ f₃.
-    next (observed s (calledOnTwo (heldIn τ₃ 0) (heldIn τ₃ 1) (storeBlock o₃)) m₃ o₃ τ₃ f₃) (λ m₄ o₄ τ₄ f₄.
-    next (bw k m₄ o₄ τ₄ f₄) (removeAfter s (at k)))))) m (mirror m) τ f)
-agree-let s m τ f at b bw search.Nothing r₂ h g y l e i v = both-end (λ z. refl)
-agree-let s m τ f at b bw (search.At k) search.Nothing h g y l e i v = both-end (λ z. refl)
-agree-let s m τ f at b bw (search.At k) (search.At first) h g y l e i v =
+    → ((k : ℕ) (m₁ : Memory) (f₁ : ℕ) → Invariant m₁ → Onward m₁ (ending (b k m₁ f₁) .state))
+    → Agree (inLet s ρ m f (makeAt m fixed 1 r₁ r₂) endBlock (λ k m₁ f₁. into 0 (b k m₁ f₁)))
+    (inLet s ρ (watching m (mirror m) τ) f (madeIn (withMemory (watching m (mirror m) τ)) (makeAt m fixed 1 r₁ r₂)) closing
+    (λ k x g. into 0
+    (next (into 0 (after s (inner k) g (taken x 0 (evaluated.Value (pointerTo (at k) 0))))) (λ x₁ g₁.
+    into 1 (next (into 0 (after s (inner k) g₁ (taken x₁ 1 (evaluated.Value (value.Integer (pos 1)))))) (λ x₂ g₂.
+    into 1 (next (into 0 (after s (inner k) g₂ (observed x₂ (storing 0 x₂)))) (λ x₃ g₃.
+    into 1 (next (into 0 (bw k x₃ g₃)) (removeAfter s (inner k) (at k)))))))))))
+agree-let s ρ m τ f inner at b bw search.Nothing r₂ h g y l e i v = both-end (λ z. refl)
+agree-let s ρ m τ f inner at b bw (search.At k) search.Nothing h g y l e i v = both-end (λ z. refl)
+agree-let s ρ m τ f inner at b bw (search.At k) (search.At first) h g y l e i v =
     rw (
       e k,
       put-other (put τ 0 (pointerTo k 0)) 1 0 (value.Integer (pos 1)) (omega arith)
@@ -193,7 +197,7 @@ agree-let s m τ f at b bw (search.At k) (search.At first) h g y l e i v =
       put-same (put τ 0 (pointerTo k 0)) 1 (value.Integer (pos 1)) (full-put τ 0 (pointerTo k 0) l) (omega arith),
       mirror-store m fixed 0 k first y (h .unused) g,
     )
-    (let-end s m₁ k first
+    (let-end s (inner k) m₁ k first
     (i k m₁ (put (put τ 0 (pointerTo k 0)) 1 (value.Integer (pos 1))) f
     (onward-make m fixed 1 k first h y .invariant)
     (full-put (put τ 0 (pointerTo k 0)) 1 (value.Integer (pos 1)) (full-put τ 0 (pointerTo k 0) l)))

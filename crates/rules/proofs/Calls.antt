@@ -10,7 +10,7 @@ use Rattle.rules.specs.Observation.{storeSized, storeBlock, deleteAt, de
 use Rattle.rules.specs.Observation.{markAt, initialise}
 use Rattle.rules.specs.Watched.{calledOn, calledOnTwo}
 use Rattle.rules.proofs.Keeping.{AnyValue, Gives, on-value, on-integer, on-pointer}
-use Rattle.rules.proofs.Outcomes.{NotedKeeps}
+use Rattle.rules.proofs.TargetRuns.{NotedKeeps}
 use Rattle.rules.specs.declared.Pointer.{Pointer}
 use Rattle.rules.specs.declared.Value.{Value}
 use Rattle.rules.specs.declared.Evaluated.{Evaluated}

@@ -18,12 +18,14 @@ use Rattle.rules.specs.Numbers.{onIntegers, onPointerAndInteger, onPoint
 use Rattle.rules.specs.Memory.{Memory, locate, cellOf, isFree, allFree, lowestRun, freeRun, fixed, freeable}
 use Rattle.rules.specs.Memory.{withBlock, makeAt, storeNew, endBlock, startMemory}
 use Rattle.rules.specs.Evaluation.{extend, evaluate, queried, evaluateTerm, evaluatePredicate}
-use Rattle.rules.specs.Plain.{finished, next, after, inLet, turns, run, startVariables}
-use Rattle.rules.specs.Observation.{startObservation, covered, markAll}
-use Rattle.rules.specs.Watched.{watch, startTemporaries}
+use Rattle.rules.specs.Flow.{finished, into, next, after, inLet, turns, runBy}
+use Rattle.rules.specs.Flow as flow
+use Rattle.rules.specs.Plain.{run, startVariables}
+use Rattle.rules.specs.Observation.{covered, markAll}
+use Rattle.rules.specs.Watched.{watch}
 use Rattle.rules.specs.Translation.{embed, translateTerm, translatePredicate, translate}
 use Rattle.rules.specs.Layout.{blockBytes, memoryImage, blockPlace}
-use Rattle.rules.specs.Answers.{PlainRun, inputsOf, endingOf, memoryAfter, watchedEndingOf}
+use Rattle.rules.specs.Answers.{PlainRun, inputsOf, plainEnded, watchedStart, watchedEnded}
 use Rattle.rules.specs.Cases.{minus, inputs, stop, ending, endings, p5, p6, p7, p8, p9, p10, blockAfter}
 use Rattle.rules.specs.Cases.{worked, onPaper}
 use Rattle.rules.specs.CommonErrors.{stops}
@@ -52,14 +54,13 @@ stops-are rs c =
     let small : translatedSize t ≤ 4096 = omega (arith, size-bound t c, a .not-too-many) in
     endings-are rs c (translation-accepted t sound small)
     ∙ ap (λ (p : TargetStatement).
-    stop (endingOf (plainly rs))
-    ++ stop (watchedEndingOf (watch p startVariables (startMemory (inputsOf inputs)) (startObservation 2)
-    startTemporaries 0)))
+    stop (plainEnded (plainly rs) .answer)
+    ++ stop (watchedEnded (flow.ending (watch p startVariables (watchedStart (inputsOf inputs)) 0)) .answer))
     (translation-program t sound small)
 
 -- no bytes of a cell are worked out for a block's record
 block-is : (rs : List Record) (k : ℕ) → check source (tableBytes rs) ≡ checked.Accepted
-    → blockAfter rs k ≡ part 8 (memoryImage (memoryAfter (plainly rs))) (blockPlace (k - 1))
+    → blockAfter rs k ≡ part 8 (memoryImage (plainly rs .state)) (blockPlace (k - 1))
 unfolding blockAfter
 block-is rs k c = ap (λ (r : PlainRun). part 8 (r .memory) (blockPlace (k - 1))) (plain-is rs c)
 
@@ -103,16 +104,17 @@ last-room =
     ∙ lowest-next q 3 1 (allFree-taken p 3 1019 (taken .3))
     ∙ lowest-here q 4 0 (allFree-all p 4 1020 (λ i a b. free-from-four i a b))
 
-last-fits : stop (endingOf (plainly (p8 1020))) ≡ (0 ∷ 0 ∷ [])
+last-fits : stop (plainEnded (plainly (p8 1020)) .answer) ≡ (0 ∷ 0 ∷ [])
 unfolding little digits wordAt flat lookUp formOf lowest recordFault makeNode nodes nodeAt locate startMemory evaluate
-    run start inLetFive
+    runBy start inLetFive
 last-fits =
-    (λ i. stop (endingOf (inLet 4 start 0 (makeAt start fixed 1 (search.At 3) (first-room i))
-    (λ k m f. run (new 3 (variable 5) (literal (pos 1020))) (extend startVariables 5 k) m f))))
-    ∙ (λ i. stop (endingOf (next (after 3 0
+    (λ i. stop (plainEnded (flow.ending (inLet 4 startVariables start 0
+    (makeAt start fixed 1 (search.At 3) (first-room i)) endBlock (λ k m f.
+    into 0 (run (new 3 (variable 5) (literal (pos 1020))) (extend startVariables 5 k) m f)))) .answer))
+    ∙ (λ i. stop (plainEnded (flow.ending (next (into 0 (after 3 (extend startVariables 5 3) 0
     (storeNew inLetFive (record { name = 3; offset = pos 0 })
-    (makeAt inLetFive freeable 1020 (search.At 4) (last-room i))))
-    (λ m f. finished (endBlock m 3) f))))
+    (makeAt inLetFive freeable 1020 (search.At 4) (last-room i)))))
+    (λ m f. finished (endBlock m 3) f))) .answer))
 
 -- P5 to P10; P6, P7 and an offset of P5 are told where people err
 runs :
@@ -129,7 +131,7 @@ runs :
     × (endings p10 ≡ (33 ∷ 13 ∷ 33 ∷ 13 ∷ []))
 unfolding little digits wordAt flat lookUp formOf lowest recordFault timesChildOf timesChild shapeFault parentOf
     inScope scopeFault levelOf levelFault check makeNode nodes nodeAt onIntegers onPointerAndInteger onPointers
-    operate locate allFree lowestRun startMemory evaluate queried evaluateTerm evaluatePredicate turns run covered
+    operate locate allFree lowestRun startMemory evaluate queried evaluateTerm evaluatePredicate turns runBy covered
     markAll watch embed translateTerm translatePredicate translate stops errors.plainly errors.watchedly
 runs = (
   stops-are (p5 (pos 0)) refl ∙ each-right .0,
@@ -152,7 +154,7 @@ blocks :
     × (blockAfter p9 5 ≡ (2 ∷ 0 ∷ 4 ∷ 0 ∷ 6 ∷ 0 ∷ 0 ∷ 0 ∷ []))
 unfolding little digits wordAt flat lookUp formOf lowest recordFault timesChildOf timesChild shapeFault parentOf
     inScope scopeFault levelOf levelFault check makeNode nodes nodeAt locate allFree lowestRun startMemory evaluate
-    turns run blockBytes memoryImage
+    turns runBy blockBytes memoryImage
 blocks = (block-is (p8 6) 4 refl, block-is p9 4 refl, block-is p9 5 refl)
 
 pub as-on-paper : worked ≡ onPaper

@@ -22,7 +22,7 @@ use Rattle.rules.specs.declared.Search.the-variants as search
 use Rattle.rules.specs.declared.Block.{Block}
 use Rattle.rules.specs.declared.Block.the-variants as block
 
-pub change-kept : (m : Memory) (c : Change) → Onward m (changedMemory c) → ChangeKeeps (Onward m) AnyNumber c
+pub change-kept : (m : Memory) (c : Change Memory) → Onward m (changedMemory c) → ChangeKeeps (Onward m) AnyNumber c
 change-kept m (changed m₁) h = h
 change-kept m (stopped c m₁) h = (tt, h)
 
@@ -36,7 +36,7 @@ onward-assigned m (found.Place p) (evaluated.Value v) y = onward-cell m p v y
 abbrev pub Given : Memory → ℕ → Memory → Type 0
 Given m k m₁ = (blockOf m k ≡ block.Unused) × Onward m m₁ × (isUnused (blockOf m₁ k) ≡ false)
 
-abbrev pub MadeFrom : Memory → Made → Type 0
+abbrev pub MadeFrom : Memory → Made Memory → Type 0
 MadeFrom m r = MadeKeeps (Given m) AnyNumber r
 
 pub onward-made : (m : Memory) (u : Use) (n : ℕ) → Invariant m → MadeFrom m (makeBlock m u n)
@@ -47,7 +47,7 @@ onward-made m u n y = go (nextName m) (freeRun m n) (room m n)
     go (search.At k) search.Nothing h = tt
     go (search.At k) (search.At first) h = (h .unused, onward-make m u n k first h y, make-given m u n k first h y)
 
-onward-new : (m : Memory) (p : Pointer) (r : Made) → MadeFrom m r → Invariant m
+onward-new : (m : Memory) (p : Pointer) (r : Made Memory) → MadeFrom m r → Invariant m
     → Onward m (changedMemory (storeNew m p r))
 onward-new m p (made k m₁) h y =
     onward-then (h .1) (onward-cell m₁ p (value.Pointer (record { name = k; offset = pos 0 })) (h .1 .invariant))

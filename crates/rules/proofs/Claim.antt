@@ -8,11 +8,11 @@ use Rattle.rules.specs.Sizes.{sourceLimit}
 use Rattle.rules.specs.Records.{recordCount}
 use Rattle.rules.specs.Kinds.{source}
 use Rattle.rules.specs.Checker.{check, inputsFault}
+use Rattle.rules.specs.TargetTrees.{TargetStatement}
 use Rattle.rules.specs.Nodes.{sourceProgram, targetProgram}
-use Rattle.rules.specs.Memory.{startMemory}
-use Rattle.rules.specs.Observation.{mirror, startObservation}
-use Rattle.rules.specs.Plain.{startVariables}
-use Rattle.rules.specs.Watched.{watch, startTemporaries}
+use Rattle.rules.specs.Observation.{mirror}
+use Rattle.rules.specs.Flow.{Outcome, ending}
+use Rattle.rules.specs.Watched.{WatchedState}
 use Rattle.rules.specs.Translation.{translate, translation}
 use Rattle.rules.specs.Layout.{memoryImage, observationImage}
 use Rattle.rules.specs.Answers.{PlainRun, WatchedRun, inputsOf, plainOutcome, plainEnded, watchedOutcome}
@@ -28,15 +28,13 @@ use Rattle.rules.proofs.SizeBound.{all-records, size-bound}
 use Rattle.rules.proofs.TranslatedTables.{translatedSize, translation-count, translation-accepted}
 use Rattle.rules.proofs.TranslatedTables.{translation-program}
 use Rattle.rules.proofs.ReachableRoundTrip.{plain-round-trip}
-use Rattle.rules.proofs.Inputs.{inputs-length, inputs-few, inputs-some}
+use Rattle.rules.proofs.Inputs.{inputs-few, inputs-some}
 use Rattle.rules.proofs.WholeRun.{Same, watchedFrom, runs-same, up-to-first-false}
 
 -- the translation's run is that of the translated tree
 watched-from : (t i : List ℕ) (f : ℕ) → targetProgram (translation t) ≡ translate (sourceProgram t)
     → watchedOutcome (translation t) i f ≡ watchedFrom (translate (sourceProgram t)) (inputsOf i) f
-watched-from t i f e = λ k.
-    watch (e k) startVariables (startMemory (inputsOf i)) (startObservation (sym (inputs-length i) k))
-    startTemporaries f
+watched-from t i f e = ap (λ (a : TargetStatement). watchedFrom a (inputsOf i) f) e
 
 module _ (t i : List ℕ) (f : ℕ) (c : check source t ≡ checked.Accepted) (e : inputsFault i ≡ false) where
   few : recordCount t ≤ sourceLimit
@@ -48,18 +46,18 @@ module _ (t i : List ℕ) (f : ℕ) (c : check source t ≡ checked.Accepted) (e
   small : translatedSize t ≤ 4096
   small = omega (arith, size-bound t c, few)
 
-  same : Same (plainOutcome t i f) (watchedFrom (translate (sourceProgram t)) (inputsOf i) f)
+  same : Same (ending (plainOutcome t i f)) (ending (watchedFrom (translate (sourceProgram t)) (inputsOf i) f))
   same = runs-same (sourceProgram t) startScope (inputsOf i) f sound (inputs-some i e) (inputs-few i e)
 
   -- the two runs, of whatever answers they are
-  agreement : (p : PlainRun) (w : WatchedRun) → p ≡ plainEnded (plainOutcome t i f)
-      → w ≡ watchedEnded (watchedFrom (translate (sourceProgram t)) (inputsOf i) f) → Agreement t i f p w
+  agreement : (p : PlainRun) (w : WatchedRun) → p ≡ plainEnded (ending (plainOutcome t i f))
+      → w ≡ watchedEnded (ending (watchedFrom (translate (sourceProgram t)) (inputsOf i) f)) → Agreement t i f p w
   agreement p w r s = rw (r, s) record {
     accepted = translation-accepted t sound small;
     bounded = at-most-14 t (accepted-says source t c);
     all-counted = all-records t (accepted-says source t c) ∙ sym (translation-count t);
     neither-refused = same .unrefused;
-    same-answer = sym (same .same-ending);
+    same-answer = sym (same .same-answer);
     same-memory = ap memoryImage (sym (same .same-memory));
     first-false = ap plainEnded (up-to-first-false (sourceProgram t) (inputsOf i) f);
     exact = λ h.
@@ -75,4 +73,4 @@ demand-3 t i f memory memory₁ observation c e h h₁ k =
     let d = small t i f c e in
     agreement t i f c e _ _ (plain-runs t i f memory c e h)
     (watched-runs (translation t) i f memory₁ observation (translation-accepted t s d) e h₁ k
-    ∙ ap watchedEnded (watched-from t i f (translation-program t s d)))
+    ∙ ap (λ (o : Outcome WatchedState). watchedEnded (ending o)) (watched-from t i f (translation-program t s d)))

@@ -10,13 +10,12 @@ use Rattle.rules.specs.Nodes.{makeNode, nodes, nodeAt}
 use Rattle.rules.specs.Numbers.{onIntegers, onPointerAndInteger, onPointers, operate}
 use Rattle.rules.specs.Memory.{locate, allFree, lowestRun, startMemory}
 use Rattle.rules.specs.Evaluation.{evaluate, queried, evaluateTerm, evaluatePredicate}
-use Rattle.rules.specs.Plain.{turns, run}
+use Rattle.rules.specs.Flow.{turns, runBy}
 use Rattle.rules.specs.Observation.{covered, markAll}
 use Rattle.rules.specs.Watched.{watch}
 use Rattle.rules.specs.Translation.{embed, translateTerm, translatePredicate, translate, expressionTree}
 use Rattle.rules.specs.Translation.{statementTree, emit, translatedRecords}
 use Rattle.rules.specs.Layout.{blockBytes, recordedBytes}
-use Rattle.rules.specs.Answers.{memoryAfter}
 use Rattle.rules.specs.Cases.{p5, p6, p7, p9}
 use Rattle.rules.specs.CommonErrors.{plainly, watchedly, stops, readBack, undecided, later, dangling, freedBlock}
 use Rattle.rules.specs.CommonErrors.{states, watchedStates, told, right}
@@ -26,16 +25,16 @@ pub each-right :
     (stops (p5 (pos 0)) ≡ (0 ∷ 0 ∷ 0 ∷ 0 ∷ []))
     × (stops p6 ≡ (0 ∷ 0 ∷ 0 ∷ 0 ∷ []))
     × (stops p7 ≡ (0 ∷ 0 ∷ 0 ∷ 0 ∷ []))
-    × (states (memoryAfter (plainly p9)) ≡ (3 ∷ 3 ∷ []))
+    × (states (plainly p9 .state) ≡ (3 ∷ 3 ∷ []))
     × (stops undecided ≡ (41 ∷ 7 ∷ 41 ∷ 7 ∷ []))
     × (stops later ++ readBack later ≡ (33 ∷ 12 ∷ 33 ∷ 12 ∷ 33 ∷ 12 ∷ []))
     × (stops dangling ≡ (42 ∷ 11 ∷ 42 ∷ 11 ∷ []))
-    × (states (memoryAfter (plainly freedBlock)) ++ watchedStates (watchedly freedBlock)
+    × (states (plainly freedBlock .state) ++ watchedStates (watchedly freedBlock .state)
     ≡ (3 ∷ 3 ∷ 3 ∷ 3 ∷ 2 ∷ 2 ∷ []))
 unfolding little digits wordAt table flat lookUp formOf lowest recordFault timesChildOf timesChild shapeFault
     parentOf inScope scopeFault levelOf levelFault check makeNode nodes nodeAt onIntegers onPointerAndInteger
     onPointers operate locate allFree lowestRun startMemory evaluate queried evaluateTerm evaluatePredicate turns
-    run covered markAll watch embed translateTerm translatePredicate translate expressionTree statementTree emit
+    runBy covered markAll watch embed translateTerm translatePredicate translate expressionTree statementTree emit
     translatedRecords blockBytes recordedBytes plainly watchedly stops readBack
 each-right = (refl, refl, refl, refl, refl, refl, refl, refl)
 

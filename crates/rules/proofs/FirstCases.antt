@@ -13,16 +13,16 @@ use Rattle.rules.specs.Checker.{lowest, recordFault, timesChildOf, times
 use Rattle.rules.specs.Checker.{scopeFault, levelOf, levelFault, check}
 use Rattle.rules.specs.Nodes.{makeNode, nodes, nodeAt}
 use Rattle.rules.specs.Numbers.{onIntegers, operate}
-use Rattle.rules.specs.Memory.{locate, allFree, lowestRun, startMemory}
+use Rattle.rules.specs.Memory.{Memory, locate, allFree, lowestRun, startMemory}
 use Rattle.rules.specs.Evaluation.{evaluate, evaluateTerm, evaluatePredicate}
-use Rattle.rules.specs.Plain.{Outcome, run}
+use Rattle.rules.specs.Flow.{Ending, runBy}
+use Rattle.rules.specs.Flow as flow
 use Rattle.rules.specs.Observation.{covered, markAll}
-use Rattle.rules.specs.Watched.{WatchedOutcome, watch}
+use Rattle.rules.specs.Watched.{WatchedState, watch}
 use Rattle.rules.specs.Translation.{embed, translateTerm, translatePredicate, translate, expressionTree}
 use Rattle.rules.specs.Translation.{statementTree, emit, translatedRecords, translation}
 use Rattle.rules.specs.Layout.{blockBytes, cellBytes, memoryImage}
-use Rattle.rules.specs.Answers.{PlainRun, WatchedRun, plainOutcome, endingOf, memoryAfter, plainEnded}
-use Rattle.rules.specs.Answers.{watchedOutcome, watchedEndingOf, watchedMemoryAfter, watchedEnded}
+use Rattle.rules.specs.Answers.{PlainRun, WatchedRun, plainOutcome, plainEnded, watchedOutcome, watchedEnded}
 use Rattle.rules.specs.Listing.{decimalDigits, recordLines, listing}
 use Rattle.rules.specs.Cases.{inputs, minus, plain, watched, stop, ending, endings, p1, listingOnPaper}
 use Rattle.rules.specs.Cases.{division, assertion, variableCell, divided, quotient, noQuotient}
@@ -36,12 +36,12 @@ unfolding little digits wordAt flat lookUp formOf lowest recordFault timesChildO
     translate expressionTree statementTree emit translatedRecords decimalDigits recordLines
 listing-of-P1 = refl
 
--- the outcomes of a program, of which a run's answer and memories are made
-abbrev pub plainly : List Record → Outcome
-plainly rs = plainOutcome (tableBytes rs) inputs 0
+-- the endings of a program, of which a run's answer and memories are made
+abbrev pub plainly : List Record → Ending Memory
+plainly rs = flow.ending (plainOutcome (tableBytes rs) inputs 0)
 
-abbrev pub watchedly : List Record → WatchedOutcome
-watchedly rs = watchedOutcome (translation (tableBytes rs)) inputs 0
+abbrev pub watchedly : List Record → Ending WatchedState
+watchedly rs = flow.ending (watchedOutcome (translation (tableBytes rs)) inputs 0)
 
 -- A run of an accepted table is its outcome: the lent memories are of the right length.
 pub plain-is : (rs : List Record) → check source (tableBytes rs) ≡ checked.Accepted
@@ -58,23 +58,23 @@ watched-is rs c =
     refl (length-replicate {A = ℕ} memoryLength 0) (length-replicate {A = ℕ} observationLength 0)
 
 pub ending-is : (rs : List Record) → check source (tableBytes rs) ≡ checked.Accepted
-    → ending rs ≡ stop (endingOf (plainly rs))
+    → ending rs ≡ stop (plainEnded (plainly rs) .answer)
 unfolding ending
 ending-is rs c = ap (λ (r : PlainRun). stop (r .answer)) (plain-is rs c)
 
 pub endings-are : (rs : List Record) → check source (tableBytes rs) ≡ checked.Accepted
     → check target (translation (tableBytes rs)) ≡ checked.Accepted
-    → endings rs ≡ stop (endingOf (plainly rs)) ++ stop (watchedEndingOf (watchedly rs))
+    → endings rs ≡ stop (plainEnded (plainly rs) .answer) ++ stop (watchedEnded (watchedly rs) .answer)
 unfolding endings
 endings-are rs c d = λ i. ending-is rs c i ++ stop (watched-is rs d i .answer)
 
 -- what a division shows, of its outcomes
 abbrev shown : ℕ → ℤ → ℤ → ℤ → List ℤ
 shown o x y z =
-    map pos ((stop (endingOf (plainly (division o x y))) ++ stop (watchedEndingOf (watchedly (division o x y))))
-    ++ (stop (endingOf (plainly (assertion o x y z))) ++ stop (watchedEndingOf (watchedly (assertion o x y z)))))
-    ++ variableCell (memoryImage (memoryAfter (plainly (division o x y))))
-    ++ variableCell (memoryImage (watchedMemoryAfter (watchedly (division o x y))))
+    map pos ((stop (plainEnded (plainly (division o x y)) .answer) ++ stop (watchedEnded (watchedly (division o x y)) .answer))
+    ++ (stop (plainEnded (plainly (assertion o x y z)) .answer) ++ stop (watchedEnded (watchedly (assertion o x y z)) .answer)))
+    ++ variableCell (memoryImage (plainly (division o x y) .state))
+    ++ variableCell (memoryImage (watchedly (division o x y) .state .memory))
 
 abbrev Accepted : ℕ → ℤ → ℤ → ℤ → Type 0
 Accepted o x y z =
@@ -116,7 +116,7 @@ pub divisions-of-P2-to-P4 :
     × (divided 5 (minus (2 ^ 63)) (minus 1) (pos 0) ≡ noQuotient 43)
     × (divided 5 (minus (2 ^ 63)) (pos 0) (pos 0) ≡ noQuotient 44)
 unfolding little digits wordAt flat lookUp formOf lowest recordFault makeNode nodes nodeAt onIntegers operate locate
-    allFree lowestRun startMemory evaluate evaluateTerm evaluatePredicate run covered markAll watch embed
+    allFree lowestRun startMemory evaluate evaluateTerm evaluatePredicate runBy covered markAll watch embed
     translateTerm translatePredicate translate expressionTree statementTree emit translatedRecords blockBytes
     cellBytes memoryImage
 divisions-of-P2-to-P4 = (

@@ -118,7 +118,7 @@ endBlock-given m k h = go (recordedOf (blockOf m k)) (end-stay m k)
 abbrev pub Changed : Memory → Memory → Type 0
 Changed m m₁ = Onward m m₁ × CellsGiven m₁
 
-both-kept : (m : Memory) (c : Change) → ChangeKeeps (Onward m) AnyNumber c → ChangeKeeps CellsGiven AnyNumber c
+both-kept : (m : Memory) (c : Change Memory) → ChangeKeeps (Onward m) AnyNumber c → ChangeKeeps CellsGiven AnyNumber c
     → ChangeKeeps (Changed m) AnyNumber c
 both-kept m (changed m₁) h g = (h, g)
 both-kept m (stopped c m₁) h g = (tt, (h .1, g .1))

@@ -1,5 +1,5 @@
 -- No cell and no temporary points to a name that was never given, in any run of an accepted table.
-use Prim.Native.Nat.{ℕ, zero, suc, _-_, _/_, _≤_}
+use Prim.Native.Nat.{ℕ, zero, suc, _-_, _≤_}
 use native.Mathlib.Omega.{arith}
 use mathlib.Core.Path.{_≡_, refl, sym, subst}
 use mathlib.Core.Bool.{true, false, false≢true}
@@ -12,17 +12,17 @@ use Rattle.rules.specs.Checker.{check, inputsFault}
 use Rattle.rules.specs.Nodes.{sourceProgram, targetProgram}
 use Rattle.rules.specs.TargetTrees.{TargetStatement}
 use Rattle.rules.specs.Memory.{startMemory}
-use Rattle.rules.specs.Observation.{Observation, startObservation}
+use Rattle.rules.specs.Observation.{Observation}
+use Rattle.rules.specs.Flow.{ending}
 use Rattle.rules.specs.Plain.{startVariables}
-use Rattle.rules.specs.Watched.{Temporaries, startTemporaries, WatchedOutcome, watch}
-use Rattle.rules.specs.Watched as watched
+use Rattle.rules.specs.Watched.{startTemporaries, WatchedState, watch}
 use Rattle.rules.specs.Translation.{translate}
-use Rattle.rules.specs.Answers.{inputsOf, memoryAfter, plainOutcome, watchedMemoryAfter, watchedOutcome}
+use Rattle.rules.specs.Answers.{inputsOf, plainOutcome, watchedStart, watchedOutcome}
 use Rattle.rules.proofs.Sound.{startScope, SoundTarget}
 use Rattle.rules.proofs.SoundTranslation.{sound-translation}
 use Rattle.rules.proofs.AcceptedPrograms.{accepted-program}
 use Rattle.rules.proofs.Keeping.{AnyNumber}
-use Rattle.rules.proofs.Outcomes.{WatchedOutcomes}
+use Rattle.rules.proofs.Outcomes.{outcomes-state}
 use Rattle.rules.proofs.Lists.{All, none, also, all-append, all-replicate}
 use Rattle.rules.proofs.EvaluatedValues.{CellHas}
 use Rattle.rules.proofs.WatchedGiven.{PointersGiven, GivenState, watch-given}
@@ -56,39 +56,33 @@ start-given is le = record {
     first zero e = (omega arith, omega arith, refl)
     first (suc x) e = absurd (false≢true e)
 
--- the temporaries after a watched run
-abbrev pub temporariesAfter : WatchedOutcome → Temporaries
-temporariesAfter (watched.finished m o τ f) = τ
-temporariesAfter (watched.ended c s m o τ f) = τ
-
 -- every pointer that a watched run leaves in a cell or in a temporary has a name that was given
-abbrev pub AllGiven : WatchedOutcome → Type 0
-AllGiven w = CellsGiven (watchedMemoryAfter w) × TemporariesGiven (watchedMemoryAfter w) (temporariesAfter w)
+abbrev pub AllGiven : WatchedState → Type 0
+AllGiven x = CellsGiven (x .memory) × TemporariesGiven (x .memory) (x .temporaries)
 
-after-given : (w : WatchedOutcome) → WatchedOutcomes (GivenState startScope startVariables) AnyNumber w → AllGiven w
-after-given (watched.finished m o τ f) h = (h .cells, h .temporaries)
-after-given (watched.ended c s m o τ f) h = (h .1 .cells, h .1 .temporaries)
-
-from-start : (a : TargetStatement) (is : List ℤ) (o : Observation) (f : ℕ) → SoundTarget a startScope
-    → length is ≤ inputLimit → AllGiven (watch a startVariables (startMemory is) o startTemporaries f)
-from-start a is o f h le =
-    after-given (watch a startVariables (startMemory is) o startTemporaries f)
-    (watch-given a startScope h startVariables (startMemory is) o startTemporaries f (start-given is le))
+from-start : (a : TargetStatement) (is : List ℤ) (f : ℕ) → SoundTarget a startScope → length is ≤ inputLimit
+    → AllGiven (ending (watch a startVariables (watchedStart is) f) .state)
+from-start a is f h le =
+    let g =
+    outcomes-state (λ y k. GivenState startScope startVariables y × (k ≤ f)) AnyNumber
+    (watch a startVariables (watchedStart is) f)
+    (watch-given a startScope h startVariables (watchedStart is) f (start-given is le)) .0
+    in
+    (g .cells, g .temporaries)
 
 -- every accepted target table, a hand-made one too
 pub watched-given : (t i : List ℕ) (f : ℕ) → check target t ≡ checked.Accepted → inputsFault i ≡ false
-    → AllGiven (watchedOutcome t i f)
+    → AllGiven (ending (watchedOutcome t i f) .state)
 watched-given t i f c e =
-    from-start (targetProgram t) (inputsOf i) (startObservation (length i / 8)) f
-    (accepted-program target t c .last .sound) (inputs-few i e)
+    from-start (targetProgram t) (inputsOf i) f (accepted-program target t c .last .sound) (inputs-few i e)
 
 -- every accepted source table: its plain run leaves the memory of its translation's watched run
 pub plain-given : (t i : List ℕ) (f : ℕ) → check source t ≡ checked.Accepted → inputsFault i ≡ false
-    → CellsGiven (memoryAfter (plainOutcome t i f))
+    → CellsGiven (ending (plainOutcome t i f) .state)
 plain-given t i f c e =
     let sound = accepted-program source t c .last .sound in
     let is = inputsOf i in
     let same = runs-same (sourceProgram t) startScope is f sound (inputs-some i e) (inputs-few i e) in
     subst CellsGiven (sym (same .same-memory))
-    (from-start (translate (sourceProgram t)) is (startObservation (length is)) f
+    (from-start (translate (sourceProgram t)) is f
     (sound-translation (sourceProgram t) startScope sound) (inputs-few i e) .0)

@@ -92,6 +92,6 @@ onward-then {m} {m₁} {m₂} p q = record {
 }
 
 -- the memory after a change, or where it stopped
-abbrev pub changedMemory : Change → Memory
+abbrev pub changedMemory : Change Memory → Memory
 changedMemory (changed m) = m
 changedMemory (stopped c m) = m

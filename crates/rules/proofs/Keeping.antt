@@ -40,9 +40,6 @@ AnyPlace p = Unit {0}
 abbrev pub AnyMemory : Memory → Type 0
 AnyMemory m = Unit {0}
 
-abbrev pub AnyMade : ℕ → Memory → Type 0
-AnyMade k m = Unit {0}
-
 abbrev pub AnyObservation : Observation → Type 0
 AnyObservation o = Unit {0}
 
@@ -103,14 +100,29 @@ module _ {A : Type 0} (P : A → Type 0) (C : ℕ → Type 0) (stop : ℕ → A)
   at-cell located.Dead at c g = stops 42 c
   at-cell located.Outside at c g = stops 42 c
 
--- J of the memory after a change, E of the number of a stop; K of a new block's name and memory
-abbrev pub ChangeKeeps : (Memory → Type 0) → (ℕ → Type 0) → Change → Type 0
+-- J of the state after a change, E of the number of a stop; K of a new block's name and state
+abbrev pub ChangeKeeps : {S : Type 0} → (S → Type 0) → (ℕ → Type 0) → Change S → Type 0
 ChangeKeeps J E (changed m) = J m
 ChangeKeeps J E (stopped c m) = E c × J m
 
-abbrev pub MadeKeeps : (ℕ → Memory → Type 0) → (ℕ → Type 0) → Made → Type 0
+abbrev pub MadeKeeps : {S : Type 0} → (ℕ → S → Type 0) → (ℕ → Type 0) → Made S → Type 0
 MadeKeeps K E (made k m) = K k m
 MadeKeeps K E (unmade c) = E c
+
+-- nothing is asked of a state
+abbrev pub AnyState : {S : Type 0} → S → Type 0
+AnyState x = Unit {0}
+
+abbrev pub AnyMade : {S : Type 0} → ℕ → S → Type 0
+AnyMade k x = Unit {0}
+
+pub any-change : {S : Type 0} (c : Change S) → ChangeKeeps AnyState AnyNumber c
+any-change (changed x) = tt
+any-change (stopped c x) = (tt, tt)
+
+pub any-made : {S : Type 0} (r : Made S) → MadeKeeps AnyMade AnyNumber r
+any-made (made k x) = tt
+any-made (unmade c) = tt
 
 -- D is of the numbers that evaluating stops with, G of values and H of places
 module _ (J : Memory → Type 0) (D E : ℕ → Type 0) (known : (c : ℕ) → Among plainEndings c → E c)
@@ -136,7 +148,7 @@ module _ (J : Memory → Type 0) (D E : ℕ → Type 0) (known : (c : ℕ) → A
   makeAt-keeps K m u n (search.At k) search.Nothing g = known 30 refl
   makeAt-keeps K m u n (search.At k) (search.At first) g = g k first refl refl
 
-  storeNew-keeps : {K : ℕ → Memory → Type 0} (m : Memory) (p : Pointer) (x : Made) → J m → MadeKeeps K E x
+  storeNew-keeps : {K : ℕ → Memory → Type 0} (m : Memory) (p : Pointer) (x : Made Memory) → J m → MadeKeeps K E x
       → ((k : ℕ) (m₁ : Memory) → K k m₁ → J m₁)
       → ((k : ℕ) (m₁ : Memory) → K k m₁ → (i : ℕ)
       → J (setCell m₁ i (cell.Holds (p .name) (values.Pointer (record { name = k; offset = pos 0 })))))

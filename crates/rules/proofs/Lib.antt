@@ -50,6 +50,8 @@ pub mod EvaluationEndings
 pub mod DefinedValues
 pub mod EvaluatedValues
 pub mod Outcomes
+pub mod SourceRuns
+pub mod TargetRuns
 pub mod Calls
 pub mod ChangeEndings
 pub mod Endings

@@ -15,7 +15,8 @@ use Rattle.rules.specs.Memory.{one}
 use Rattle.rules.specs.Observation.{Observation, covers, covered}
 use Rattle.rules.specs.Layout.{blockRecord, recordedBytes, markBytes, observationImage, blockPlace, markPlace}
 use Rattle.rules.specs.Layout.{recordedFrom, recordedAt, markAt, observationOf}
-use Rattle.rules.specs.Answers.{observationAfter, watchedOutcome, runWatched}
+use Rattle.rules.specs.Flow.{ending}
+use Rattle.rules.specs.Answers.{watchedOutcome, runWatched}
 use Rattle.rules.proofs.Lists.{All, none, also}
 use Rattle.rules.proofs.Rows.{row-part}
 use Rattle.rules.proofs.Fits.{FitsRecorded, FitsObservation}
@@ -112,4 +113,4 @@ pub watched-bytes-in-order : (t i : List ℕ) (f : ℕ) (memory observation : Li
     → OrderlyBytes (runWatched t i f memory observation .observation)
 watched-bytes-in-order t i f memory observation c e h k =
     subst (λ r. OrderlyBytes (r .observation)) (sym (watched-runs t i f memory observation c e h k))
-    (image-in-order (observationAfter (watchedOutcome t i f)) (observed-in-order t i f))
+    (image-in-order (ending (watchedOutcome t i f) .state .observation) (observed-in-order t i f))

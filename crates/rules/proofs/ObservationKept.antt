@@ -1,45 +1,27 @@
 -- What the calls keep of the observation memory, every watched run of any target statement keeps, a hand-made one too,
 -- whatever its ending; and it holds at a run's start.
-use Prim.Native.Nat.{ℕ, zero, suc}
+use Prim.Native.Nat.{ℕ, zero, suc, _≤_}
 use lib.IntN.{pos}
-use Rattle.rules.specs.TargetTrees.{TargetStatement, skip, assign, new, free, sequence, branch, while, letIn}
-use Rattle.rules.specs.TargetTrees.{takeAddress, takeValue, takeOperation, takeQuery, takeNot, branchOn}
-use Rattle.rules.specs.TargetTrees.{assertOn}
-use Rattle.rules.specs.TargetTrees as target
-use Rattle.rules.specs.Memory.{Memory, Change, changed, stopped, Made, made, unmade, fixed, makeBlock, assigned}
-use Rattle.rules.specs.Memory.{allocated, freed, onValue}
-use Rattle.rules.specs.Evaluation.{Variables, evaluate, findPlace, addressOf, operated, opposite, condition}
-use Rattle.rules.specs.Evaluation.{extend}
-use Rattle.rules.specs.Observation.{Observation, Noted, noted, refused, storeBlock, deleteBlock, initialise}
-use Rattle.rules.specs.Observation.{queryObservation, emptyObservation, pointerTo, kept, recordBlock, markAll}
-use Rattle.rules.specs.Observation.{startObservation}
-use Rattle.rules.specs.Watched.{Temporaries, temporaryOf, heldIn, WatchedOutcome, finished, ended, after}
-use Rattle.rules.specs.Watched.{taken, observed, calledOn, calledOnTwo, watch}
-use Rattle.rules.specs.Answers.{observationAfter}
-use Rattle.rules.proofs.Keeping.{AnyNumber, AnyValue, AnyMemory, AnyMade, any-test, any-evaluated, ChangeKeeps}
-use Rattle.rules.proofs.Keeping.{MadeKeeps}
-use Rattle.rules.proofs.Outcomes.{State, WatchedOutcomes, NotedKeeps, watched-next, watched-after}
-use Rattle.rules.proofs.Outcomes.{watched-decide, watched-turns, watched-inLet, taken-keeps, observed-keeps}
+use Rattle.rules.specs.TargetTrees.{TargetStatement}
+use Rattle.rules.specs.Memory.{Memory, Change, changeIn, fixed, makeBlock, assigned, allocated, freed}
+use Rattle.rules.specs.Evaluation.{Variables, addressOf, condition}
+use Rattle.rules.specs.Observation.{Observation, Noted, noted, refused, storeBlock, initialise, kept, pointerTo}
+use Rattle.rules.specs.Observation.{recordBlock, markAll, emptyObservation, startObservation}
+use Rattle.rules.specs.Flow.{ending}
+use Rattle.rules.specs.Watched.{WatchedState, withMemory, valueIn, placeIn, holding, taken, observed, watch}
+use Rattle.rules.proofs.Keeping.{AnyNumber, AnyValue, AnyState, AnyMade, any-test, any-evaluated, any-change}
+use Rattle.rules.proofs.Keeping.{any-made, ChangeKeeps}
+use Rattle.rules.proofs.Outcomes.{AnyBlock, staying, outcomes-state, change-in, made-in}
+use Rattle.rules.proofs.TargetRuns.{NotedKeeps, WatchKeeps, watch-reaches, taken-keeps, observed-keeps}
+use Rattle.rules.proofs.TargetRuns.{operating, querying, negating, storing, deleting, initialising}
 use Rattle.rules.proofs.Calls.{CallsKeep, storeBlock-keeps, initialise-keeps, store-called, delete-called}
 use Rattle.rules.proofs.Calls.{initialise-called}
 use Rattle.rules.specs.declared.Value.the-variants as value
 use Rattle.rules.specs.declared.Evaluated.{Evaluated}
-use Rattle.rules.specs.declared.Evaluated.the-variants as evaluated
 
--- nothing is asked of the execution memory, the temporaries and the fuel
-abbrev Observing : (Observation → Type 0) → State
-Observing O m o τ f = O o
-
-abbrev Kept : (Observation → Type 0) → WatchedOutcome → Type 0
-Kept O x = WatchedOutcomes (Observing O) AnyNumber x
-
-any-change : (x : Change) → ChangeKeeps AnyMemory AnyNumber x
-any-change (changed m) = tt
-any-change (stopped c m) = (tt, tt)
-
-any-made : (x : Made) → MadeKeeps AnyMade AnyNumber x
-any-made (made k m) = tt
-any-made (unmade c) = tt
+-- nothing is asked of the execution memory and the temporaries
+abbrev Observing : (Observation → Type 0) → WatchedState → Type 0
+Observing O x = O (x .observation)
 
 module _ (O : Observation → Type 0) (v : CallsKeep O) where
   -- the start, whatever the number of inputs: a call that is refused leaves the memory as it is
@@ -69,71 +51,53 @@ module _ (O : Observation → Type 0) (v : CallsKeep O) where
       (markAll-keeps (recordBlock emptyObservation 1 1) 1 1 (recordBlock-keeps emptyObservation 1 1 h)))
 
   -- a statement that calls nothing, and one that calls
-  keeps-change : (s : ℕ) (x : Change) (o : Observation) (τ : Temporaries) (f : ℕ) → O o
-      → Kept O (after s o τ f x)
-  keeps-change s x o τ f h = watched-after (Observing O) AnyNumber AnyMemory s o τ f x (any-change x) (λ m j. h)
+  changes : (x : WatchedState) (c : Change Memory) → O (x .observation)
+      → ChangeKeeps (Observing O) AnyNumber (changeIn (withMemory x) c)
+  changes x c h = change-in AnyState (Observing O) AnyNumber (withMemory x) c (λ m j. h) (any-change c)
 
-  keeps-taken : (s n : ℕ) (e : Evaluated) (m : Memory) (o : Observation) (τ : Temporaries) (f : ℕ) → O o
-      → Kept O (taken s n e m o τ f)
-  keeps-taken s n e m o τ f h =
-      taken-keeps (Observing O) AnyNumber AnyValue s n e m o τ f h (any-evaluated e) (λ x g. h)
+  takes : (x : WatchedState) (n : ℕ) (e : Evaluated) → O (x .observation)
+      → ChangeKeeps (Observing O) AnyNumber (taken x n e)
+  takes x n e h = taken-keeps (Observing O) AnyNumber AnyValue x n e h (any-evaluated e) (λ w g. h)
 
-  keeps-observed : (s : ℕ) (x : Noted) (m : Memory) (o : Observation) (τ : Temporaries) (f : ℕ) → O o
-      → NotedKeeps O AnyNumber x → Kept O (observed s x m o τ f)
-  keeps-observed s x m o τ f h k = observed-keeps (Observing O) AnyNumber O s x m o τ f h k (λ o₁ j. j)
+  notes : (x : WatchedState) (r : Noted) → O (x .observation) → NotedKeeps O AnyNumber r
+      → ChangeKeeps (Observing O) AnyNumber (observed x r)
+  notes x r h k = observed-keeps (Observing O) AnyNumber O x r h k (λ o j. j)
 
-  keeps : (a : TargetStatement) (ρ : Variables) (m : Memory) (o : Observation) (τ : Temporaries) (f : ℕ) → O o
-      → Kept O (watch a ρ m o τ f)
-  unfolding watch
-  keeps (skip s) ρ m o τ f h = h
-  keeps (assign s p e) ρ m o τ f h =
-      keeps-change s (assigned m (findPlace p (temporaryOf τ) ρ m) (evaluate e (temporaryOf τ) ρ m)) o τ f h
-  keeps (new s p e) ρ m o τ f h =
-      keeps-change s (allocated m (findPlace p (temporaryOf τ) ρ m) (evaluate e (temporaryOf τ) ρ m)) o τ f h
-  keeps (free s e) ρ m o τ f h = keeps-change s (freed m (evaluate e (temporaryOf τ) ρ m)) o τ f h
-  keeps (sequence s a b) ρ m o τ f h =
-      watched-next (Observing O) AnyNumber (watch a ρ m o τ f) _ (keeps a ρ m o τ f h)
-      (λ m₁ o₁ τ₁ f₁ j. keeps b ρ m₁ o₁ τ₁ f₁ j)
-  keeps (branch s e a b) ρ m o τ f h =
-      watched-decide (Observing O) AnyNumber s (condition (evaluate e (temporaryOf τ) ρ m)) _ _ m o τ f
-      (any-test (condition (evaluate e (temporaryOf τ) ρ m))) h (keeps a ρ m o τ f h) (keeps b ρ m o τ f h)
-  keeps (while s e b) ρ m o τ f h =
-      watched-turns (Observing O) AnyNumber s _ _ tt (λ m₁ o₁ τ₁ f₁ j. j)
-      (λ m₁ o₁ τ₁ f₁ j. any-test (condition (evaluate e (temporaryOf τ₁) ρ m₁)))
-      (λ m₁ o₁ τ₁ f₁ j. keeps b ρ m₁ o₁ τ₁ f₁ j) f m o τ f h
-  keeps (letIn s x b) ρ m o τ f h =
-      watched-inLet (Observing O) AnyNumber AnyMade s (makeBlock m fixed 1) _ m o τ f h (any-made (makeBlock m fixed 1))
-      (λ k m₁ u. keeps b (extend ρ x k) m₁ o τ f h) (λ k m₁ u m₂ o₂ τ₂ f₂ j. j)
-  keeps (takeAddress s n p) ρ m o τ f h = keeps-taken s n (addressOf (findPlace p (temporaryOf τ) ρ m)) m o τ f h
-  keeps (takeValue s n e) ρ m o τ f h = keeps-taken s n (evaluate e (temporaryOf τ) ρ m) m o τ f h
-  keeps (takeOperation s n q) ρ m o τ f h =
-      keeps-taken s n (operated q (heldIn τ (suc n)) (heldIn τ (suc (suc n)))) m o τ f h
-  keeps (takeQuery s n q) ρ m o τ f h =
-      keeps-taken s n (onValue (heldIn τ (suc n)) evaluated.Stopped (queryObservation q o)) m o τ f h
-  keeps (takeNot s n) ρ m o τ f h = keeps-taken s n (onValue (heldIn τ (suc n)) evaluated.Stopped opposite) m o τ f h
-  keeps (branchOn s n a b) ρ m o τ f h =
-      watched-decide (Observing O) AnyNumber s (condition (heldIn τ n)) _ _ m o τ f
-      (any-test (condition (heldIn τ n))) h (keeps a ρ m o τ f h) (keeps b ρ m o τ f h)
-  keeps (assertOn s n) ρ m o τ f h =
-      watched-decide (Observing O) AnyNumber s (condition (heldIn τ n)) _ _ m o τ f
-      (any-test (condition (heldIn τ n))) h h (tt, h)
-  keeps (target.storeBlock s n) ρ m o τ f h =
-      keeps-observed s (calledOnTwo (heldIn τ n) (heldIn τ (suc n)) (storeBlock o)) m o τ f h
-      (store-called O AnyNumber tt tt o (heldIn τ n) (heldIn τ (suc n)) (any-evaluated (heldIn τ n))
-      (any-evaluated (heldIn τ (suc n))) (λ k l first. v .storing o k first (suc l) h))
-  keeps (target.deleteBlock s n) ρ m o τ f h =
-      keeps-observed s (calledOn (heldIn τ n) (deleteBlock o)) m o τ f h
-      (delete-called O AnyNumber tt tt o (heldIn τ n) (any-evaluated (heldIn τ n))
-      (λ k first l. v .deleting o k first l h))
-  keeps (target.initialise s n) ρ m o τ f h =
-      keeps-observed s (calledOn (heldIn τ n) (initialise o)) m o τ f h
-      (initialise-called O AnyNumber tt tt o (heldIn τ n) (any-evaluated (heldIn τ n))
-      (λ p i. v .marking o p i h))
+  watch-keeps : WatchKeeps (Observing O) (λ x y. Observing O y) AnyBlock AnyNumber
+  watch-keeps = record {
+    onwards = staying (Observing O);
+    assigns = λ p e ρ x h. changes x (assigned (x .memory) (placeIn p ρ x) (valueIn e ρ x)) h;
+    allocates = λ p e ρ x h. changes x (allocated (x .memory) (placeIn p ρ x) (valueIn e ρ x)) h;
+    frees = λ e ρ x h. changes x (freed (x .memory) (valueIn e ρ x)) h;
+    takes-address = λ n p ρ x h. takes x n (addressOf (placeIn p ρ x)) h;
+    takes-value = λ n e ρ x h. takes x n (valueIn e ρ x) h;
+    takes-operation = λ n q x h. takes x n (operating q n x) h;
+    takes-query = λ n q x h. takes x n (querying q n x) h;
+    takes-not = λ n x h. takes x n (negating n x) h;
+    stores = λ n x h.
+        notes x (storing n x) h
+        (store-called O AnyNumber tt tt (x .observation) (holding x n) (holding x (suc n))
+        (any-evaluated (holding x n)) (any-evaluated (holding x (suc n)))
+        (λ k l first. v .storing (x .observation) k first (suc l) h));
+    deletes = λ n x h.
+        notes x (deleting n x) h
+        (delete-called O AnyNumber tt tt (x .observation) (holding x n) (any-evaluated (holding x n))
+        (λ k first l. v .deleting (x .observation) k first l h));
+    initialises = λ n x h.
+        notes x (initialising n x) h
+        (initialise-called O AnyNumber tt tt (x .observation) (holding x n) (any-evaluated (holding x n))
+        (λ p i. v .marking (x .observation) p i h));
+    decides = λ e ρ x h. any-test (condition (valueIn e ρ x));
+    decides-on = λ n x h. any-test (condition (holding x n));
+    makes = λ x h.
+        made-in AnyMade (λ k y. Unit {0} × Observing O y) AnyNumber (withMemory x) (makeBlock (x .memory) fixed 1)
+        (λ k m u. (tt, h)) (any-made (makeBlock (x .memory) fixed 1));
+    ends = λ x y k g r. r;
+    out-of-fuel = tt;
+    false-assertion = tt;
+  }
 
-  pub watch-keeps-observation : (a : TargetStatement) (ρ : Variables) (m : Memory) (o : Observation) (τ : Temporaries)
-      (f : ℕ) → O o → O (observationAfter (watch a ρ m o τ f))
-  watch-keeps-observation a ρ m o τ f h = of (watch a ρ m o τ f) (keeps a ρ m o τ f h)
-    where
-      of : (x : WatchedOutcome) → Kept O x → O (observationAfter x)
-      of (finished m₁ o₁ τ₁ f₁) j = j
-      of (ended c s m₁ o₁ τ₁ f₁) j = j .1
+  pub watch-keeps-observation : (a : TargetStatement) (ρ : Variables) (x : WatchedState) (f : ℕ) → O (x .observation)
+      → O (ending (watch a ρ x f) .state .observation)
+  watch-keeps-observation a ρ x f h =
+      outcomes-state (λ y g. Observing O y × (g ≤ f)) AnyNumber (watch a ρ x f) (watch-reaches watch-keeps a ρ x f h) .0

@@ -25,7 +25,7 @@ use Rattle.rules.proofs.MemoryLaws.{some, none, covered-is}
 use Rattle.rules.proofs.Fits.{InsideRecorded}
 use Rattle.rules.proofs.BlockChanges.{live-parts, dead-is-not-live}
 use Rattle.rules.proofs.Keeping.{AnyNumber}
-use Rattle.rules.proofs.Outcomes.{NotedKeeps}
+use Rattle.rules.proofs.TargetRuns.{NotedKeeps}
 use Rattle.rules.proofs.Calls.{CallsKeep}
 use Rattle.rules.specs.declared.Pointer.{Pointer}
 use Rattle.rules.specs.declared.Value.the-variants as value

@@ -12,10 +12,10 @@ use Rattle.rules.specs.TargetTrees.{TargetStatement}
 use Rattle.rules.specs.Memory.{Memory, recordedOf, named, blockOf, cellOf, isUnused, Use, made, makeBlock}
 use Rattle.rules.specs.Memory.{countFree}
 use Rattle.rules.specs.Evaluation.{Variables}
-use Rattle.rules.specs.Observation.{Observation, covers}
+use Rattle.rules.specs.Observation.{covers}
+use Rattle.rules.specs.Flow.{ending}
 use Rattle.rules.specs.Plain.{run}
-use Rattle.rules.specs.Watched.{Temporaries, watch}
-use Rattle.rules.specs.Answers.{memoryAfter, watchedMemoryAfter}
+use Rattle.rules.specs.Watched.{WatchedState, watch}
 use Rattle.rules.proofs.MemoryLaws.{named-map, Covering, inside, below, above, covering, covers-inside}
 use Rattle.rules.proofs.MemoryLaws.{not-twice, coverage}
 use Rattle.rules.proofs.Invariant.{occupied, at-most-one, recordsOf, Owned, Invariant, becomes-given, Onward}
@@ -124,12 +124,12 @@ orderly {m} {m₁} h = record {
 }
 
 pub plain-orderly : (a : Statement) (ρ : Variables) (m : Memory) (f : ℕ) → Invariant m
-    → Orderly m (memoryAfter (run a ρ m f))
+    → Orderly m (ending (run a ρ m f) .state)
 plain-orderly a ρ m f y = orderly (plain-onward a ρ m f y)
 
-pub watched-orderly : (a : TargetStatement) (ρ : Variables) (m : Memory) (o : Observation) (τ : Temporaries) (f : ℕ)
-    → Invariant m → Orderly m (watchedMemoryAfter (watch a ρ m o τ f))
-watched-orderly a ρ m o τ f y = orderly (watched-onward a ρ m o τ f y)
+pub watched-orderly : (a : TargetStatement) (ρ : Variables) (x : WatchedState) (f : ℕ) → Invariant (x .memory)
+    → Orderly (x .memory) (ending (watch a ρ x f) .state .memory)
+watched-orderly a ρ x f y = orderly (watched-onward a ρ x f y)
 
 -- a new block has a name that was unused, and is no more
 pub made-unused : (m m₁ : Memory) (u : Use) (n k : ℕ) → Invariant m → makeBlock m u n ≡ made k m₁

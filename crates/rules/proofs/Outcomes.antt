@@ -1,130 +1,154 @@
--- What holds of how a plain and a watched run come out, by the parts of the statement.
-use Prim.Native.Nat.{ℕ, zero, suc}
-use Rattle.rules.specs.Memory.{Memory, Change, changed, stopped, Made, made, unmade, endBlock}
-use Rattle.rules.specs.Observation.{Observation, Noted, noted, refused}
-use Rattle.rules.specs.Plain.{Outcome}
-use Rattle.rules.specs.Plain as plain
-use Rattle.rules.specs.Watched.{Temporaries, WatchedOutcome, Watching}
-use Rattle.rules.specs.Watched as watched
-use Rattle.rules.proofs.Keeping.{Gives, TestStops, ChangeKeeps, MadeKeeps}
-use lib.ListN.{set}
-use Rattle.rules.specs.declared.Value.{Value}
-use Rattle.rules.specs.declared.Evaluated.{Evaluated}
-use Rattle.rules.specs.declared.Evaluated.the-variants as evaluated
+-- What holds of how a run comes out, by the parts of the statement, whatever its state S is.
+use Prim.Native.Nat.{ℕ, zero, suc, _≤_}
+use native.Mathlib.Omega.{arith}
+use mathlib.Core.Path.{_≡_, refl, ap}
+use Rattle.rules.specs.Memory.{Memory, Change, changed, stopped, changeIn, Made, made, unmade, madeIn}
+use Rattle.rules.specs.Evaluation.{Variables}
+use Rattle.rules.specs.Flow.{Outcome, finished, ended, Ending, ending, into, next, after, decide, turns, inLet}
+use Rattle.rules.specs.Plain.{asserted}
+use Rattle.rules.proofs.Keeping.{TestStops, AnyState, ChangeKeeps, MadeKeeps}
 use Rattle.rules.specs.declared.Test.{Test}
 use Rattle.rules.specs.declared.Test.the-variants as test
-use Rattle.rules.specs.declared.Temporary.the-variants as temporary
 
--- I of memory and fuel where a run is finished, and where it is ended, with E of the ending's number
-abbrev pub Outcomes : (Memory → ℕ → Type 0) → (ℕ → Type 0) → Outcome → Type 0
-Outcomes I E (plain.finished m f) = I m f
-Outcomes I E (plain.ended c s m f) = E c × I m f
+-- I of state and fuel where a run is finished, and where it is ended, with E of the ending's number
+abbrev pub Outcomes : {S : Type 0} → (S → ℕ → Type 0) → (ℕ → Type 0) → Outcome S → Type 0
+Outcomes I E (finished x f) = I x f
+Outcomes I E (ended c s ρ w x f) = E c × I x f
 
-module _ (I : Memory → ℕ → Type 0) (E : ℕ → Type 0) where
-  pub next-keeps : (x : Outcome) (k : Memory → ℕ → Outcome) → Outcomes I E x
-      → ((m : Memory) (f : ℕ) → I m f → Outcomes I E (k m f)) → Outcomes I E (plain.next x k)
-  next-keeps (plain.finished m f) k h g = g m f h
-  next-keeps (plain.ended c s m f) k h g = h
+pub outcomes-state : {S : Type 0} (I : S → ℕ → Type 0) (E : ℕ → Type 0) (o : Outcome S) → Outcomes I E o
+    → I (ending o .state) (ending o .fuel)
+outcomes-state I E (finished x f) h = h
+outcomes-state I E (ended c s ρ w x f) h = h .1
 
-  pub after-keeps : (J : Memory → Type 0) (s f : ℕ) (x : Change) → ChangeKeeps J E x → ((m : Memory) → J m → I m f)
-      → Outcomes I E (plain.after s f x)
-  after-keeps J s f (changed m) h g = g m h
-  after-keeps J s f (stopped c m) h g = (h .0, g m (h .1))
+-- which child a statement is no answer tells
+pub into-ending : {S : Type 0} (n : ℕ) (o : Outcome S) → ending (into n o) ≡ ending o
+into-ending n (finished x f) = refl
+into-ending n (ended c s ρ w x f) = refl
 
-  pub decide-keeps : (s : ℕ) (t : Test) (x y : Memory → ℕ → Outcome) (m : Memory) (f : ℕ) → TestStops E t → I m f
-      → Outcomes I E (x m f) → Outcomes I E (y m f) → Outcomes I E (plain.decide s t x y m f)
-  decide-keeps s test.Yes x y m f h i p q = p
-  decide-keeps s test.No x y m f h i p q = q
-  decide-keeps s (test.Stopped c) x y m f h i p q = (h, i)
+pub into-state : {S : Type 0} (n : ℕ) (o : Outcome S) → ending (into n o) .state ≡ ending o .state
+into-state n o = ap (λ e. e .state) (into-ending n o)
 
-  pub turns-keeps : (s : ℕ) (holds : Memory → Test) (body : Memory → ℕ → Outcome) → E 32
-      → ((m : Memory) (f : ℕ) → I m (suc f) → I m f)
-      → ((m : Memory) (f : ℕ) → I m f → TestStops E (holds m))
-      → ((m : Memory) (f : ℕ) → I m f → Outcomes I E (body m f))
-      → (g : ℕ) (m : Memory) (f : ℕ) → I m f → Outcomes I E (plain.turns g s holds body m f)
-  unfolding plain.turns
-  turns-keeps s holds body e down h b zero m f i = (e, i)
-  turns-keeps s holds body e down h b (suc g) m zero i = (e, i)
-  turns-keeps s holds body e down h b (suc g) m (suc f) i =
-      decide-keeps s (holds m) _ plain.finished m f (h m (suc f) i) (down m f i)
-      (next-keeps (body m f) _ (b m f (down m f i)) (λ m₂ f₂ i₂. turns-keeps s holds body e down h b g m₂ f₂ i₂))
-      (down m f i)
+pub outcomes-more : {S : Type 0} (I J : S → ℕ → Type 0) (E : ℕ → Type 0)
+    → ((x : S) (f : ℕ) → I x f → J x f) → (o : Outcome S) → Outcomes I E o → Outcomes J E o
+outcomes-more I J E g (finished x f) h = g x f h
+outcomes-more I J E g (ended c s ρ w x f) h = (h .0, g x f (h .1))
 
-  pub inLet-keeps : (K : ℕ → Memory → Type 0) (s : ℕ) (m : Memory) (f : ℕ) (x : Made) (body : ℕ → Memory → ℕ → Outcome)
-      → I m f → MadeKeeps K E x → ((k : ℕ) (m₁ : Memory) → K k m₁ → Outcomes I E (body k m₁ f))
-      → ((k : ℕ) (m₁ : Memory) → K k m₁ → (m₂ : Memory) (f₂ : ℕ) → I m₂ f₂ → I (endBlock m₂ k) f₂)
-      → Outcomes I E (plain.inLet s m f x body)
-  inLet-keeps K s m f (unmade c) body i h b g = (h, i)
-  inLet-keeps K s m f (made k m₁) body i h b g = next-keeps (body k m₁ f) _ (b k m₁ h) (g k m₁ h)
+-- P holds of a state where a run starts, and R of two between which it runs
+pub record Onwards {S : Type 0} (P : S → Type 0) (R : S → S → Type 0) : Type 0 where
+  pub valid : {x y : S} → R x y → P y
+  pub itself : {x : S} → P x → R x x
+  pub further : {x y z : S} → R x y → R y z → R x z
 
-  pub asserted-keeps : (s : ℕ) (m : Memory) (f : ℕ) (t : Test) → E 33 → I m f → TestStops E t
-      → Outcomes I E (plain.asserted s m f t)
-  asserted-keeps s m f t e i h = decide-keeps s t _ _ m f h i i (e, i)
+-- a run from x with fuel f reaches what R allows, with no more fuel, and ends with a number of E
+abbrev pub Reaches : {S : Type 0} → (S → S → Type 0) → (ℕ → Type 0) → S → ℕ → Outcome S → Type 0
+Reaches R E x f o = Outcomes (λ y g. R x y × (g ≤ f)) E o
 
--- the same of a watched run
-abbrev pub State : Type 1
-State = Memory → Observation → Temporaries → ℕ → Type 0
+module _ {S : Type 0} {P : S → Type 0} {R : S → S → Type 0} (E : ℕ → Type 0) (w : Onwards P R) where
+  pub reach-itself : (x : S) (f : ℕ) → P x → Reaches R E x f (finished x f)
+  reach-itself x f v = (w .itself v, omega arith)
 
-abbrev pub WatchedOutcomes : State → (ℕ → Type 0) → WatchedOutcome → Type 0
-WatchedOutcomes I E (watched.finished m o τ f) = I m o τ f
-WatchedOutcomes I E (watched.ended c s m o τ f) = E c × I m o τ f
+  pub reach-into : (n : ℕ) (x : S) (f : ℕ) (o : Outcome S) → Reaches R E x f o → Reaches R E x f (into n o)
+  reach-into n x f (finished y g) h = h
+  reach-into n x f (ended c s ρ p y g) h = h
 
-abbrev pub NotedKeeps : (Observation → Type 0) → (ℕ → Type 0) → Noted → Type 0
-NotedKeeps O E (noted o) = O o
-NotedKeeps O E (refused c) = E c
+  -- from where another run came
+  pub reach-from : (x y : S) (f g : ℕ) (o : Outcome S) → R x y → g ≤ f → Reaches R E y g o → Reaches R E x f o
+  reach-from x y f g (finished z k) r l h = (w .further r (h .0), omega (arith, h .1))
+  reach-from x y f g (ended c s ρ p z k) r l h = (h .0, (w .further r (h .1 .0), omega (arith, h .1 .1)))
 
-module _ (I : State) (E : ℕ → Type 0) where
-  pub watched-next : (x : WatchedOutcome) (k : Watching) → WatchedOutcomes I E x
-      → ((m : Memory) (o : Observation) (τ : Temporaries) (f : ℕ) → I m o τ f → WatchedOutcomes I E (k m o τ f))
-      → WatchedOutcomes I E (watched.next x k)
-  watched-next (watched.finished m o τ f) k h g = g m o τ f h
-  watched-next (watched.ended c s m o τ f) k h g = h
+  pub reach-next : (x : S) (f : ℕ) (o : Outcome S) (k : S → ℕ → Outcome S) → Reaches R E x f o
+      → ((y : S) (g : ℕ) → R x y → g ≤ f → Reaches R E y g (k y g)) → Reaches R E x f (next o k)
+  reach-next x f (finished y g) k h b = reach-from x y f g (k y g) (h .0) (h .1) (b y g (h .0) (h .1))
+  reach-next x f (ended c s ρ p y g) k h b = h
 
-  pub watched-after : (J : Memory → Type 0) (s : ℕ) (o : Observation) (τ : Temporaries) (f : ℕ) (x : Change)
-      → ChangeKeeps J E x → ((m : Memory) → J m → I m o τ f) → WatchedOutcomes I E (watched.after s o τ f x)
-  watched-after J s o τ f (changed m) h g = g m h
-  watched-after J s o τ f (stopped c m) h g = (h .0, g m (h .1))
+  pub reach-after : (x : S) (s : ℕ) (ρ : Variables) (f : ℕ) (c : Change S) → ChangeKeeps (R x) E c
+      → Reaches R E x f (after s ρ f c)
+  reach-after x s ρ f (changed y) h = (h, omega arith)
+  reach-after x s ρ f (stopped c y) h = (h .0, (h .1, omega arith))
 
-  pub watched-decide : (s : ℕ) (t : Test) (x y : Watching) (m : Memory) (o : Observation) (τ : Temporaries) (f : ℕ)
-      → TestStops E t → I m o τ f → WatchedOutcomes I E (x m o τ f) → WatchedOutcomes I E (y m o τ f)
-      → WatchedOutcomes I E (watched.decide s t x y m o τ f)
-  watched-decide s test.Yes x y m o τ f h i p q = p
-  watched-decide s test.No x y m o τ f h i p q = q
-  watched-decide s (test.Stopped c) x y m o τ f h i p q = (h, i)
+  pub reach-decide : (s : ℕ) (ρ : Variables) (t : Test) (x : S) (f : ℕ) (a b : Outcome S) → P x → TestStops E t
+      → Reaches R E x f a → Reaches R E x f b → Reaches R E x f (decide s ρ t x f a b)
+  reach-decide s ρ test.Yes x f a b v h p q = p
+  reach-decide s ρ test.No x f a b v h p q = q
+  reach-decide s ρ (test.Stopped c) x f a b v h p q = (h, (w .itself v, omega arith))
 
-  pub watched-turns : (s : ℕ) (holds : Temporaries → Memory → Test) (body : Watching) → E 32
-      → ((m : Memory) (o : Observation) (τ : Temporaries) (f : ℕ) → I m o τ (suc f) → I m o τ f)
-      → ((m : Memory) (o : Observation) (τ : Temporaries) (f : ℕ) → I m o τ f → TestStops E (holds τ m))
-      → ((m : Memory) (o : Observation) (τ : Temporaries) (f : ℕ) → I m o τ f → WatchedOutcomes I E (body m o τ f))
-      → (g : ℕ) (m : Memory) (o : Observation) (τ : Temporaries) (f : ℕ) → I m o τ f
-      → WatchedOutcomes I E (watched.turns g s holds body m o τ f)
-  unfolding watched.turns
-  watched-turns s holds body e down h b zero m o τ f i = (e, i)
-  watched-turns s holds body e down h b (suc g) m o τ zero i = (e, i)
-  watched-turns s holds body e down h b (suc g) m o τ (suc f) i =
-      watched-decide s (holds τ m) _ watched.finished m o τ f (h m o τ (suc f) i) (down m o τ f i)
-      (watched-next (body m o τ f) _ (b m o τ f (down m o τ f i))
-      (λ m₂ o₂ τ₂ f₂ i₂. watched-turns s holds body e down h b g m₂ o₂ τ₂ f₂ i₂))
-      (down m o τ f i)
+  pub reach-turns : (s : ℕ) (ρ : Variables) (holds : S → Test) (body : S → ℕ → Outcome S) → E 32
+      → ((y : S) → P y → TestStops E (holds y)) → ((y : S) (g : ℕ) → P y → Reaches R E y g (body y g))
+      → (g : ℕ) (x : S) (f : ℕ) → P x → Reaches R E x f (turns g s ρ holds body x f)
+  unfolding turns
+  reach-turns s ρ holds body e h b zero x f v = (e, (w .itself v, omega arith))
+  reach-turns s ρ holds body e h b (suc g) x zero v = (e, (w .itself v, omega arith))
+  reach-turns s ρ holds body e h b (suc g) x (suc f) v =
+      reach-from x x (suc f) f (decide s ρ (holds x) x f _ (finished x f)) (w .itself v) (omega arith)
+      (reach-decide s ρ (holds x) x f _ (finished x f) v (h x v)
+      (reach-next x f (body x f) _ (b x f v)
+      (λ y k r l. reach-turns s ρ holds body e h b g y k (w .valid r)))
+      (reach-itself x f v))
 
-  pub watched-inLet : (K : ℕ → Memory → Type 0) (s : ℕ) (x : Made) (body : ℕ → Watching) (m : Memory) (o : Observation)
-      (τ : Temporaries) (f : ℕ) → I m o τ f → MadeKeeps K E x
-      → ((k : ℕ) (m₁ : Memory) → K k m₁ → WatchedOutcomes I E (body k m₁ o τ f))
-      → ((k : ℕ) (m₁ : Memory) → K k m₁ → (m₂ : Memory) (o₂ : Observation) (τ₂ : Temporaries) (f₂ : ℕ)
-      → I m₂ o₂ τ₂ f₂ → I (endBlock m₂ k) o₂ τ₂ f₂)
-      → WatchedOutcomes I E (watched.inLet s x body m o τ f)
-  watched-inLet K s (unmade c) body m o τ f i h b g = (h, i)
-  watched-inLet K s (made k m₁) body m o τ f i h b g =
-      watched-next (body k m₁ o τ f) _ (b k m₁ h) (g k m₁ h)
+  -- K is of a new block's name and the state with it
+  pub reach-let : (K : ℕ → S → Type 0) (s : ℕ) (ρ : Variables) (x : S) (f : ℕ) (r : Made S) (close : S → ℕ → S)
+      (body : ℕ → S → ℕ → Outcome S) → P x → MadeKeeps K E r → ((k : ℕ) (y : S) → K k y → R x y)
+      → ((k : ℕ) (y : S) → K k y → Reaches R E y f (body k y f))
+      → ((k : ℕ) (y z : S) → K k y → R x z → R x (close z k))
+      → Reaches R E x f (inLet s ρ x f r close body)
+  reach-let K s ρ x f (unmade c) close body v h q b g = (h, (w .itself v, omega arith))
+  reach-let K s ρ x f (made k y) close body v h q b g =
+      closing (body k y f) (reach-from x y f f (body k y f) (q k y h) (omega arith) (b k y h))
+    where
+      closing : (o : Outcome S) → Reaches R E x f o → Reaches R E x f (next o (λ z e. finished (close z k) e))
+      closing (finished z e) i = (g k y z h (i .0), i .1)
+      closing (ended c s₁ ρ₁ p z e) i = i
 
-  pub taken-keeps : (G : Value → Type 0) (s n : ℕ) (e : Evaluated) (m : Memory) (o : Observation) (τ : Temporaries)
-      (f : ℕ) → I m o τ f → Gives G E e → ((v : Value) → G v → I m o (set τ n (temporary.Holds v)) f)
-      → WatchedOutcomes I E (watched.taken s n e m o τ f)
-  taken-keeps G s n (evaluated.Value v) m o τ f i h g = g v h
-  taken-keeps G s n (evaluated.Stopped c) m o τ f i h g = (h, i)
+-- any state may follow any other
+abbrev pub Anything : {S : Type 0} → S → S → Type 0
+Anything x y = Unit {0}
 
-  pub observed-keeps : (O : Observation → Type 0) (s : ℕ) (x : Noted) (m : Memory) (o : Observation) (τ : Temporaries)
-      (f : ℕ) → I m o τ f → NotedKeeps O E x → ((o₁ : Observation) → O o₁ → I m o₁ τ f)
-      → WatchedOutcomes I E (watched.observed s x m o τ f)
-  observed-keeps O s (noted o₁) m o τ f i h g = g o₁ h
-  observed-keeps O s (refused c) m o τ f i h g = (h, i)
+abbrev pub AnyBlock : {S : Type 0} → S → ℕ → Type 0
+AnyBlock x k = Unit {0}
+
+pub anywhere : {S : Type 0} → Onwards {S = S} AnyState Anything
+anywhere = record { valid = λ r. tt; itself = λ v. tt; further = λ r q. tt }
+
+-- what is kept of a state, wherever the run came from
+pub staying : {S : Type 0} (P : S → Type 0) → Onwards {S = S} P (λ x y. P y)
+staying P = record { valid = λ r. r; itself = λ h. h; further = λ r q. q }
+
+-- a change that keeps more, in a state that holds the memory, and of an assertion
+pub change-more : {S : Type 0} (J K : S → Type 0) (E : ℕ → Type 0) (c : Change S) → ((x : S) → J x → K x)
+    → ChangeKeeps J E c → ChangeKeeps K E c
+change-more J K E (changed x) g h = g x h
+change-more J K E (stopped c x) g h = (h .0, g x (h .1))
+
+pub change-in : {S : Type 0} (J : Memory → Type 0) (K : S → Type 0) (E : ℕ → Type 0) (put : Memory → S)
+    (c : Change Memory) → ((m : Memory) → J m → K (put m)) → ChangeKeeps J E c → ChangeKeeps K E (changeIn put c)
+change-in J K E put (changed m) g h = g m h
+change-in J K E put (stopped c m) g h = (h .0, g m (h .1))
+
+pub made-in : {S : Type 0} (J : ℕ → Memory → Type 0) (K : ℕ → S → Type 0) (E : ℕ → Type 0) (put : Memory → S)
+    (r : Made Memory) → ((k : ℕ) (m : Memory) → J k m → K k (put m)) → MadeKeeps J E r
+    → MadeKeeps K E (madeIn put r)
+made-in J K E put (made k m) g h = g k m h
+made-in J K E put (unmade c) g h = h
+
+pub asserted-keeps : {S : Type 0} (J : S → Type 0) (E : ℕ → Type 0) (x : S) (t : Test) → E 33 → J x → TestStops E t
+    → ChangeKeeps J E (asserted x t)
+asserted-keeps J E x test.Yes e j h = j
+asserted-keeps J E x test.No e j h = (e, j)
+asserted-keeps J E x (test.Stopped c) e j h = (h, j)
+
+pub made-more : {S : Type 0} (J K : ℕ → S → Type 0) (E : ℕ → Type 0) (r : Made S)
+    → ((k : ℕ) (x : S) → J k x → K k x) → MadeKeeps J E r → MadeKeeps K E r
+made-more J K E (made k x) g h = g k x h
+made-more J K E (unmade c) g h = h
+
+-- so of what follows a child, and of a choice among children
+pub next-ending : {S : Type 0} (n : ℕ) (o : Outcome S) (k l : S → ℕ → Outcome S)
+    → ((x : S) (f : ℕ) → ending (k x f) ≡ ending (l x f)) → ending (next (into n o) k) ≡ ending (next o l)
+next-ending n (finished x f) k l h = h x f
+next-ending n (ended c s ρ w x f) k l h = refl
+
+pub decide-ending : {S : Type 0} (s : ℕ) (ρ : Variables) (t : Test) (x : S) (f : ℕ) (a b c d : Outcome S)
+    → ending a ≡ ending c → ending b ≡ ending d → ending (decide s ρ t x f a b) ≡ ending (decide s ρ t x f c d)
+decide-ending s ρ test.Yes x f a b c d p q = p
+decide-ending s ρ test.No x f a b c d p q = q
+decide-ending s ρ (test.Stopped k) x f a b c d p q = refl

@@ -1,81 +1,181 @@
 -- The plain run is the run past false assertions, up to the first that is false.
-use Prim.Native.Nat.{ℕ, zero, suc}
+use Prim.Native.Nat.{ℕ, zero, suc, _≤_}
+use native.Mathlib.Omega.{arith}
 use mathlib.Core.Path.{_≡_, refl, sym, ap, _∙_}
-use mathlib.Core.Bool.{true, false}
 use mathlib.Core.List.{List, [], _∷_, _++_}
 use Rattle.rules.specs.Trees.{Statement, skip, assign, new, free, sequence, branch, while, letIn, assert}
-use Rattle.rules.specs.Memory.{Memory, fixed, Made, made, unmade, makeBlock, endBlock}
-use Rattle.rules.specs.Evaluation.{Variables, evaluateSource, evaluatePredicate, condition, extend}
-use Rattle.rules.specs.Plain.{Outcome, finished, ended, next, decide, turns, inLet, asserted, run}
-use Rattle.rules.specs.Past.{Reached, reached, PastOutcome, past, before, nextPast, decidePast, turnsPast}
-use Rattle.rules.specs.Past.{inLetPast, assertedPast, runPast, upTo, atFirstFalse}
+use Rattle.rules.specs.Memory.{Memory, Change, changed, stopped, changeIn, fixed, Made, made, unmade, madeIn}
+use Rattle.rules.specs.Memory.{makeBlock, endBlock, assigned, allocated, freed}
+use Rattle.rules.specs.Evaluation.{Variables, evaluateSource, findSource, evaluatePredicate, condition, extend}
+use Rattle.rules.specs.Flow.{TreePath, Outcome, finished, ended, Ending, ending, into, next, after, decide, turns}
+use Rattle.rules.specs.Flow.{inLet, runBy}
+use Rattle.rules.specs.Plain.{asserted, run}
+use Rattle.rules.specs.Past.{holds, fails, undecided, Reached, reached, PastState, withMemory, assertedPast}
+use Rattle.rules.specs.Past.{pastMeaning, runPast, upTo, atFirstFalse}
+use Rattle.rules.proofs.Keeping.{AnyNumber, AnyState, any-change, any-made, any-test, ChangeKeeps}
+use Rattle.rules.proofs.Outcomes.{AnyBlock, Onwards, Reaches, reach-turns, reach-into, outcomes-state}
+use Rattle.rules.proofs.Outcomes.{change-in, made-in}
+use Rattle.rules.proofs.SourceRuns.{MeaningKeeps, run-reaches}
 use Rattle.rules.specs.declared.Test.{Test}
 use Rattle.rules.specs.declared.Test.the-variants as test
 
-upTo-append : (l l₁ : List Reached) (o : Outcome) → upTo (l ++ l₁) o ≡ upTo l (upTo l₁ o)
-upTo-append [] l₁ o = refl
-upTo-append (reached s true m f ∷ l) l₁ o = refl
-upTo-append (reached s false m f ∷ l) l₁ o = upTo-append l l₁ o
+-- of the assertions reached one is false, whose ending is e; or none is
+abbrev Decided : List Reached → Ending Memory → Type 0
+Decided l e = (d : Ending Memory) → upTo l d ≡ e
 
-upTo-next : (l : List Reached) (o : Outcome) (k : Memory → ℕ → Outcome) → next (upTo l o) k ≡ upTo l (next o k)
-upTo-next [] o k = refl
-upTo-next (reached s true m f ∷ l) o k = refl
-upTo-next (reached s false m f ∷ l) o k = upTo-next l o k
+abbrev Passed : List Reached → Type 0
+Passed l = (d : Ending Memory) → upTo l d ≡ d
 
-before-is : (l : List Reached) (c : PastOutcome) → atFirstFalse (before l c) ≡ upTo l (atFirstFalse c)
-before-is l (past l₁ o) = upTo-append l l₁ o
+upTo-append : (l r : List Reached) (d : Ending Memory) → upTo (l ++ r) d ≡ upTo l (upTo r d)
+upTo-append [] r d = refl
+upTo-append (reached holds s m f ∷ l) r d = upTo-append l r d
+upTo-append (reached fails s m f ∷ l) r d = refl
+upTo-append (reached undecided s m f ∷ l) r d = upTo-append l r d
 
--- a run past assertions, step by step, with the plain run of each step
-abbrev Follows : (Memory → ℕ → PastOutcome) → (Memory → ℕ → Outcome) → Type 0
-Follows k kp = (m : Memory) (f : ℕ) → atFirstFalse (k m f) ≡ kp m f
+-- what was decided stays so, in every run
+abbrev Later : PastState → PastState → Type 0
+Later x y = (e : Ending Memory) → Decided (x .assertions) e → Decided (y .assertions) e
 
-next-is : (c : PastOutcome) (k : Memory → ℕ → PastOutcome) (kp : Memory → ℕ → Outcome) → Follows k kp
-    → atFirstFalse (nextPast c k) ≡ next (atFirstFalse c) kp
-next-is (past l (finished m f)) k kp h =
-    before-is l (k m f) ∙ ap (upTo l) (h m f) ∙ sym (upTo-next l (finished m f) kp)
-next-is (past l (ended c s m f)) k kp h = sym (upTo-next l (ended c s m f) kp)
+later : Onwards AnyState Later
+later = record { valid = λ r. tt; itself = λ v e h. h; further = λ r q e h. q e (r e h) }
 
-decide-is : (s : ℕ) (t : Test) (x y : Memory → ℕ → PastOutcome) (u v : Memory → ℕ → Outcome) → Follows x u
-    → Follows y v
-    → Follows (decidePast s t x y) (decide s t u v)
-decide-is s test.Yes x y u v p q m f = p m f
-decide-is s test.No x y u v p q m f = q m f
-decide-is s (test.Stopped c) x y u v p q m f = refl
+later-change : (x : PastState) (c : Change Memory) → ChangeKeeps (Later x) AnyNumber (changeIn (withMemory x) c)
+later-change x c = change-in AnyState (Later x) AnyNumber (withMemory x) c (λ m u e h. h) (any-change c)
 
-turns-is : (g s : ℕ) (holds : Memory → Test) (k : Memory → ℕ → PastOutcome) (kp : Memory → ℕ → Outcome) → Follows k kp
-    → Follows (turnsPast g s holds k) (turns g s holds kp)
-unfolding turnsPast turns
-turns-is zero s holds k kp h m f = refl
-turns-is (suc g) s holds k kp h m zero = refl
-turns-is (suc g) s holds k kp h m (suc f) =
-    decide-is s (holds m) _ _ _ _
-    (λ m₁ f₁. next-is (k m₁ f₁) _ _ (turns-is g s holds k kp h)
-    ∙ ap (λ o. next o (λ m₂ f₂. turns g s holds kp m₂ f₂)) (h m₁ f₁))
-    (λ m₁ f₁. refl) m f
+later-reached : (x : PastState) (r : Reached) (e : Ending Memory) → Decided (x .assertions) e
+    → Decided (x .assertions ++ (r ∷ [])) e
+later-reached x r e h d = upTo-append (x .assertions) (r ∷ []) d ∙ h (upTo (r ∷ []) d)
 
-let-is : (s : ℕ) (m : Memory) (f : ℕ) (r : Made) (b : ℕ → Memory → ℕ → PastOutcome) (bp : ℕ → Memory → ℕ → Outcome)
-    → ((k : ℕ) → Follows (b k) (bp k)) → atFirstFalse (inLetPast s m f r b) ≡ inLet s m f r bp
-let-is s m f (unmade c) b bp h = refl
-let-is s m f (made k m₁) b bp h =
-    next-is (b k m₁ f) _ _ (λ m₂ f₂. refl) ∙ ap (λ o. next o (λ m₂ f₂. finished (endBlock m₂ k) f₂)) (h k m₁ f)
+later-asserted : (s : ℕ) (x : PastState) (f : ℕ) (t : Test) → ChangeKeeps (Later x) AnyNumber (assertedPast s x f t)
+later-asserted s x f test.Yes = later-reached x (reached holds s (x .memory) f)
+later-asserted s x f test.No = later-reached x (reached fails s (x .memory) f)
+later-asserted s x f (test.Stopped c) = (tt, later-reached x (reached undecided s (x .memory) f))
 
-assert-is : (s : ℕ) (m : Memory) (f : ℕ) (t : Test) → atFirstFalse (assertedPast s m f t) ≡ asserted s m f t
-assert-is s m f test.Yes = refl
-assert-is s m f test.No = refl
-assert-is s m f (test.Stopped c) = refl
+past-keeps : MeaningKeeps pastMeaning AnyState Later AnyBlock AnyNumber
+past-keeps = record {
+  onwards = later;
+  assigns = λ p e ρ x v. later-change x (assigned (x .memory) (findSource p ρ (x .memory)) (evaluateSource e ρ (x .memory)));
+  allocates = λ p e ρ x v.
+      later-change x (allocated (x .memory) (findSource p ρ (x .memory)) (evaluateSource e ρ (x .memory)));
+  frees = λ e ρ x v. later-change x (freed (x .memory) (evaluateSource e ρ (x .memory)));
+  asserts = λ s p ρ x f v. later-asserted s x f (condition (evaluatePredicate p ρ (x .memory)));
+  decides = λ e ρ x v. any-test (condition (evaluateSource e ρ (x .memory)));
+  makes = λ x v.
+      made-in (λ k m. Unit {0}) (λ k y. Unit {0} × Later x y) AnyNumber (withMemory x) (makeBlock (x .memory) fixed 1)
+      (λ k m u. (tt, λ e h. h)) (any-made (makeBlock (x .memory) fixed 1));
+  ends = λ x y k g r. r;
+  out-of-fuel = tt;
+}
 
-pub past-is : (a : Statement) (ρ : Variables) (m : Memory) (f : ℕ) → atFirstFalse (runPast a ρ m f) ≡ run a ρ m f
-unfolding runPast run
-past-is (skip s) ρ m f = refl
-past-is (assign s p e) ρ m f = refl
-past-is (new s p e) ρ m f = refl
-past-is (free s e) ρ m f = refl
-past-is (sequence s a b) ρ m f =
-    next-is (runPast a ρ m f) _ _ (λ m₁ f₁. past-is b ρ m₁ f₁)
-    ∙ ap (λ o. next o (λ m₁ f₁. run b ρ m₁ f₁)) (past-is a ρ m f)
-past-is (branch s e a b) ρ m f =
-    decide-is s (condition (evaluateSource e ρ m)) _ _ _ _
-    (λ m₁ f₁. past-is a ρ m₁ f₁) (λ m₁ f₁. past-is b ρ m₁ f₁) m f
-past-is (while s e b) ρ m f = turns-is f s _ _ _ (λ m₁ f₁. past-is b ρ m₁ f₁) m f
-past-is (letIn s x b) ρ m f = let-is s m f (makeBlock m fixed 1) _ _ (λ k m₁ f₁. past-is b (extend ρ x k) m₁ f₁)
-past-is (assert s p) ρ m f = assert-is s m f (condition (evaluatePredicate p ρ m))
+-- a run from a state, and what it leaves decided
+abbrev Going : Type 0
+Going = PastState → ℕ → Outcome PastState
+
+abbrev Stays : Going → Type 0
+Stays k = (x : PastState) (f : ℕ) → Reaches Later AnyNumber x f (k x f)
+
+past-stays : (a : Statement) (ρ : Variables) → Stays (λ x f. runBy pastMeaning a ρ x f)
+past-stays a ρ x f = run-reaches past-keeps a ρ x f tt
+
+stays-into : (n : ℕ) (k : Going) → Stays k → Stays (λ x f. into n (k x f))
+stays-into n k h x f = reach-into AnyNumber later n x f (k x f) (h x f)
+
+-- the plain run beside it: alike while no assertion was false; at the first it has ended 33
+data Follows : Outcome Memory → Outcome PastState → Type 0 where
+  alike-finish : {x : PastState} {f : ℕ} → Passed (x .assertions) → Follows (finished (x .memory) f) (finished x f)
+  alike-end : {c s : ℕ} {ρ : Variables} {w w₁ : TreePath} {x : PastState} {f : ℕ} → Passed (x .assertions)
+      → Follows (ended c s ρ w (x .memory) f) (ended c s ρ w₁ x f)
+  failed : {s : ℕ} {ρ : Variables} {w : TreePath} {m : Memory} {f : ℕ} {o : Outcome PastState}
+      → Decided (ending o .state .assertions) (record { number = 33; statement = s; state = m; fuel = f })
+      → Follows (ended 33 s ρ w m f) o
+
+follows-says : {p : Outcome Memory} {o : Outcome PastState} → Follows p o → atFirstFalse (ending o) ≡ ending p
+follows-says (alike-finish h) = h _
+follows-says (alike-end h) = h _
+follows-says (failed h) = h _
+
+follows-into : {p : Outcome Memory} {o : Outcome PastState} (n : ℕ) → Follows p o → Follows (into n p) (into n o)
+follows-into n (alike-finish h) = alike-finish h
+follows-into n (alike-end h) = alike-end h
+follows-into n (failed {o = finished x f} h) = failed h
+follows-into n (failed {o = ended c s ρ w x f} h) = failed h
+
+follows-next : {p : Outcome Memory} {o : Outcome PastState} (k : Memory → ℕ → Outcome Memory) (kp : Going) → Follows p o
+    → Stays kp → ((x : PastState) (f : ℕ) → Passed (x .assertions) → Follows (k (x .memory) f) (kp x f))
+    → Follows (next p k) (next o kp)
+follows-next k kp (alike-finish {x} {f} h) t g = g x f h
+follows-next k kp (alike-end h) t g = alike-end h
+follows-next k kp (failed {o = finished x f} h) t g =
+    failed (outcomes-state (λ y e. Later x y × (e ≤ f)) AnyNumber (kp x f) (t x f) .0 _ h)
+follows-next k kp (failed {o = ended c s ρ w x f} h) t g = failed h
+
+follows-after : (s : ℕ) (ρ : Variables) (x : PastState) (f : ℕ) (c : Change Memory) → Passed (x .assertions)
+    → Follows (after s ρ f c) (after s ρ f (changeIn (withMemory x) c))
+follows-after s ρ x f (changed m) h = alike-finish {x = withMemory x m} h
+follows-after s ρ x f (stopped c m) h = alike-end {x = withMemory x m} h
+
+follows-assert : (s : ℕ) (ρ : Variables) (x : PastState) (f : ℕ) (t : Test) → Passed (x .assertions)
+    → Follows (after s ρ f (asserted (x .memory) t)) (after s ρ f (assertedPast s x f t))
+follows-assert s ρ x f test.Yes h = alike-finish (λ d. upTo-append (x .assertions) _ d ∙ h d)
+follows-assert s ρ x f test.No h = failed (λ d. upTo-append (x .assertions) _ d ∙ h _)
+follows-assert s ρ x f (test.Stopped c) h = alike-end (λ d. upTo-append (x .assertions) _ d ∙ h d)
+
+follows-decide : (s : ℕ) (ρ : Variables) (t : Test) (x : PastState) (f : ℕ) (a b : Outcome Memory)
+    (u v : Outcome PastState) → Passed (x .assertions) → Follows a u → Follows b v
+    → Follows (decide s ρ t (x .memory) f a b) (decide s ρ t x f u v)
+follows-decide s ρ test.Yes x f a b u v h p q = p
+follows-decide s ρ test.No x f a b u v h p q = q
+follows-decide s ρ (test.Stopped c) x f a b u v h p q = alike-end h
+
+follows-turns : (g s : ℕ) (ρ : Variables) (test : Memory → Test) (k : Memory → ℕ → Outcome Memory) (kp : Going)
+    → Stays kp → ((x : PastState) (f : ℕ) → Passed (x .assertions) → Follows (k (x .memory) f) (kp x f))
+    → (x : PastState) (f : ℕ) → Passed (x .assertions)
+    → Follows (turns g s ρ test k (x .memory) f) (turns g s ρ (λ y. test (y .memory)) kp x f)
+unfolding turns
+follows-turns zero s ρ test k kp t b x f h = alike-end h
+follows-turns (suc g) s ρ test k kp t b x zero h = alike-end h
+follows-turns (suc g) s ρ test k kp t b x (suc f) h =
+    follows-decide s ρ (test (x .memory)) x f _ _ _ _ h
+    (follows-next _ (λ y e. turns g s ρ (λ z. test (z .memory)) kp y e) (b x f h)
+    (λ y e. reach-turns AnyNumber later s ρ (λ z. test (z .memory)) kp tt (λ z u. any-test (test (z .memory)))
+    (λ z d u. t z d) g y e tt)
+    (follows-turns g s ρ test k kp t b)) (alike-finish h)
+
+follows-let : (s : ℕ) (ρ : Variables) (x : PastState) (f : ℕ) (r : Made Memory) (b : ℕ → Memory → ℕ → Outcome Memory)
+    (bp : ℕ → Going) → Passed (x .assertions)
+    → ((k : ℕ) (y : PastState) → Passed (y .assertions) → Follows (b k (y .memory) f) (bp k y f))
+    → Follows (inLet s ρ (x .memory) f r endBlock b)
+    (inLet s ρ x f (madeIn (withMemory x) r) (λ y k. withMemory y (endBlock (y .memory) k)) bp)
+follows-let s ρ x f (unmade c) b bp h g = alike-end h
+follows-let s ρ x f (made k m) b bp h g =
+    follows-next _ (λ y e. finished (withMemory y (endBlock (y .memory) k)) e) (g k (withMemory x m) h)
+    (λ y e. (λ d q. q, omega arith)) (λ y e q. alike-finish {x = withMemory y (endBlock (y .memory) k)} q)
+
+follows : (a : Statement) (ρ : Variables) (x : PastState) (f : ℕ) → Passed (x .assertions)
+    → Follows (run a ρ (x .memory) f) (runBy pastMeaning a ρ x f)
+unfolding runBy
+follows (skip s) ρ x f h = alike-finish h
+follows (assign s p e) ρ x f h =
+    follows-after s ρ x f (assigned (x .memory) (findSource p ρ (x .memory)) (evaluateSource e ρ (x .memory))) h
+follows (new s p e) ρ x f h =
+    follows-after s ρ x f (allocated (x .memory) (findSource p ρ (x .memory)) (evaluateSource e ρ (x .memory))) h
+follows (free s e) ρ x f h = follows-after s ρ x f (freed (x .memory) (evaluateSource e ρ (x .memory))) h
+follows (sequence s a b) ρ x f h =
+    follows-next _ (λ y e. into 1 (runBy pastMeaning b ρ y e)) (follows-into 0 (follows a ρ x f h))
+    (stays-into 1 (λ y e. runBy pastMeaning b ρ y e) (past-stays b ρ))
+    (λ y e q. follows-into 1 (follows b ρ y e q))
+follows (branch s e a b) ρ x f h =
+    follows-decide s ρ (condition (evaluateSource e ρ (x .memory))) x f _ _ _ _ h
+    (follows-into 1 (follows a ρ x f h)) (follows-into 2 (follows b ρ x f h))
+follows (while s e b) ρ x f h =
+    follows-turns f s ρ (λ m. condition (evaluateSource e ρ m)) _ (λ y d. into 1 (runBy pastMeaning b ρ y d))
+    (stays-into 1 (λ y d. runBy pastMeaning b ρ y d) (past-stays b ρ))
+    (λ y d q. follows-into 1 (follows b ρ y d q)) x f h
+follows (letIn s z b) ρ x f h =
+    follows-let s ρ x f (makeBlock (x .memory) fixed 1) _ (λ k y d. into 0 (runBy pastMeaning b (extend ρ z k) y d)) h
+    (λ k y q. follows-into 0 (follows b (extend ρ z k) y f q))
+follows (assert s p) ρ x f h = follows-assert s ρ x f (condition (evaluatePredicate p ρ (x .memory))) h
+
+pub past-is : (a : Statement) (ρ : Variables) (m : Memory) (f : ℕ)
+    → atFirstFalse (ending (runPast a ρ m f)) ≡ ending (run a ρ m f)
+past-is a ρ m f = follows-says (follows a ρ (record { memory = m; assertions = [] }) f (λ d. refl))

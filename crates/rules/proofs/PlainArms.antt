@@ -1,15 +1,16 @@
 -- What each statement of a source table does in the plain run, by its kind.
 use Prim.Native.Nat.{ℕ, suc}
-use mathlib.Core.List.{List}
+use mathlib.Core.List.{List, []}
 use mathlib.Core.Logic.{_≢_}
 use mathlib.Core.Path.{_≡_, refl, sym, ap, _∙_}
 use Rattle.rules.specs.Records.{kindOf, markOf, childA, childB, childC}
 use Rattle.rules.specs.Kinds.{source, Sort, predicate, statement}
 use Rattle.rules.specs.Trees.{Expression, Place, Predicate, Statement}
 use Rattle.rules.specs.Nodes.{SourceNode, asExpression, asPlace, asPredicate, sourceStatement, nodeAt}
-use Rattle.rules.specs.Memory.{Memory, fixed, makeBlock, assigned, allocated, freed}
+use Rattle.rules.specs.Memory.{Memory, fixed, makeBlock, endBlock, assigned, allocated, freed}
 use Rattle.rules.specs.Evaluation.{Variables, evaluateSource, findSource, evaluatePredicate, condition, extend}
-use Rattle.rules.specs.Plain.{finished, ended, next, after, decide, inLet, asserted, run}
+use Rattle.rules.specs.Flow.{finished, ended, into, next, after, decide, inLet, runBy}
+use Rattle.rules.specs.Plain.{plainMeaning, asserted, run}
 use Rattle.rules.proofs.KindViews.{formAt, SourceKind, skip, assign, new, free, sequence, branch, while, letIn}
 use Rattle.rules.proofs.KindViews.{assert}
 use Rattle.rules.proofs.FormLaws.{FormHolds, nodeAs}
@@ -69,67 +70,68 @@ module _ (t : List ℕ) (n : ℕ) (h : HasSort statement t n) where
     run-kind k e = ap (λ (x : SourceNode). run (sourceStatement x) ρ m f) (form k e .node)
 
     pub run-skip : kindOf t n ≡ 40 → run (statementAt t n) ρ m f ≡ finished m f
-    unfolding run
+    unfolding runBy
     run-skip e = run-kind 40 e
 
     pub run-assign : kindOf t n ≡ 41
         → run (statementAt t n) ρ m f
-        ≡ after n f (assigned m (findSource (placeAt t (childA t n)) ρ m)
+        ≡ after n ρ f (assigned m (findSource (placeAt t (childA t n)) ρ m)
         (evaluateSource (expressionAt t (childB t n)) ρ m))
-    unfolding run
+    unfolding runBy
     run-assign e = run-kind 41 e
 
     pub run-new : kindOf t n ≡ 42
         → run (statementAt t n) ρ m f
-        ≡ after n f (allocated m (findSource (placeAt t (childA t n)) ρ m)
+        ≡ after n ρ f (allocated m (findSource (placeAt t (childA t n)) ρ m)
         (evaluateSource (expressionAt t (childB t n)) ρ m))
-    unfolding run
+    unfolding runBy
     run-new e = run-kind 42 e
 
     pub run-free : kindOf t n ≡ 43
-        → run (statementAt t n) ρ m f ≡ after n f (freed m (evaluateSource (expressionAt t (childA t n)) ρ m))
-    unfolding run
+        → run (statementAt t n) ρ m f ≡ after n ρ f (freed m (evaluateSource (expressionAt t (childA t n)) ρ m))
+    unfolding runBy
     run-free e = run-kind 43 e
 
     pub run-sequence : kindOf t n ≡ 44
         → run (statementAt t n) ρ m f
-        ≡ next (run (statementAt t (childA t n)) ρ m f) (λ m₁ f₁. run (statementAt t (childB t n)) ρ m₁ f₁)
-    unfolding run
+        ≡ next (into 0 (run (statementAt t (childA t n)) ρ m f))
+        (λ m₁ f₁. into 1 (run (statementAt t (childB t n)) ρ m₁ f₁))
+    unfolding runBy
     run-sequence e = run-kind 44 e
 
     pub run-branch : kindOf t n ≡ 45
         → run (statementAt t n) ρ m f
-        ≡ decide n (condition (evaluateSource (expressionAt t (childA t n)) ρ m))
-        (λ m₁ f₁. run (statementAt t (childB t n)) ρ m₁ f₁) (λ m₁ f₁. run (statementAt t (childC t n)) ρ m₁ f₁) m f
-    unfolding run
+        ≡ decide n ρ (condition (evaluateSource (expressionAt t (childA t n)) ρ m)) m f
+        (into 1 (run (statementAt t (childB t n)) ρ m f)) (into 2 (run (statementAt t (childC t n)) ρ m f))
+    unfolding runBy
     run-branch e = run-kind 45 e
 
     pub run-let : kindOf t n ≡ 47
         → run (statementAt t n) ρ m f
-        ≡ inLet n m f (makeBlock m fixed 1)
-        (λ k m₁ f₁. run (statementAt t (childA t n)) (extend ρ (markOf t n) k) m₁ f₁)
-    unfolding run
+        ≡ inLet n ρ m f (makeBlock m fixed 1) endBlock
+        (λ k m₁ f₁. into 0 (run (statementAt t (childA t n)) (extend ρ (markOf t n) k) m₁ f₁))
+    unfolding runBy
     run-let e = run-kind 47 e
 
     pub run-assert : kindOf t n ≡ 48
-        → run (statementAt t n) ρ m f ≡ asserted n m f (condition (evaluatePredicate (predicateAt t (childA t n)) ρ m))
-    unfolding run
+        → run (statementAt t n) ρ m f
+        ≡ after n ρ f (asserted m (condition (evaluatePredicate (predicateAt t (childA t n)) ρ m)))
+    unfolding runBy
     run-assert e = run-kind 48 e
 
   -- a while, with fuel and without
-  pub run-while-zero : kindOf t n ≡ 46 → (ρ : Variables) (m : Memory) → run (statementAt t n) ρ m 0 ≡ ended 32 n m 0
+  pub run-while-zero : kindOf t n ≡ 46 → (ρ : Variables) (m : Memory) → run (statementAt t n) ρ m 0 ≡ ended 32 n ρ [] m 0
   run-while-zero e ρ m =
-      run-kind ρ m 0 46 e ∙ while-zero n (expressionAt t (childA t n)) (statementAt t (childB t n)) ρ m
+      run-kind ρ m 0 46 e ∙ while-zero plainMeaning n (expressionAt t (childA t n)) (statementAt t (childB t n)) ρ m
 
   pub run-while-suc : kindOf t n ≡ 46 → (ρ : Variables) (m : Memory) (f : ℕ)
       → run (statementAt t n) ρ m (suc f)
-      ≡ decide n (condition (evaluateSource (expressionAt t (childA t n)) ρ m))
-      (λ m₁ f₁. next (run (statementAt t (childB t n)) ρ m₁ f₁) (λ m₂ f₂. run (statementAt t n) ρ m₂ f₂))
-      finished m f
+      ≡ decide n ρ (condition (evaluateSource (expressionAt t (childA t n)) ρ m)) m f
+      (next (into 1 (run (statementAt t (childB t n)) ρ m f)) (λ m₁ f₁. run (statementAt t n) ρ m₁ f₁)) (finished m f)
   run-while-suc e ρ m f =
       run-kind ρ m (suc f) 46 e
-      ∙ while-suc n (expressionAt t (childA t n)) (statementAt t (childB t n)) ρ m f
+      ∙ while-suc plainMeaning n (expressionAt t (childA t n)) (statementAt t (childB t n)) ρ m f
       ∙ sym (ap (λ (w : Statement).
-      decide n (condition (evaluateSource (expressionAt t (childA t n)) ρ m))
-      (λ m₁ f₁. next (run (statementAt t (childB t n)) ρ m₁ f₁) (λ m₂ f₂. run w ρ m₂ f₂)) finished m f)
+      decide n ρ (condition (evaluateSource (expressionAt t (childA t n)) ρ m)) m f
+      (next (into 1 (run (statementAt t (childB t n)) ρ m f)) (λ m₁ f₁. run w ρ m₁ f₁)) (finished m f))
       (ap sourceStatement (form 46 e .node)))

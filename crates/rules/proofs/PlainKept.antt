@@ -1,60 +1,51 @@
 -- A plain run keeps the memory's invariant, however it comes out.
-use Prim.Native.Nat.{ℕ}
-use Rattle.rules.specs.Trees.{Statement, skip, assign, new, free, sequence, branch, while, letIn, assert}
-use Rattle.rules.specs.Memory.{Memory, fixed, makeBlock, assigned, allocated, freed}
-use Rattle.rules.specs.Evaluation.{Variables, evaluateSource, findSource, evaluatePredicate, condition, extend}
-use Rattle.rules.specs.Plain.{Outcome, finished, ended, run}
-use Rattle.rules.specs.Answers.{memoryAfter}
+use Prim.Native.Nat.{ℕ, _≤_}
+use mathlib.Core.Path.{_≡_}
+use Rattle.rules.specs.Trees.{Statement}
+use Rattle.rules.specs.Memory.{Memory, blockOf, fixed, makeBlock, assigned, allocated, freed}
+use Rattle.rules.specs.Evaluation.{Variables, evaluateSource, findSource, evaluatePredicate, condition}
+use Rattle.rules.specs.Flow.{ending}
+use Rattle.rules.specs.Plain.{plainMeaning, run}
 use Rattle.rules.proofs.Keeping.{AnyNumber, any-test}
-use Rattle.rules.proofs.Outcomes.{Outcomes, next-keeps, after-keeps, decide-keeps, turns-keeps, inLet-keeps}
-use Rattle.rules.proofs.Outcomes.{asserted-keeps}
+use Rattle.rules.proofs.Outcomes.{Onwards, outcomes-state, asserted-keeps, made-more}
+use Rattle.rules.proofs.SourceRuns.{MeaningKeeps, run-reaches}
 use Rattle.rules.proofs.Invariant.{Invariant, Onward, onward-itself, onward-then}
 use Rattle.rules.proofs.BlockChanges.{onward-end}
 use Rattle.rules.proofs.Changes.{change-kept, Given, onward-assigned, onward-made, onward-allocated, onward-freed}
+use Rattle.rules.specs.declared.Block.the-variants as block
 
-abbrev Onto : Memory → Memory → ℕ → Type 0
-Onto m m₁ f = Onward m m₁
+-- a block that is made had an unused name
+abbrev pub WasUnused : Memory → ℕ → Type 0
+WasUnused m k = blockOf m k ≡ block.Unused
 
-further : {m m₁ : Memory} → Onward m m₁ → (x : Outcome) → Outcomes (Onto m₁) AnyNumber x → Outcomes (Onto m) AnyNumber x
-further i (finished m₂ f) h = onward-then i h
-further i (ended c s m₂ f) h = (tt, onward-then i (h .1))
+pub onward-runs : Onwards Invariant Onward
+onward-runs = record { valid = λ r. r .invariant; itself = onward-itself; further = onward-then }
 
-kept : (a : Statement) (ρ : Variables) (m : Memory) (f : ℕ) → Invariant m → Outcomes (Onto m) AnyNumber (run a ρ m f)
-unfolding run
-kept (skip s) ρ m f v = onward-itself v
-kept (assign s p e) ρ m f v =
-    let c = assigned m (findSource p ρ m) (evaluateSource e ρ m) in
-    after-keeps (Onto m) AnyNumber (Onward m) s f c
-    (change-kept m c (onward-assigned m (findSource p ρ m) (evaluateSource e ρ m) v)) (λ m₁ j. j)
-kept (new s p e) ρ m f v =
-    let c = allocated m (findSource p ρ m) (evaluateSource e ρ m) in
-    after-keeps (Onto m) AnyNumber (Onward m) s f c
-    (change-kept m c (onward-allocated m (findSource p ρ m) (evaluateSource e ρ m) v)) (λ m₁ j. j)
-kept (free s e) ρ m f v =
-    let c = freed m (evaluateSource e ρ m) in
-    after-keeps (Onto m) AnyNumber (Onward m) s f c
-    (change-kept m c (onward-freed m (evaluateSource e ρ m) v)) (λ m₁ j. j)
-kept (sequence s a b) ρ m f v =
-    next-keeps (Onto m) AnyNumber (run a ρ m f) _ (kept a ρ m f v)
-    (λ m₁ f₁ i. further i (run b ρ m₁ f₁) (kept b ρ m₁ f₁ (i .invariant)))
-kept (branch s e a b) ρ m f v =
-    decide-keeps (Onto m) AnyNumber s (condition (evaluateSource e ρ m)) _ _ m f
-    (any-test (condition (evaluateSource e ρ m))) (onward-itself v) (kept a ρ m f v) (kept b ρ m f v)
-kept (while s e b) ρ m f v =
-    turns-keeps (Onto m) AnyNumber s _ _ tt (λ m₁ f₁ i. i) (λ m₁ f₁ i. any-test (condition (evaluateSource e ρ m₁)))
-    (λ m₁ f₁ i. further i (run b ρ m₁ f₁) (kept b ρ m₁ f₁ (i .invariant))) f m f (onward-itself v)
-kept (letIn s x b) ρ m f v =
-    inLet-keeps (Onto m) AnyNumber (Given m) s m f (makeBlock m fixed 1) _ (onward-itself v) (onward-made m fixed 1 v)
-    (λ k m₁ u. further (u .1) (run b (extend ρ x k) m₁ f) (kept b (extend ρ x k) m₁ f (u .1 .invariant)))
-    (λ k m₁ u m₂ f₂ i. onward-end k (u .0) i)
-kept (assert s p) ρ m f v =
-    asserted-keeps (Onto m) AnyNumber s m f (condition (evaluatePredicate p ρ m)) tt (onward-itself v)
-    (any-test (condition (evaluatePredicate p ρ m)))
+plain-meaning-keeps : MeaningKeeps plainMeaning Invariant Onward WasUnused AnyNumber
+plain-meaning-keeps = record {
+  onwards = onward-runs;
+  assigns = λ p e ρ m v.
+      let f = findSource p ρ m in
+      let r = evaluateSource e ρ m in
+      change-kept m (assigned m f r) (onward-assigned m f r v);
+  allocates = λ p e ρ m v.
+      let f = findSource p ρ m in
+      let r = evaluateSource e ρ m in
+      change-kept m (allocated m f r) (onward-allocated m f r v);
+  frees = λ e ρ m v. let r = evaluateSource e ρ m in change-kept m (freed m r) (onward-freed m r v);
+  asserts = λ s p ρ m f v.
+      let t = condition (evaluatePredicate p ρ m) in
+      asserted-keeps (Onward m) AnyNumber m t tt (onward-itself v) (any-test t);
+  decides = λ e ρ m v. any-test (condition (evaluateSource e ρ m));
+  makes = λ m v.
+      made-more (Given m) (λ k m₁. WasUnused m k × Onward m m₁) AnyNumber (makeBlock m fixed 1)
+      (λ k m₁ u. (u .0, u .1)) (onward-made m fixed 1 v);
+  ends = λ m m₁ k g r. onward-end k g r;
+  out-of-fuel = tt;
+}
 
 pub plain-onward : (a : Statement) (ρ : Variables) (m : Memory) (f : ℕ) → Invariant m
-    → Onward m (memoryAfter (run a ρ m f))
-plain-onward a ρ m f v = of (run a ρ m f) (kept a ρ m f v)
-  where
-    of : (x : Outcome) → Outcomes (Onto m) AnyNumber x → Onward m (memoryAfter x)
-    of (finished m₁ f₁) h = h
-    of (ended c s m₁ f₁) h = h .1
+    → Onward m (ending (run a ρ m f) .state)
+plain-onward a ρ m f v =
+    outcomes-state (λ m₁ g. Onward m m₁ × (g ≤ f)) AnyNumber (run a ρ m f)
+    (run-reaches plain-meaning-keeps a ρ m f v) .0

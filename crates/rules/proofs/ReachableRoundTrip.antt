@@ -17,25 +17,23 @@ use Rattle.rules.specs.TargetTrees.{TargetStatement}
 use Rattle.rules.specs.Memory.{Memory, startMemory}
 use Rattle.rules.specs.Evaluation.{Variables}
 use Rattle.rules.specs.Observation.{Observation, startObservation}
-use Rattle.rules.specs.Plain.{Outcome, run, startVariables}
-use Rattle.rules.specs.Plain as plain
-use Rattle.rules.specs.Watched.{Temporaries, WatchedOutcome, watch, startTemporaries}
-use Rattle.rules.specs.Watched as watched
+use Rattle.rules.specs.Flow.{Outcome, ending}
+use Rattle.rules.specs.Plain.{run, startVariables}
+use Rattle.rules.specs.Watched.{WatchedState, watch, startTemporaries}
 use Rattle.rules.specs.Layout.{memoryImage, memoryOf, observationImage, observationOf}
-use Rattle.rules.specs.Answers.{numbersIn, inputsOf, memoryAfter, plainOutcome, watchedMemoryAfter}
-use Rattle.rules.specs.Answers.{observationAfter, watchedOutcome}
+use Rattle.rules.specs.Answers.{numbersIn, inputsOf, plainOutcome, watchedStart, watchedOutcome}
 use Rattle.rules.proofs.Sound.{Scope, startScope, SoundStatement, SoundTarget}
 use Rattle.rules.proofs.Keeping.{AnyNumber}
 use Rattle.rules.proofs.WordLaws.{integer-range, Bytes}
 use Rattle.rules.proofs.Lists.{All, none, also}
-use Rattle.rules.proofs.Outcomes.{Outcomes, WatchedOutcomes}
+use Rattle.rules.proofs.Outcomes.{Reaches, outcomes-state}
 use Rattle.rules.proofs.Fits.{FitsTemporary, FitsMemory, FitsObservation, InsideMemory, InsideObservation}
 use Rattle.rules.proofs.FitsLaws.{InRange, startMemory-inside}
 use Rattle.rules.proofs.KeptPredicates.{fits-invariant, inside-invariant, fits-observation-invariant}
 use Rattle.rules.proofs.KeptPredicates.{inside-observation-invariant, startObservation-inside}
 use Rattle.rules.proofs.LayoutLaws.{length-memoryImage, length-observationImage, memory-back, observation-back}
 use Rattle.rules.proofs.LayoutLaws.{bytes-memoryImage, bytes-observationImage}
-use Rattle.rules.proofs.Reachable.{NamesFit, startVariables-fit, Plainly, run-keeps, Watchedly, watch-keeps}
+use Rattle.rules.proofs.Reachable.{NamesFit, startVariables-fit, run-keeps, Watchedly, watch-keeps}
 use Rattle.rules.proofs.Reachable.{startTemporaries-fit}
 
 -- the inputs
@@ -89,62 +87,60 @@ observation-shown o h = record {
 }
 
 -- ---- the plain run
-after-kept : (J : Memory → Type 0) (x : Outcome) → Outcomes (Plainly J) AnyNumber x → J (memoryAfter x)
-after-kept J (plain.finished m f) h = h
-after-kept J (plain.ended c s m f) h = h .1
+after-kept : (J : Memory → Type 0) (m : Memory) (f : ℕ) (o : Outcome Memory)
+    → Reaches (λ m₁ m₂. J m₂) AnyNumber m f o → J (ending o .state)
+after-kept J m f o h = outcomes-state (λ m₁ g. J m₁ × (g ≤ f)) AnyNumber o h .0
 
 -- to fit is kept by every run
 pub run-fits : (a : Statement) (σ : Scope) → SoundStatement a σ → (ρ : Variables) → NamesFit ρ → (m : Memory) (f : ℕ)
-    → FitsMemory m → FitsMemory (memoryAfter (run a ρ m f))
+    → FitsMemory m → FitsMemory (ending (run a ρ m f) .state)
 run-fits a σ h ρ r m f i =
-    after-kept FitsMemory (run a ρ m f) (run-keeps FitsMemory fits-invariant a σ h ρ r m f i)
+    after-kept FitsMemory m f (run a ρ m f) (run-keeps FitsMemory fits-invariant a σ h ρ r m f i)
 
 pub run-shown : (a : Statement) (σ : Scope) → SoundStatement a σ → (ρ : Variables) → NamesFit ρ → (m : Memory) (f : ℕ)
-    → FitsMemory m → Shown (memoryAfter (run a ρ m f))
-run-shown a σ h ρ r m f i = shown (memoryAfter (run a ρ m f)) (run-fits a σ h ρ r m f i)
+    → FitsMemory m → Shown (ending (run a ρ m f) .state)
+run-shown a σ h ρ r m f i = shown (ending (run a ρ m f) .state) (run-fits a σ h ρ r m f i)
 
 pub plain-inside : (t i : List ℕ) (f : ℕ) → SoundStatement (sourceProgram t) startScope → inputsFault i ≡ false
-    → InsideMemory (memoryAfter (plainOutcome t i f))
+    → InsideMemory (ending (plainOutcome t i f) .state)
 plain-inside t i f h e =
-    after-kept InsideMemory (plainOutcome t i f)
+    after-kept InsideMemory (startMemory (inputsOf i)) f (plainOutcome t i f)
     (run-keeps InsideMemory inside-invariant (sourceProgram t) startScope h startVariables startVariables-fit
     (startMemory (inputsOf i)) f (start-inside i e))
 
 pub plain-round-trip : (t i : List ℕ) (f : ℕ) → SoundStatement (sourceProgram t) startScope → inputsFault i ≡ false
-    → Shown (memoryAfter (plainOutcome t i f))
-plain-round-trip t i f h e = shown (memoryAfter (plainOutcome t i f)) (plain-inside t i f h e .memory-fits)
+    → Shown (ending (plainOutcome t i f) .state)
+plain-round-trip t i f h e = shown (ending (plainOutcome t i f) .state) (plain-inside t i f h e .memory-fits)
 
 -- ---- the watched run
-both-kept : (J : Memory → Type 0) (O : Observation → Type 0) (x : WatchedOutcome)
-    → WatchedOutcomes (Watchedly J O) AnyNumber x → J (watchedMemoryAfter x) × O (observationAfter x)
-both-kept J O (watched.finished m o τ f) h = (h .memory-kept, h .observation-kept)
-both-kept J O (watched.ended c s m o τ f) h = (h .1 .memory-kept, h .1 .observation-kept)
+both-kept : (J : Memory → Type 0) (O : Observation → Type 0) (x : WatchedState) (f : ℕ) (o : Outcome WatchedState)
+    → Reaches (λ y z. Watchedly J O z) AnyNumber x f o → Watchedly J O (ending o .state)
+both-kept J O x f o h = outcomes-state (λ y g. Watchedly J O y × (g ≤ f)) AnyNumber o h .0
 
 pub watch-fits : (a : TargetStatement) (σ : Scope) → SoundTarget a σ → (ρ : Variables) → NamesFit ρ
-    → (m : Memory) (o : Observation) (τ : Temporaries) (f : ℕ) → FitsMemory m → FitsObservation o → All FitsTemporary τ
-    → FitsMemory (watchedMemoryAfter (watch a ρ m o τ f)) × FitsObservation (observationAfter (watch a ρ m o τ f))
-watch-fits a σ h ρ r m o τ f i j k =
-    both-kept FitsMemory FitsObservation (watch a ρ m o τ f)
-    (watch-keeps FitsMemory fits-invariant FitsObservation fits-observation-invariant a σ h ρ r m o τ f
-    (record { memory-kept = i; observation-kept = j; temporaries-fit = k }))
+    → (x : WatchedState) (f : ℕ) → Watchedly FitsMemory FitsObservation x
+    → Watchedly FitsMemory FitsObservation (ending (watch a ρ x f) .state)
+watch-fits a σ h ρ r x f i =
+    both-kept FitsMemory FitsObservation x f (watch a ρ x f)
+    (watch-keeps FitsMemory fits-invariant FitsObservation fits-observation-invariant a σ h ρ r x f i)
 
 pub watched-inside : (t i : List ℕ) (f : ℕ) → SoundTarget (targetProgram t) startScope → inputsFault i ≡ false
-    → InsideMemory (watchedMemoryAfter (watchedOutcome t i f))
-    × InsideObservation (observationAfter (watchedOutcome t i f))
+    → Watchedly InsideMemory InsideObservation (ending (watchedOutcome t i f) .state)
 watched-inside t i f h e =
-    both-kept InsideMemory InsideObservation (watchedOutcome t i f)
+    let x = watchedStart (inputsOf i) in
+    both-kept InsideMemory InsideObservation x f (watchedOutcome t i f)
     (watch-keeps InsideMemory inside-invariant InsideObservation inside-observation-invariant (targetProgram t)
-    startScope h startVariables startVariables-fit (startMemory (inputsOf i)) (startObservation (length i / 8))
-    startTemporaries f (record {
+    startScope h startVariables startVariables-fit x f (record {
       memory-kept = start-inside i e;
-      observation-kept = startObservation-inside (length i / 8);
+      observation-kept = startObservation-inside (length (inputsOf i));
       temporaries-fit = startTemporaries-fit;
     }))
 
 pub watched-round-trip : (t i : List ℕ) (f : ℕ) → SoundTarget (targetProgram t) startScope → inputsFault i ≡ false
-    → Shown (watchedMemoryAfter (watchedOutcome t i f)) × ObservationShown (observationAfter (watchedOutcome t i f))
+    → Shown (ending (watchedOutcome t i f) .state .memory)
+    × ObservationShown (ending (watchedOutcome t i f) .state .observation)
 watched-round-trip t i f h e =
     let x = watched-inside t i f h e in (
-      shown (watchedMemoryAfter (watchedOutcome t i f)) (x .0 .memory-fits),
-      observation-shown (observationAfter (watchedOutcome t i f)) (x .1 .observation-fits),
+      shown (ending (watchedOutcome t i f) .state .memory) (x .memory-kept .memory-fits),
+      observation-shown (ending (watchedOutcome t i f) .state .observation) (x .observation-kept .observation-fits),
     )

@@ -6,14 +6,14 @@ use mathlib.Core.Logic.{_≢_}
 use lib.IntN.{ℤ, pos, negsuc}
 use Rattle.rules.specs.Numbers.{tested}
 use Rattle.rules.specs.Memory.{Memory, recordedOf, blockOf, locate, atCell, setCell, Change, changed, stopped}
-use Rattle.rules.specs.Memory.{assigned, freeOf, freed}
-use Rattle.rules.specs.Evaluation.{addressOf, condition}
+use Rattle.rules.specs.Memory.{changeIn, assigned, freeOf, freed}
+use Rattle.rules.specs.Evaluation.{Variables, addressOf, condition}
 use Rattle.rules.specs.Observation.{Observation, deleteBlock, initialise, pointerTo, mirror}
-use Rattle.rules.specs.Plain.{Outcome}
-use Rattle.rules.specs.Plain as plain
-use Rattle.rules.specs.Watched.{Temporaries, temporaryOf, heldIn, WatchedOutcome, finished, ended, Watching}
-use Rattle.rules.specs.Watched.{next, after, decide, turns, taken, observed, calledOn}
-use Rattle.rules.specs.Answers.{memoryAfter}
+use Rattle.rules.specs.Flow.{TreePath, Outcome, finished, ended, ending, into, next, after, decide, turns}
+use Rattle.rules.specs.Plain.{asserted}
+use Rattle.rules.specs.Watched.{Temporaries, temporaryOf, heldIn, WatchedState, watching, withMemory, taken}
+use Rattle.rules.specs.Watched.{holding, observed, calledOn}
+use Rattle.rules.proofs.TargetRuns.{initialising, deleting}
 use Rattle.rules.proofs.Invariant.{Invariant}
 use Rattle.rules.proofs.DefinedValues.{Defined, FairEvaluated}
 use Rattle.rules.proofs.Mirror.{mirror-initialise, mirror-delete}
@@ -34,119 +34,144 @@ use Rattle.rules.specs.declared.Block.the-variants as block
 use Rattle.rules.specs.declared.Cell.the-variants as cell
 use Rattle.rules.specs.declared.Temporary.the-variants as temporary
 
+-- a watched run from a state and fuel, and a plain one
+abbrev pub Watching : Type 0
+Watching = WatchedState → ℕ → Outcome WatchedState
+
+abbrev pub Running : Type 0
+Running = Memory → ℕ → Outcome Memory
+
 -- what the two runs owe each other: after a new block whose store ends 42 the observation memory lacks that block
-pub data Agree : Outcome → WatchedOutcome → Type 0 where
+pub data Agree : Outcome Memory → Outcome WatchedState → Type 0 where
   both-finish : {m : Memory} {o : Observation} {τ : Temporaries} {f : ℕ} → o ≡ mirror m → Full τ
-      → Agree (plain.finished m f) (finished m o τ f)
-  both-end : {c s : ℕ} {m : Memory} {o : Observation} {τ : Temporaries} {f : ℕ} → (c ≢ 42 → o ≡ mirror m)
-      → Agree (plain.ended c s m f) (ended c s m o τ f)
+      → Agree (finished m f) (finished (watching m o τ) f)
+  both-end : {c s : ℕ} {ρ : Variables} {w w₁ : TreePath} {m : Memory} {o : Observation} {τ : Temporaries} {f : ℕ}
+      → (c ≢ 42 → o ≡ mirror m) → Agree (ended c s ρ w m f) (ended c s ρ w₁ (watching m o τ) f)
 
 -- a step that does so from every memory
-abbrev pub Agreeing : (Memory → ℕ → Outcome) → Watching → Type 0
-Agreeing k kw = (m : Memory) (τ : Temporaries) (f : ℕ) → Invariant m → Full τ → Agree (k m f) (kw m (mirror m) τ f)
+abbrev pub Agreeing : Running → Watching → Type 0
+Agreeing k kw =
+    (m : Memory) (τ : Temporaries) (f : ℕ) → Invariant m → Full τ → Agree (k m f) (kw (watching m (mirror m) τ) f)
 
-pub agree-next : {p : Outcome} {w : WatchedOutcome} (k : Memory → ℕ → Outcome) (kw : Watching) → Agree p w
-    → Invariant (memoryAfter p) → Agreeing k kw → Agree (plain.next p k) (next w kw)
+-- whichever children of their programs they are
+pub agree-into : {p : Outcome Memory} {w : Outcome WatchedState} (i j : ℕ) → Agree p w → Agree (into i p) (into j w)
+agree-into i j (both-finish e l) = both-finish e l
+agree-into i j (both-end h) = both-end h
+
+pub agree-within : {p : Outcome Memory} {w : Outcome WatchedState} (j : ℕ) → Agree p w → Agree p (into j w)
+agree-within j (both-finish e l) = both-finish e l
+agree-within j (both-end h) = both-end h
+
+pub agree-next : {p : Outcome Memory} {w : Outcome WatchedState} (k : Running) (kw : Watching) → Agree p w
+    → Invariant (ending p .state) → Agreeing k kw → Agree (next p k) (next w kw)
 agree-next k kw (both-finish {m} {o} {τ} {f} e l) y g = rw e (g m τ f y l)
 agree-next k kw (both-end h) y g = both-end h
 
-pub agree-decide : (s : ℕ) (t t₁ : Test) (x y : Memory → ℕ → Outcome) (u v : Watching) → t₁ ≡ t → Agreeing x u
-    → Agreeing y v
-    → Agreeing (plain.decide s t x y) (decide s t₁ u v)
-agree-decide s test.Yes t₁ x y u v e p q m τ f i l = rw e (p m τ f i l)
-agree-decide s test.No t₁ x y u v e p q m τ f i l = rw e (q m τ f i l)
-agree-decide s (test.Stopped c) t₁ x y u v e p q m τ f i l = rw e (both-end (λ z. refl))
+pub agree-decide : (s : ℕ) (ρ : Variables) (t t₁ : Test) (m : Memory) (τ : Temporaries) (f : ℕ) (x y : Outcome Memory)
+    (u v : Outcome WatchedState) → t₁ ≡ t → Agree x u → Agree y v
+    → Agree (decide s ρ t m f x y) (decide s ρ t₁ (watching m (mirror m) τ) f u v)
+agree-decide s ρ test.Yes t₁ m τ f x y u v e p q = rw e p
+agree-decide s ρ test.No t₁ m τ f x y u v e p q = rw e q
+agree-decide s ρ (test.Stopped c) t₁ m τ f x y u v e p q = rw e (both-end (λ z. refl))
 
-pub agree-finish : Agreeing plain.finished finished
-agree-finish m τ f i l = both-finish refl l
-
-pub agree-turns : (g s : ℕ) (holds : Memory → Test) (holds₁ : Temporaries → Memory → Test) (k : Memory → ℕ → Outcome)
+pub agree-turns : (g s : ℕ) (ρ : Variables) (holds : Memory → Test) (holds₁ : WatchedState → Test) (k : Running)
     (kw : Watching)
-    → ((τ : Temporaries) (m : Memory) → holds₁ τ m ≡ holds m) → Agreeing k kw
-    → ((m : Memory) (f : ℕ) → Invariant m → Invariant (memoryAfter (k m f)))
-    → Agreeing (plain.turns g s holds k) (turns g s holds₁ kw)
-unfolding plain.turns turns
-agree-turns zero s holds holds₁ k kw e h v m τ f i l = both-end (λ z. refl)
-agree-turns (suc g) s holds holds₁ k kw e h v m τ zero i l = both-end (λ z. refl)
-agree-turns (suc g) s holds holds₁ k kw e h v m τ (suc f) i l =
-    agree-decide s (holds m) (holds₁ τ m) _ plain.finished _ finished (e τ m)
-    (λ m₁ τ₁ f₁ i₁ l₁. agree-next _ _ (h m₁ τ₁ f₁ i₁ l₁) (v m₁ f₁ i₁) (agree-turns g s holds holds₁ k kw e h v))
-    agree-finish m τ f i l
+    → ((x : WatchedState) → holds₁ x ≡ holds (x .memory)) → Agreeing k kw
+    → ((m : Memory) (f : ℕ) → Invariant m → Invariant (ending (k m f) .state))
+    → Agreeing (turns g s ρ holds k) (turns g s ρ holds₁ kw)
+unfolding turns
+agree-turns zero s ρ holds holds₁ k kw e h v m τ f i l = both-end (λ z. refl)
+agree-turns (suc g) s ρ holds holds₁ k kw e h v m τ zero i l = both-end (λ z. refl)
+agree-turns (suc g) s ρ holds holds₁ k kw e h v m τ (suc f) i l =
+    agree-decide s ρ (holds m) (holds₁ (watching m (mirror m) τ)) m τ f _ (finished m f) _ _
+    (e (watching m (mirror m) τ))
+    (agree-next _ _ (h m τ f i l) (v m f i) (agree-turns g s ρ holds holds₁ k kw e h v))
+    (both-finish refl l)
+
+-- a change that both make
+agree-after : (s : ℕ) (ρ : Variables) (m : Memory) (τ : Temporaries) (f : ℕ) (t : Test) → Full τ
+    → Agree (after s ρ f (asserted m t)) (after s ρ f (asserted (watching m (mirror m) τ) t))
+agree-after s ρ m τ f test.Yes l = both-finish refl l
+agree-after s ρ m τ f test.No l = both-end (λ z. refl)
+agree-after s ρ m τ f (test.Stopped c) l = both-end (λ z. refl)
 
 -- the assertion
-pub agree-assert : {s : ℕ} {m : Memory} {τ : Temporaries} {f : ℕ} {r : Evaluated} {w : WatchedOutcome}
-    → Gives 0 s τ m (mirror m) f r w → Invariant m
-    → Agree (plain.asserted s m f (condition r))
-    (next w (λ m₁ o₁ τ₁ f₁.
-    decide s (condition (heldIn τ₁ 0)) finished (λ m₂ o₂ τ₂ f₂. ended 33 s m₂ o₂ τ₂ f₂) m₁ o₁ τ₁ f₁))
-agree-assert {s} {m} {τ} {f} (gives {v} {τ₁} h l p) y =
-    rw h (agree-decide s (tested v) (tested v) plain.finished _ finished _ refl
-    agree-finish (λ m₁ τ₂ f₁ i l₁. both-end (λ z. refl)) m τ₁ f y l)
-agree-assert stops y = both-end (λ z. refl)
+pub agree-assert : {s : ℕ} {ρ : Variables} {m : Memory} {τ : Temporaries} {f : ℕ} {r : Evaluated}
+    {w : Outcome WatchedState} → Gives 0 s ρ τ m (mirror m) f r w
+    → Agree (after s ρ f (asserted m (condition r)))
+    (next (into 0 w) (λ x g. into 1 (after s ρ g (asserted x (condition (holding x 0))))))
+agree-assert {s} {ρ} {m} {τ} {f} (gives {v} {τ₁} h l p) = rw h (agree-within 1 (agree-after s ρ m τ₁ f (tested v) l))
+agree-assert stops = both-end (λ z. refl)
 
 -- a store: its cell is marked after it
-abbrev markAfter : ℕ → Watching
-markAfter s m o τ f = observed s (calledOn (heldIn τ 0) (initialise o)) m o τ f
+abbrev markAfter : ℕ → Variables → Watching
+markAfter s ρ x f = into 1 (after s ρ f (observed x (initialising 0 x)))
 
-abbrev pub stored : Memory → Pointer → Value → Located → Change
+abbrev pub stored : Memory → Pointer → Value → Located → Change Memory
 stored m p v r = atCell (λ i. changed (setCell m i (cell.Holds (p .name) v))) (λ k. stopped k m) r
 
-agree-stored : (s : ℕ) (m : Memory) (τ : Temporaries) (f : ℕ) (p : Pointer) (v : Value) (r : Located) → Defined v
-    → locate m p ≡ r → temporaryOf τ 0 ≡ temporary.Holds (value.Pointer p) → Full τ
-    → Agree (plain.after s f (stored m p v r)) (next (after s (mirror m) τ f (stored m p v r)) (markAfter s))
-agree-stored s m τ f p v (located.At i) d e t l = rw (t, mirror-initialise m p i v d e) (both-finish refl l)
-agree-stored s m τ f p v located.Dead d e t l = both-end (λ z. refl)
-agree-stored s m τ f p v located.Outside d e t l = both-end (λ z. refl)
+-- a change of the execution memory, in the watched run
+abbrev pub changing : ℕ → Variables → WatchedState → ℕ → Change Memory → Outcome WatchedState
+changing s ρ x f c = into 0 (after s ρ f (changeIn (withMemory x) c))
 
-pub agree-assigned : (s : ℕ) (m : Memory) (τ : Temporaries) (f : ℕ) (x : Found) (r : Evaluated)
-    (x₁ : Temporaries → Memory → Found) (r₁ : Temporaries → Memory → Evaluated) → FairEvaluated r → Full τ
-    → ((t : Temporaries) → x₁ t m ≡ x) → ((t : Temporaries) → r₁ t m ≡ r)
-    → Agree (plain.after s f (assigned m x r))
-    (next (taken s 0 (addressOf (x₁ τ m)) m (mirror m) τ f) (λ m₁ o₁ τ₁ f₁.
-    next (after s o₁ τ₁ f₁ (assigned m₁ (x₁ τ₁ m₁) (r₁ τ₁ m₁))) (markAfter s)))
-agree-assigned s m τ f (found.Stopped c) r x₁ r₁ d l h g = rw (h τ) (both-end (λ z. refl))
-agree-assigned s m τ f (found.Place p) (evaluated.Stopped c) x₁ r₁ d l h g =
+agree-stored : (s : ℕ) (ρ : Variables) (m : Memory) (τ : Temporaries) (f : ℕ) (p : Pointer) (v : Value) (r : Located)
+    → Defined v → locate m p ≡ r → temporaryOf τ 0 ≡ temporary.Holds (value.Pointer p) → Full τ
+    → Agree (after s ρ f (stored m p v r))
+    (next (changing s ρ (watching m (mirror m) τ) f (stored m p v r)) (markAfter s ρ))
+agree-stored s ρ m τ f p v (located.At i) d e t l = rw (t, mirror-initialise m p i v d e) (both-finish refl l)
+agree-stored s ρ m τ f p v located.Dead d e t l = both-end (λ z. refl)
+agree-stored s ρ m τ f p v located.Outside d e t l = both-end (λ z. refl)
+
+pub agree-assigned : (s : ℕ) (ρ : Variables) (m : Memory) (τ : Temporaries) (f : ℕ) (x : Found) (r : Evaluated)
+    (x₁ : WatchedState → Found) (r₁ : WatchedState → Evaluated) → FairEvaluated r → Full τ
+    → ((t : Temporaries) → x₁ (watching m (mirror m) t) ≡ x) → ((t : Temporaries) → r₁ (watching m (mirror m) t) ≡ r)
+    → Agree (after s ρ f (assigned m x r))
+    (next (into 0 (after s ρ f (taken (watching m (mirror m) τ) 0 (addressOf (x₁ (watching m (mirror m) τ))))))
+    (λ y g. into 1 (next (changing s ρ y g (assigned (y .memory) (x₁ y) (r₁ y))) (markAfter s ρ))))
+agree-assigned s ρ m τ f (found.Stopped c) r x₁ r₁ d l h g = rw (h τ) (both-end (λ z. refl))
+agree-assigned s ρ m τ f (found.Place p) (evaluated.Stopped c) x₁ r₁ d l h g =
     rw (h τ, h (put τ 0 (value.Pointer p)), g (put τ 0 (value.Pointer p))) (both-end (λ z. refl))
-agree-assigned s m τ f (found.Place p) (evaluated.Value v) x₁ r₁ d l h g =
+agree-assigned s ρ m τ f (found.Place p) (evaluated.Value v) x₁ r₁ d l h g =
     rw (h τ, h (put τ 0 (value.Pointer p)), g (put τ 0 (value.Pointer p)))
-    (agree-stored s m (put τ 0 (value.Pointer p)) f p v (locate m p) d refl
-    (put-same τ 0 (value.Pointer p) l (omega arith)) (full-put τ 0 (value.Pointer p) l))
+    (agree-within 1 (agree-stored s ρ m (put τ 0 (value.Pointer p)) f p v (locate m p) d refl
+    (put-same τ 0 (value.Pointer p) l (omega arith)) (full-put τ 0 (value.Pointer p) l)))
 
 -- a free: its block is deleted after it
-abbrev deleteAfter : ℕ → Watching
-deleteAfter s m o τ f = observed s (calledOn (heldIn τ 0) (deleteBlock o)) m o τ f
+abbrev deleteAfter : ℕ → Variables → Watching
+deleteAfter s ρ x f = into 1 (after s ρ f (observed x (deleting 0 x)))
 
-agree-freeOf : (s : ℕ) (m : Memory) (τ : Temporaries) (f k : ℕ) (b : Block) → blockOf m k ≡ b
+agree-freeOf : (s : ℕ) (ρ : Variables) (m : Memory) (τ : Temporaries) (f k : ℕ) (b : Block) → blockOf m k ≡ b
     → temporaryOf τ 0 ≡ temporary.Holds (pointerTo k 0) → Full τ
-    → Agree (plain.after s f (freeOf m k b)) (next (after s (mirror m) τ f (freeOf m k b)) (deleteAfter s))
-agree-freeOf s m τ f k block.Unused e t l = both-end (λ z. refl)
-agree-freeOf s m τ f k (block.Fixed first n) e t l = both-end (λ z. refl)
-agree-freeOf s m τ f k (block.Freeable first n) e t l =
+    → Agree (after s ρ f (freeOf m k b))
+    (next (changing s ρ (watching m (mirror m) τ) f (freeOf m k b)) (deleteAfter s ρ))
+agree-freeOf s ρ m τ f k block.Unused e t l = both-end (λ z. refl)
+agree-freeOf s ρ m τ f k (block.Fixed first n) e t l = both-end (λ z. refl)
+agree-freeOf s ρ m τ f k (block.Freeable first n) e t l =
     rw (t, mirror-delete m k first n (ap recordedOf e)) (both-finish refl l)
-agree-freeOf s m τ f k block.Dead e t l = both-end (λ z. refl)
+agree-freeOf s ρ m τ f k block.Dead e t l = both-end (λ z. refl)
 
-agree-freeAt : (s : ℕ) (m : Memory) (τ : Temporaries) (f k : ℕ) (z : ℤ)
+agree-freeAt : (s : ℕ) (ρ : Variables) (m : Memory) (τ : Temporaries) (f k : ℕ) (z : ℤ)
     → temporaryOf τ 0 ≡ temporary.Holds (value.Pointer (record { name = k; offset = z })) → Full τ
     → let c = freed m (evaluated.Value (value.Pointer (record { name = k; offset = z }))) in
-    Agree (plain.after s f c) (next (after s (mirror m) τ f c) (deleteAfter s))
-agree-freeAt s m τ f k (pos zero) t l = agree-freeOf s m τ f k (blockOf m k) refl t l
-agree-freeAt s m τ f k (pos (suc i)) t l = both-end (λ z. refl)
-agree-freeAt s m τ f k (negsuc i) t l = both-end (λ z. refl)
+    Agree (after s ρ f c) (next (changing s ρ (watching m (mirror m) τ) f c) (deleteAfter s ρ))
+agree-freeAt s ρ m τ f k (pos zero) t l = agree-freeOf s ρ m τ f k (blockOf m k) refl t l
+agree-freeAt s ρ m τ f k (pos (suc i)) t l = both-end (λ z. refl)
+agree-freeAt s ρ m τ f k (negsuc i) t l = both-end (λ z. refl)
 
-pub agree-freed : (s : ℕ) (m : Memory) (τ : Temporaries) (f : ℕ) (r : Evaluated)
-    (r₁ : Temporaries → Memory → Evaluated) → Full τ
-    → ((t : Temporaries) → r₁ t m ≡ r)
-    → Agree (plain.after s f (freed m r))
-    (next (taken s 0 (r₁ τ m) m (mirror m) τ f) (λ m₁ o₁ τ₁ f₁.
-    next (after s o₁ τ₁ f₁ (freed m₁ (r₁ τ₁ m₁))) (deleteAfter s)))
-agree-freed s m τ f (evaluated.Stopped c) r₁ l g = rw (g τ) (both-end (λ z. refl))
-agree-freed s m τ f (evaluated.Value v) r₁ l g = rw (g τ, g (put τ 0 v)) (go v)
+pub agree-freed : (s : ℕ) (ρ : Variables) (m : Memory) (τ : Temporaries) (f : ℕ) (r : Evaluated)
+    (r₁ : WatchedState → Evaluated) → Full τ
+    → ((t : Temporaries) → r₁ (watching m (mirror m) t) ≡ r)
+    → Agree (after s ρ f (freed m r))
+    (next (into 0 (after s ρ f (taken (watching m (mirror m) τ) 0 (r₁ (watching m (mirror m) τ)))))
+    (λ y g. into 1 (next (changing s ρ y g (freed (y .memory) (r₁ y))) (deleteAfter s ρ))))
+agree-freed s ρ m τ f (evaluated.Stopped c) r₁ l g = rw (g τ) (both-end (λ z. refl))
+agree-freed s ρ m τ f (evaluated.Value v) r₁ l g = rw (g τ, g (put τ 0 v)) (agree-within 1 (go v))
   where
     go : (v : Value)
-        → Agree (plain.after s f (freed m (evaluated.Value v)))
-        (next (after s (mirror m) (put τ 0 v) f (freed m (evaluated.Value v))) (deleteAfter s))
+        → Agree (after s ρ f (freed m (evaluated.Value v)))
+        (next (changing s ρ (watching m (mirror m) (put τ 0 v)) f (freed m (evaluated.Value v))) (deleteAfter s ρ))
     go value.Undefined = both-end (λ z. refl)
     go (value.Integer z) = both-end (λ z. refl)
     go (value.Pointer p) =
-        agree-freeAt s m (put τ 0 (value.Pointer p)) f (p .name) (p .offset)
+        agree-freeAt s ρ m (put τ 0 (value.Pointer p)) f (p .name) (p .offset)
         (put-same τ 0 (value.Pointer p) l (omega arith)) (full-put τ 0 (value.Pointer p) l)

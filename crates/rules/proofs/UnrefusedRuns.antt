@@ -10,6 +10,7 @@ use lib.ListN.{length}
 use Rattle.rules.specs.Sizes.{memoryLength, observationLength}
 use Rattle.rules.specs.Kinds.{source, target}
 use Rattle.rules.specs.Checker.{check, inputsFault, memoryFault, observationFault}
+use Rattle.rules.specs.Flow.{ending}
 use Rattle.rules.specs.Answers.{refusals}
 use Rattle.rules.specs.Answers.{PlainRun, WatchedRun, plainOutcome, plainRefused, plainEnded, plainBy, runPlain}
 use Rattle.rules.specs.Answers.{watchedOutcome, watchedRefused, watchedEnded, watchedBy, runWatched}
@@ -24,7 +25,7 @@ right-length l n e = ap not (eq-eqb (length l) n e)
 
 -- a run that is not refused
 pub plain-runs : (t i : List ℕ) (f : ℕ) (memory : List ℕ) → check source t ≡ checked.Accepted → inputsFault i ≡ false
-    → length memory ≡ memoryLength → runPlain t i f memory ≡ plainEnded (plainOutcome t i f)
+    → length memory ≡ memoryLength → runPlain t i f memory ≡ plainEnded (ending (plainOutcome t i f))
 plain-runs t i f memory c e h =
     ap (λ x. plainBy x t i f memory) c
     ∙ (λ k.
@@ -33,13 +34,13 @@ plain-runs t i f memory c e h =
       | false ↦
           elim (right-length memory memoryLength h k) as (λ q. PlainRun) [
             | true ↦ plainRefused 21 0 memory
-            | false ↦ plainEnded (plainOutcome t i f)
+            | false ↦ plainEnded (ending (plainOutcome t i f))
           ]
     ])
 
 pub watched-runs : (t i : List ℕ) (f : ℕ) (memory observation : List ℕ) → check target t ≡ checked.Accepted
     → inputsFault i ≡ false → length memory ≡ memoryLength → length observation ≡ observationLength
-    → runWatched t i f memory observation ≡ watchedEnded (watchedOutcome t i f)
+    → runWatched t i f memory observation ≡ watchedEnded (ending (watchedOutcome t i f))
 watched-runs t i f memory observation c e h k =
     ap (λ x. watchedBy x t i f memory observation) c
     ∙ (λ j.
@@ -51,7 +52,7 @@ watched-runs t i f memory observation c e h k =
             | false ↦
                 elim (right-length observation observationLength k j) as (λ q. WatchedRun) [
                   | true ↦ watchedRefused 22 0 memory observation
-                  | false ↦ watchedEnded (watchedOutcome t i f)
+                  | false ↦ watchedEnded (ending (watchedOutcome t i f))
                 ]
           ]
     ])
@@ -59,7 +60,7 @@ watched-runs t i f memory observation c e h k =
 -- "Numbers 1–22 return the number and record (0 where none) and write no lent byte."
 pub data PlainAnswered (t i : List ℕ) (f : ℕ) (memory : List ℕ) : PlainRun → Type 0 where
   refused : {k n : ℕ} → Among refusals k → PlainAnswered t i f memory (plainRefused k n memory)
-  ran : PlainAnswered t i f memory (plainEnded (plainOutcome t i f))
+  ran : PlainAnswered t i f memory (plainEnded (ending (plainOutcome t i f)))
 
 pub plain-answered : (t i : List ℕ) (f : ℕ) (memory : List ℕ) → PlainAnswered t i f memory (runPlain t i f memory)
 plain-answered t i f memory = by-check (check source t) (check-numbered source t)
@@ -69,7 +70,7 @@ plain-answered t i f memory = by-check (check source t) (check-numbered source t
         (elim p as (λ b. PlainRun) [
           | true ↦ plainRefused 9 0 memory
           | false ↦
-              elim q as (λ b. PlainRun) [ true ↦ plainRefused 21 0 memory | false ↦ plainEnded (plainOutcome t i f) ]
+              elim q as (λ b. PlainRun) [ true ↦ plainRefused 21 0 memory | false ↦ plainEnded (ending (plainOutcome t i f)) ]
         ])
     by-tests true q = refused refl
     by-tests false true = refused refl
@@ -82,7 +83,7 @@ plain-answered t i f memory = by-check (check source t) (check-numbered source t
 pub data WatchedAnswered (t i : List ℕ) (f : ℕ) (memory observation : List ℕ) : WatchedRun → Type 0 where
   refused : {k n : ℕ} → Among refusals k
       → WatchedAnswered t i f memory observation (watchedRefused k n memory observation)
-  ran : WatchedAnswered t i f memory observation (watchedEnded (watchedOutcome t i f))
+  ran : WatchedAnswered t i f memory observation (watchedEnded (ending (watchedOutcome t i f)))
 
 pub watched-answered : (t i : List ℕ) (f : ℕ) (memory observation : List ℕ)
     → WatchedAnswered t i f memory observation (runWatched t i f memory observation)
@@ -98,7 +99,7 @@ watched-answered t i f memory observation = by-check (check target t) (check-num
                 | false ↦
                     elim r as (λ b. WatchedRun) [
                       | true ↦ watchedRefused 22 0 memory observation
-                      | false ↦ watchedEnded (watchedOutcome t i f)
+                      | false ↦ watchedEnded (ending (watchedOutcome t i f))
                     ]
               ]
         ])

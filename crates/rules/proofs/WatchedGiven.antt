@@ -1,27 +1,29 @@
 -- A watched run of a sound statement brings no pointer to a name that was never given into a cell or a temporary.
 use Prim.Native.Nat.{ℕ, suc}
-use mathlib.Core.Path.{_≡_, refl, sym, ap, _∙_}
+use mathlib.Core.Path.{_≡_, refl, sym, ap, _∙_, subst}
 use mathlib.Core.Bool.{Bool, true, false, cond, true≢false}
 use lib.Dec.{eqb}
 use borrow.Author.Tests.{eqb-true}
 use Rattle.rules.specs.Trees.{Query, Expression, Place}
 use Rattle.rules.specs.TargetTrees.{TargetStatement, skip, assign, new, free, sequence, branch, while, letIn}
 use Rattle.rules.specs.TargetTrees.{takeAddress, takeValue, takeOperation, takeQuery, takeNot, branchOn}
-use Rattle.rules.specs.TargetTrees.{assertOn, storeBlock, deleteBlock, initialise}
-use Rattle.rules.specs.Memory.{Memory, Change, cellOf, fixed, makeBlock, endBlock, assigned, allocated, freed}
-use Rattle.rules.specs.Memory.{onValue}
-use Rattle.rules.specs.Evaluation.{Variables, evaluate, findPlace, addressOf, operated, opposite, condition}
-use Rattle.rules.specs.Evaluation.{extend}
-use Rattle.rules.specs.Observation.{Observation, Noted, recordOf, markOf, queryObservation}
-use Rattle.rules.specs.Observation as observation
-use Rattle.rules.specs.Watched.{Temporaries, temporaryOf, heldIn, WatchedOutcome, watch, taken, observed}
-use Rattle.rules.specs.Watched.{calledOn, calledOnTwo}
-use Rattle.rules.specs.Watched as watched
+use Rattle.rules.specs.TargetTrees.{assertOn}
+use Rattle.rules.specs.TargetTrees as target
+use Rattle.rules.specs.Memory.{Memory, Change, changeIn, cellOf, fixed, makeBlock, endBlock, assigned, allocated}
+use Rattle.rules.specs.Memory.{freed, onValue}
+use Rattle.rules.specs.Evaluation.{Variables, evaluate, findPlace, addressOf, opposite, condition, extend}
+use Rattle.rules.specs.Observation.{Noted, noted, refused, recordOf, markOf, queryObservation}
+use Rattle.rules.specs.Flow.{Outcome, finished, ended, into, after}
+use Rattle.rules.specs.Plain.{asserted}
+use Rattle.rules.specs.Watched.{Temporaries, temporaryOf, heldIn, WatchedState, withMemory, valueIn, placeIn}
+use Rattle.rules.specs.Watched.{holding, taken, observed, watch}
 use Rattle.rules.proofs.Sound.{Scope, adding, Named, SoundExpression, SoundPlace, SoundTarget}
 use Rattle.rules.proofs.Operations.{operated-gives}
 use Rattle.rules.proofs.Keeping.{AnyNumber, any-test, ChangeKeeps, on-value, on-pointer}
-use Rattle.rules.proofs.Outcomes.{State, WatchedOutcomes, watched-next, watched-after, watched-decide}
-use Rattle.rules.proofs.Outcomes.{watched-turns, watched-inLet, taken-keeps}
+use Rattle.rules.proofs.Outcomes.{Reaches, staying, reach-itself, reach-into, reach-next, reach-after}
+use Rattle.rules.proofs.Outcomes.{reach-decide, reach-turns, reach-let, change-in, made-in, asserted-keeps}
+use Rattle.rules.proofs.TargetRuns.{taken-keeps, operating, querying, negating, storing, deleting, initialising}
+use Rattle.rules.proofs.TargetRuns.{making, closing}
 use Rattle.rules.proofs.Lists.{all-getD, all-set}
 use Rattle.rules.proofs.Invariant.{Invariant}
 use Rattle.rules.proofs.BlockChanges.{end-invariant}
@@ -47,8 +49,12 @@ pub record PointersGiven (σ : Scope) (ρ : Variables) (m : Memory) (τ : Tempor
   pub temporaries : TemporariesGiven m τ
   pub variables : VariablesGiven σ ρ m
 
-abbrev pub GivenState : Scope → Variables → State
-GivenState σ ρ m o τ f = PointersGiven σ ρ m τ
+abbrev pub GivenState : Scope → Variables → WatchedState → Type 0
+GivenState σ ρ x = PointersGiven σ ρ (x .memory) (x .temporaries)
+
+-- a run from any state with it
+abbrev pub GivenOutcome : Scope → Variables → WatchedState → ℕ → Outcome WatchedState → Type 0
+GivenOutcome σ ρ x f o = Reaches (λ y z. GivenState σ ρ z) AnyNumber x f o
 
 -- ---- a let's variable comes into scope, and leaves it
 enter-scope : (σ : Scope) (ρ : Variables) (x k : ℕ) (m : Memory) → VariablesGiven σ ρ m → IsGiven m k
@@ -76,14 +82,20 @@ leave σ ρ x k m τ d i = record {
   variables = leave-scope σ ρ x k m d (i .variables);
 }
 
-leave-outcome : (σ : Scope) (ρ : Variables) (x k : ℕ) (w : WatchedOutcome) → σ x ≡ false
-    → WatchedOutcomes (GivenState (adding σ x) (extend ρ x k)) AnyNumber w → WatchedOutcomes (GivenState σ ρ) AnyNumber w
-leave-outcome σ ρ x k (watched.finished m o τ f) d h = leave σ ρ x k m τ d h
-leave-outcome σ ρ x k (watched.ended c s m o τ f) d h = (tt, leave σ ρ x k m τ d (h .1))
+leave-outcome : (σ : Scope) (ρ : Variables) (y k : ℕ) (x : WatchedState) (f : ℕ) (o : Outcome WatchedState)
+    → σ y ≡ false → GivenOutcome (adding σ y) (extend ρ y k) x f o → GivenOutcome σ ρ x f o
+leave-outcome σ ρ y k x f (finished z g) d h = (leave σ ρ y k (z .memory) (z .temporaries) d (h .0), h .1)
+leave-outcome σ ρ y k x f (ended c s ρ₁ w z g) d h =
+    (tt, (leave σ ρ y k (z .memory) (z .temporaries) d (h .1 .0), h .1 .1))
 
 -- ---- what a statement does
-module _ (σ : Scope) (ρ : Variables) (m : Memory) (o : Observation) (τ : Temporaries) (f : ℕ)
-    (i : PointersGiven σ ρ m τ) where
+module _ (σ : Scope) (ρ : Variables) (x : WatchedState) (i : GivenState σ ρ x) where
+  abbrev m : Memory
+  m = x .memory
+
+  abbrev τ : Temporaries
+  τ = x .temporaries
+
   held-given : (n : ℕ) → EvaluatedHas (GivenValue m) (heldIn τ n)
   held-given n = held-has (GivenValue m) (temporaryOf τ n) (all-getD (i .temporaries) n temporary.Empty tt)
 
@@ -107,21 +119,21 @@ module _ (σ : Scope) (ρ : Variables) (m : Memory) (o : Observation) (τ : Temp
     invariant = h .0 .invariant;
     cells = h .1;
     temporaries = temporaries-stay m m₁ (onward-stay m m₁ (h .0)) (i .temporaries);
-    variables = λ x e. onward-stay m m₁ (h .0) (ρ x) (i .variables x e);
+    variables = λ y e. onward-stay m m₁ (h .0) (ρ y) (i .variables y e);
   }
 
-  changed-given : (s : ℕ) (c : Change) → ChangeKeeps (Changed m) AnyNumber c
-      → WatchedOutcomes (GivenState σ ρ) AnyNumber (watched.after s o τ f c)
-  changed-given s c h = watched-after (GivenState σ ρ) AnyNumber (Changed m) s o τ f c h with-memory
+  changed-given : (c : Change Memory) → ChangeKeeps (Changed m) AnyNumber c
+      → ChangeKeeps (GivenState σ ρ) AnyNumber (changeIn (withMemory x) c)
+  changed-given c h = change-in (Changed m) (GivenState σ ρ) AnyNumber (withMemory x) c with-memory h
 
-  enter : (x k : ℕ) (m₁ : Memory) → MadeGiven m k m₁ → PointersGiven (adding σ x) (extend ρ x k) m₁ τ
-  enter x k m₁ h =
+  enter : (y k : ℕ) (m₁ : Memory) → MadeGiven m k m₁ → PointersGiven (adding σ y) (extend ρ y k) m₁ τ
+  enter y k m₁ h =
       let j = with-memory m₁ (h .0, h .1) in
       record {
         invariant = j .invariant;
         cells = j .cells;
         temporaries = j .temporaries;
-        variables = enter-scope σ ρ x k m₁ (j .variables) (h .2);
+        variables = enter-scope σ ρ y k m₁ (j .variables) (h .2);
       }
 
   end-let : (k : ℕ) → PointersGiven σ ρ (endBlock m k) τ
@@ -129,13 +141,13 @@ module _ (σ : Scope) (ρ : Variables) (m : Memory) (o : Observation) (τ : Temp
     invariant = end-invariant m k (i .invariant);
     cells = endBlock-given m k (i .cells);
     temporaries = temporaries-stay m (endBlock m k) (end-stay m k) (i .temporaries);
-    variables = λ x e. end-stay m k (ρ x) (i .variables x e);
+    variables = λ y e. end-stay m k (ρ y) (i .variables y e);
   }
 
-  taken-given : (s n : ℕ) (e : Evaluated) → EvaluatedHas (GivenValue m) e
-      → WatchedOutcomes (GivenState σ ρ) AnyNumber (taken s n e m o τ f)
-  taken-given s n e h =
-      taken-keeps (GivenState σ ρ) AnyNumber (GivenValue m) s n e m o τ f i h (λ w g. record {
+  taken-given : (n : ℕ) (e : Evaluated) → EvaluatedHas (GivenValue m) e
+      → ChangeKeeps (GivenState σ ρ) AnyNumber (taken x n e)
+  taken-given n e h =
+      taken-keeps (GivenState σ ρ) AnyNumber (GivenValue m) x n e i h (λ w g. record {
         invariant = i .invariant;
         cells = i .cells;
         temporaries = all-set (i .temporaries) n {x = temporary.Holds w} g;
@@ -143,85 +155,101 @@ module _ (σ : Scope) (ρ : Variables) (m : Memory) (o : Observation) (τ : Temp
       })
 
   query-given : (q : Query) (n : ℕ)
-      → EvaluatedHas (GivenValue m) (onValue (heldIn τ n) evaluated.Stopped (queryObservation q o))
+      → EvaluatedHas (GivenValue m) (onValue (heldIn τ n) evaluated.Stopped (queryObservation q (x .observation)))
   query-given q n =
-      on-value (EvaluatedHas (GivenValue m)) AnyNumber evaluated.Stopped (λ c x. tt) (heldIn τ n) _ (held-given n)
+      on-value (EvaluatedHas (GivenValue m)) AnyNumber evaluated.Stopped (λ c y. tt) (heldIn τ n) _ (held-given n)
       (λ v g.
-      on-pointer (EvaluatedHas (GivenValue m)) AnyNumber evaluated.Stopped (λ c x. tt) (GivenValue m) v _ tt g (λ p h.
-      queried-given m q (recordOf o (p .name)) (λ j. markOf o j) p h))
+      on-pointer (EvaluatedHas (GivenValue m)) AnyNumber evaluated.Stopped (λ c y. tt) (GivenValue m) v _ tt g (λ p h.
+      queried-given m q (recordOf (x .observation) (p .name)) (λ j. markOf (x .observation) j) p h))
 
   not-given : (n : ℕ) → EvaluatedHas (GivenValue m) (onValue (heldIn τ n) evaluated.Stopped opposite)
   not-given n =
-      on-value (EvaluatedHas (GivenValue m)) AnyNumber evaluated.Stopped (λ c x. tt) (heldIn τ n) _ (held-given n)
+      on-value (EvaluatedHas (GivenValue m)) AnyNumber evaluated.Stopped (λ c y. tt) (heldIn τ n) _ (held-given n)
       (λ v g. opposite-given m v)
 
-  observed-given : (s : ℕ) (r : Noted) → WatchedOutcomes (GivenState σ ρ) AnyNumber (observed s r m o τ f)
-  observed-given s (observation.noted o₁) = i
-  observed-given s (observation.refused c) = (tt, i)
+  observed-given : (r : Noted) → ChangeKeeps (GivenState σ ρ) AnyNumber (observed x r)
+  observed-given (noted o) = i
+  observed-given (refused c) = (tt, i)
 
-pub watch-given : (a : TargetStatement) (σ : Scope) → SoundTarget a σ → (ρ : Variables)
-    → (m : Memory) (o : Observation) (τ : Temporaries) (f : ℕ) → PointersGiven σ ρ m τ
-    → WatchedOutcomes (GivenState σ ρ) AnyNumber (watch a ρ m o τ f)
+-- one statement that makes a change
+acted : (σ : Scope) (ρ : Variables) (x : WatchedState) (s f : ℕ) (c : Change WatchedState)
+    → ChangeKeeps (GivenState σ ρ) AnyNumber c → GivenOutcome σ ρ x f (after s ρ f c)
+acted σ ρ x s f c h = reach-after AnyNumber (staying (GivenState σ ρ)) x s ρ f c h
+
+pub watch-given : (a : TargetStatement) (σ : Scope) → SoundTarget a σ → (ρ : Variables) (x : WatchedState) (f : ℕ)
+    → GivenState σ ρ x → GivenOutcome σ ρ x f (watch a ρ x f)
 unfolding watch
-watch-given (skip s) σ h ρ m o τ f i = i
-watch-given (assign s p e) σ h ρ m o τ f i =
-    let x = findPlace p (temporaryOf τ) ρ m in
-    let r = evaluate e (temporaryOf τ) ρ m in
-    changed-given σ ρ m o τ f i s (assigned m x r)
-    (assigned-given m (i .invariant) (i .cells) x r
-    (place-given σ ρ m o τ f i p (h .1)) (evaluate-given σ ρ m o τ f i e (h .2)))
-watch-given (new s p e) σ h ρ m o τ f i =
-    let x = findPlace p (temporaryOf τ) ρ m in
-    let r = evaluate e (temporaryOf τ) ρ m in
-    changed-given σ ρ m o τ f i s (allocated m x r)
-    (allocated-given m (i .invariant) (i .cells) x r
-    (place-given σ ρ m o τ f i p (h .1)) (evaluate-given σ ρ m o τ f i e (h .2)))
-watch-given (free s e) σ h ρ m o τ f i =
-    let r = evaluate e (temporaryOf τ) ρ m in
-    changed-given σ ρ m o τ f i s (freed m r)
-    (freed-given m (i .invariant) (i .cells) r (evaluate-given σ ρ m o τ f i e (h .1)))
-watch-given (sequence s a b) σ h ρ m o τ f i =
-    watched-next (GivenState σ ρ) AnyNumber (watch a ρ m o τ f) _ (watch-given a σ (h .1) ρ m o τ f i)
-    (λ m₁ o₁ τ₁ f₁ j. watch-given b σ (h .2) ρ m₁ o₁ τ₁ f₁ j)
-watch-given (branch s e a b) σ h ρ m o τ f i =
-    watched-decide (GivenState σ ρ) AnyNumber s (condition (evaluate e (temporaryOf τ) ρ m)) _ _ m o τ f
-    (any-test (condition (evaluate e (temporaryOf τ) ρ m))) i
-    (watch-given a σ (h .2) ρ m o τ f i) (watch-given b σ (h .3) ρ m o τ f i)
-watch-given (while s e b) σ h ρ m o τ f i =
-    watched-turns (GivenState σ ρ) AnyNumber s _ _ tt (λ m₁ o₁ τ₁ f₁ j. j)
-    (λ m₁ o₁ τ₁ f₁ j. any-test (condition (evaluate e (temporaryOf τ₁) ρ m₁)))
-    (λ m₁ o₁ τ₁ f₁ j. watch-given b σ (h .2) ρ m₁ o₁ τ₁ f₁ j) f m o τ f i
-watch-given (letIn s x b) σ h ρ m o τ f i =
-    watched-inLet (GivenState σ ρ) AnyNumber (MadeGiven m) s (makeBlock m fixed 1) _ m o τ f i
-    (makeBlock-given m fixed 1 (i .invariant) (i .cells))
-    (λ k m₁ j. leave-outcome σ ρ x k (watch b (extend ρ x k) m₁ o τ f) (h .2)
-    (watch-given b (adding σ x) (h .3) (extend ρ x k) m₁ o τ f (enter σ ρ m o τ f i x k m₁ j)))
-    (λ k m₁ j m₂ o₂ τ₂ f₂ l. end-let σ ρ m₂ o₂ τ₂ f₂ l k)
-watch-given (takeAddress s n p) σ h ρ m o τ f i =
-    taken-given σ ρ m o τ f i s n (addressOf (findPlace p (temporaryOf τ) ρ m))
-    (addressOf-has (GivenValue m) (findPlace p (temporaryOf τ) ρ m) (place-given σ ρ m o τ f i p (h .2)))
-watch-given (takeValue s n e) σ h ρ m o τ f i =
-    taken-given σ ρ m o τ f i s n (evaluate e (temporaryOf τ) ρ m) (evaluate-given σ ρ m o τ f i e (h .2))
-watch-given (takeOperation s n q) σ h ρ m o τ f i =
-    taken-given σ ρ m o τ f i s n (operated q (heldIn τ (suc n)) (heldIn τ (suc (suc n))))
-    (operated-gives (GivenValue m) AnyNumber (numbers-given m) (moves-given m) (λ c x. tt) q
-    (heldIn τ (suc n)) (heldIn τ (suc (suc n)))
-    (held-given σ ρ m o τ f i (suc n)) (held-given σ ρ m o τ f i (suc (suc n))))
-watch-given (takeQuery s n q) σ h ρ m o τ f i =
-    taken-given σ ρ m o τ f i s n (onValue (heldIn τ (suc n)) evaluated.Stopped (queryObservation q o))
-    (query-given σ ρ m o τ f i q (suc n))
-watch-given (takeNot s n) σ h ρ m o τ f i =
-    taken-given σ ρ m o τ f i s n (onValue (heldIn τ (suc n)) evaluated.Stopped opposite)
-    (not-given σ ρ m o τ f i (suc n))
-watch-given (branchOn s n a b) σ h ρ m o τ f i =
-    watched-decide (GivenState σ ρ) AnyNumber s (condition (heldIn τ n)) _ _ m o τ f (any-test (condition (heldIn τ n))) i
-    (watch-given a σ (h .2) ρ m o τ f i) (watch-given b σ (h .3) ρ m o τ f i)
-watch-given (assertOn s n) σ h ρ m o τ f i =
-    watched-decide (GivenState σ ρ) AnyNumber s (condition (heldIn τ n)) _ _ m o τ f (any-test (condition (heldIn τ n))) i
-    i (tt, i)
-watch-given (storeBlock s n) σ h ρ m o τ f i =
-    observed-given σ ρ m o τ f i s (calledOnTwo (heldIn τ n) (heldIn τ (suc n)) (observation.storeBlock o))
-watch-given (deleteBlock s n) σ h ρ m o τ f i =
-    observed-given σ ρ m o τ f i s (calledOn (heldIn τ n) (observation.deleteBlock o))
-watch-given (initialise s n) σ h ρ m o τ f i =
-    observed-given σ ρ m o τ f i s (calledOn (heldIn τ n) (observation.initialise o))
+watch-given (skip s) σ h ρ x f i = reach-itself AnyNumber (staying (GivenState σ ρ)) x f i
+watch-given (assign s p e) σ h ρ x f i =
+    let c = assigned (x .memory) (placeIn p ρ x) (valueIn e ρ x) in
+    acted σ ρ x s f (changeIn (withMemory x) c)
+    (changed-given σ ρ x i c (assigned-given (x .memory) (i .invariant) (i .cells) (placeIn p ρ x) (valueIn e ρ x)
+    (place-given σ ρ x i p (h .1)) (evaluate-given σ ρ x i e (h .2))))
+watch-given (new s p e) σ h ρ x f i =
+    let c = allocated (x .memory) (placeIn p ρ x) (valueIn e ρ x) in
+    acted σ ρ x s f (changeIn (withMemory x) c)
+    (changed-given σ ρ x i c (allocated-given (x .memory) (i .invariant) (i .cells) (placeIn p ρ x) (valueIn e ρ x)
+    (place-given σ ρ x i p (h .1)) (evaluate-given σ ρ x i e (h .2))))
+watch-given (free s e) σ h ρ x f i =
+    let c = freed (x .memory) (valueIn e ρ x) in
+    acted σ ρ x s f (changeIn (withMemory x) c)
+    (changed-given σ ρ x i c (freed-given (x .memory) (i .invariant) (i .cells) (valueIn e ρ x)
+    (evaluate-given σ ρ x i e (h .1))))
+watch-given (sequence s a b) σ h ρ x f i =
+    let w = staying (GivenState σ ρ) in
+    reach-next AnyNumber w x f (into 0 (watch a ρ x f)) (λ y g. into 1 (watch b ρ y g))
+    (reach-into AnyNumber w 0 x f (watch a ρ x f) (watch-given a σ (h .1) ρ x f i))
+    (λ y g j l. reach-into AnyNumber w 1 y g (watch b ρ y g) (watch-given b σ (h .2) ρ y g j))
+watch-given (branch s e a b) σ h ρ x f i =
+    let w = staying (GivenState σ ρ) in
+    reach-decide AnyNumber w s ρ (condition (valueIn e ρ x)) x f (into 1 (watch a ρ x f)) (into 2 (watch b ρ x f)) i
+    (any-test (condition (valueIn e ρ x)))
+    (reach-into AnyNumber w 1 x f (watch a ρ x f) (watch-given a σ (h .2) ρ x f i))
+    (reach-into AnyNumber w 2 x f (watch b ρ x f) (watch-given b σ (h .3) ρ x f i))
+watch-given (while s e b) σ h ρ x f i =
+    let w = staying (GivenState σ ρ) in
+    reach-turns AnyNumber w s ρ (λ y. condition (valueIn e ρ y)) (λ y g. into 1 (watch b ρ y g)) tt
+    (λ y j. any-test (condition (valueIn e ρ y)))
+    (λ y g j. reach-into AnyNumber w 1 y g (watch b ρ y g) (watch-given b σ (h .2) ρ y g j)) f x f i
+watch-given (letIn s z b) σ h ρ x f i =
+    reach-let AnyNumber (staying (GivenState σ ρ)) (λ k y. MadeGiven (x .memory) k (y .memory) × (y .temporaries ≡ x .temporaries))
+    s ρ x f (making x) closing (λ k y g. into 0 (watch b (extend ρ z k) y g)) i
+    (made-in (MadeGiven (x .memory)) _ AnyNumber (withMemory x) (makeBlock (x .memory) fixed 1) (λ k m₁ u. (u, refl))
+    (makeBlock-given (x .memory) fixed 1 (i .invariant) (i .cells)))
+    (λ k y g. subst (PointersGiven σ ρ (y .memory)) (sym (g .1)) (with-memory σ ρ x i (y .memory) (g .0 .0, g .0 .1)))
+    (λ k y g. reach-into AnyNumber (staying (GivenState σ ρ)) 0 y f (watch b (extend ρ z k) y f)
+    (leave-outcome σ ρ z k y f (watch b (extend ρ z k) y f) (h .2)
+    (watch-given b (adding σ z) (h .3) (extend ρ z k) y f
+    (subst (PointersGiven (adding σ z) (extend ρ z k) (y .memory)) (sym (g .1)) (enter σ ρ x i z k (y .memory) (g .0))))))
+    (λ k y y₁ g r. end-let σ ρ y₁ r k)
+watch-given (takeAddress s n p) σ h ρ x f i =
+    acted σ ρ x s f (taken x n (addressOf (placeIn p ρ x)))
+    (taken-given σ ρ x i n (addressOf (placeIn p ρ x))
+    (addressOf-has (GivenValue (x .memory)) (placeIn p ρ x) (place-given σ ρ x i p (h .2))))
+watch-given (takeValue s n e) σ h ρ x f i =
+    acted σ ρ x s f (taken x n (valueIn e ρ x)) (taken-given σ ρ x i n (valueIn e ρ x) (evaluate-given σ ρ x i e (h .2)))
+watch-given (takeOperation s n q) σ h ρ x f i =
+    acted σ ρ x s f (taken x n (operating q n x))
+    (taken-given σ ρ x i n (operating q n x)
+    (operated-gives (GivenValue (x .memory)) AnyNumber (numbers-given (x .memory)) (moves-given (x .memory)) (λ c y. tt) q
+    (holding x (suc n)) (holding x (suc (suc n)))
+    (held-given σ ρ x i (suc n)) (held-given σ ρ x i (suc (suc n)))))
+watch-given (takeQuery s n q) σ h ρ x f i =
+    acted σ ρ x s f (taken x n (querying q n x)) (taken-given σ ρ x i n (querying q n x) (query-given σ ρ x i q (suc n)))
+watch-given (takeNot s n) σ h ρ x f i =
+    acted σ ρ x s f (taken x n (negating n x)) (taken-given σ ρ x i n (negating n x) (not-given σ ρ x i (suc n)))
+watch-given (branchOn s n a b) σ h ρ x f i =
+    let w = staying (GivenState σ ρ) in
+    reach-decide AnyNumber w s ρ (condition (holding x n)) x f (into 1 (watch a ρ x f)) (into 2 (watch b ρ x f)) i
+    (any-test (condition (holding x n)))
+    (reach-into AnyNumber w 1 x f (watch a ρ x f) (watch-given a σ (h .2) ρ x f i))
+    (reach-into AnyNumber w 2 x f (watch b ρ x f) (watch-given b σ (h .3) ρ x f i))
+watch-given (assertOn s n) σ h ρ x f i =
+    acted σ ρ x s f (asserted x (condition (holding x n)))
+    (asserted-keeps (GivenState σ ρ) AnyNumber x (condition (holding x n)) tt i (any-test (condition (holding x n))))
+watch-given (target.storeBlock s n) σ h ρ x f i =
+    acted σ ρ x s f (observed x (storing n x)) (observed-given σ ρ x i (storing n x))
+watch-given (target.deleteBlock s n) σ h ρ x f i =
+    acted σ ρ x s f (observed x (deleting n x)) (observed-given σ ρ x i (deleting n x))
+watch-given (target.initialise s n) σ h ρ x f i =
+    acted σ ρ x s f (observed x (initialising n x)) (observed-given σ ρ x i (initialising n x))

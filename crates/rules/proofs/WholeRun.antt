@@ -10,18 +10,18 @@ use lib.ListN.{length, length-replicate}
 use Rattle.rules.specs.Sizes.{inputLimit}
 use Rattle.rules.specs.Trees.{Statement}
 use Rattle.rules.specs.TargetTrees.{TargetStatement}
-use Rattle.rules.specs.Memory.{startMemory}
-use Rattle.rules.specs.Observation.{startObservation, mirror}
-use Rattle.rules.specs.Plain.{Outcome, run, startVariables}
-use Rattle.rules.specs.Past.{PastOutcome, runPast, atFirstFalse}
-use Rattle.rules.specs.Watched.{WatchedOutcome, watch, startTemporaries}
+use Rattle.rules.specs.Memory.{Memory, startMemory}
+use Rattle.rules.specs.Observation.{mirror}
+use Rattle.rules.specs.Flow.{Outcome, Ending, ending}
+use Rattle.rules.specs.Plain.{run, startVariables}
+use Rattle.rules.specs.Past.{PastState, runPast, atFirstFalse}
+use Rattle.rules.specs.Watched.{WatchedState, watch, startTemporaries}
 use Rattle.rules.specs.Translation.{translate}
-use Rattle.rules.specs.Answers.{isIn, refusals, plainEndings}
-use Rattle.rules.specs.Answers.{endingOf, memoryAfter, watchedEndingOf, watchedMemoryAfter, observationAfter}
+use Rattle.rules.specs.Answers.{isIn, refusals, plainEndings, endingAnswer, watchedStart}
 use Rattle.rules.proofs.Sound.{Scope, SoundStatement}
 use Rattle.rules.proofs.Among.{among-none, among-not}
 use Rattle.rules.proofs.PastRun.{past-is}
-use Rattle.rules.proofs.Endings.{PlainEnds, run-endings}
+use Rattle.rules.proofs.Endings.{EndsAmong, run-endings}
 use Rattle.rules.proofs.StatementSteps.{Agree, both-finish, both-end}
 use Rattle.rules.proofs.Simulation.{simulates}
 use Rattle.rules.proofs.Start.{start-invariant}
@@ -30,23 +30,24 @@ use Rattle.rules.proofs.Orderly.{Orderly, plain-orderly, watched-orderl
 use Rattle.rules.specs.declared.Temporary.the-variants as temporary
 
 -- a plain and a watched run come out alike
-pub record Same (p : Outcome) (w : WatchedOutcome) : Type 0 where
-  pub same-ending : endingOf p ≡ watchedEndingOf w
-  pub same-memory : memoryAfter p ≡ watchedMemoryAfter w
-  pub unrefused : (isIn (endingOf p .number) refusals ≡ false) × (isIn (watchedEndingOf w .number) refusals ≡ false)
-  pub mirrors : endingOf p .number ≢ 42 → observationAfter w ≡ mirror (memoryAfter p)
-  pub no-contradiction : (watchedEndingOf w .number ≢ 48) × (watchedEndingOf w .number ≢ 49)
+pub record Same (p : Ending Memory) (w : Ending WatchedState) : Type 0 where
+  pub same-answer : endingAnswer (λ m. m) p ≡ endingAnswer (λ x. x .memory) w
+  pub same-memory : p .state ≡ w .state .memory
+  pub unrefused : (isIn (p .number) refusals ≡ false) × (isIn (w .number) refusals ≡ false)
+  pub mirrors : p .number ≢ 42 → w .state .observation ≡ mirror (p .state)
+  pub no-contradiction : (w .number ≢ 48) × (w .number ≢ 49)
 
-same-of : {p : Outcome} {w : WatchedOutcome} → Agree p w → PlainEnds p → Same p w
+same-of : {p : Outcome Memory} {w : Outcome WatchedState} → Agree p w → EndsAmong plainEndings p
+    → Same (ending p) (ending w)
 same-of (both-finish e l) c = record {
-  same-ending = refl;
+  same-answer = refl;
   same-memory = refl;
   unrefused = (refl, refl);
   mirrors = λ d. e;
   no-contradiction = (omega arith, omega arith);
 }
 same-of (both-end {c = n} h) c = record {
-  same-ending = refl;
+  same-answer = refl;
   same-memory = refl;
   unrefused = (among-none plainEndings refusals n refl c, among-none plainEndings refusals n refl c);
   mirrors = h;
@@ -54,21 +55,22 @@ same-of (both-end {c = n} h) c = record {
 }
 
 -- the runs of a source tree, and a target tree's
-abbrev pub plainFrom : Statement → List ℤ → ℕ → Outcome
+abbrev pub plainFrom : Statement → List ℤ → ℕ → Outcome Memory
 plainFrom a is f = run a startVariables (startMemory is) f
 
-abbrev pub pastFrom : Statement → List ℤ → ℕ → PastOutcome
+abbrev pub pastFrom : Statement → List ℤ → ℕ → Outcome PastState
 pastFrom a is f = runPast a startVariables (startMemory is) f
 
-abbrev pub watchedFrom : TargetStatement → List ℤ → ℕ → WatchedOutcome
-watchedFrom a is f = watch a startVariables (startMemory is) (startObservation (length is)) startTemporaries f
+abbrev pub watchedFrom : TargetStatement → List ℤ → ℕ → Outcome WatchedState
+watchedFrom a is f = watch a startVariables (watchedStart is) f
 
-pub up-to-first-false : (a : Statement) (is : List ℤ) (f : ℕ) → plainFrom a is f ≡ atFirstFalse (pastFrom a is f)
+pub up-to-first-false : (a : Statement) (is : List ℤ) (f : ℕ)
+    → ending (plainFrom a is f) ≡ atFirstFalse (ending (pastFrom a is f))
 up-to-first-false a is f = sym (past-is a startVariables (startMemory is) f)
 
 pub runs-same : (a : Statement) (σ : Scope) (is : List ℤ) (f : ℕ) → SoundStatement a σ → 1 ≤ length is
     → length is ≤ inputLimit
-    → Same (plainFrom a is f) (watchedFrom (translate a) is f)
+    → Same (ending (plainFrom a is f)) (ending (watchedFrom (translate a) is f))
 runs-same a σ is f d h le =
     rw (start-mirrors is h le)
     (same-of
@@ -78,11 +80,9 @@ runs-same a σ is f d h le =
 
 -- what holds of the execution memory after a run, of the translation or of any other target statement
 pub plain-keeps : (a : Statement) (is : List ℤ) (f : ℕ) → length is ≤ inputLimit
-    → Orderly (startMemory is) (memoryAfter (plainFrom a is f))
+    → Orderly (startMemory is) (ending (plainFrom a is f) .state)
 plain-keeps a is f le = plain-orderly a startVariables (startMemory is) f (start-invariant is le)
 
 pub watched-keeps : (a : TargetStatement) (is : List ℤ) (f : ℕ) → length is ≤ inputLimit
-    → Orderly (startMemory is) (watchedMemoryAfter (watchedFrom a is f))
-watched-keeps a is f le =
-    watched-orderly a startVariables (startMemory is) (startObservation (length is)) startTemporaries f
-    (start-invariant is le)
+    → Orderly (startMemory is) (ending (watchedFrom a is f) .state .memory)
+watched-keeps a is f le = watched-orderly a startVariables (watchedStart is) f (start-invariant is le)

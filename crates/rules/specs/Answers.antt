@@ -11,10 +11,10 @@ use Rattle.rules.specs.Kinds.{Language, source, target}
 use Rattle.rules.specs.Checker.{check, inputsFault, memoryFault, observationFault}
 use Rattle.rules.specs.Nodes.{sourceProgram, targetProgram}
 use Rattle.rules.specs.Memory.{Memory, startMemory, countFree}
-use Rattle.rules.specs.Observation.{Observation, startObservation}
-use Rattle.rules.specs.Plain.{Outcome, finished, ended, run, startVariables}
-use Rattle.rules.specs.Watched.{WatchedOutcome, watch, startTemporaries}
-use Rattle.rules.specs.Watched as watched
+use Rattle.rules.specs.Observation.{startObservation}
+use Rattle.rules.specs.Flow.{Outcome, Ending, ending}
+use Rattle.rules.specs.Plain.{run, startVariables}
+use Rattle.rules.specs.Watched.{WatchedState, watching, watch, startTemporaries}
 use Rattle.rules.specs.Translation.{translation}
 use Rattle.rules.specs.Layout.{memoryImage, observationImage}
 use Rattle.rules.specs.declared.Checked.{Checked}
@@ -93,14 +93,9 @@ numbersIn (suc n) i = integerAt i 0 ∷ numbersIn n (drop 8 i)
 abbrev pub inputsOf : List ℕ → List ℤ
 inputsOf i = numbersIn (length i / 8) i
 
--- "Endings return number, source statement, fuel left, free cells. 0 finished (statement 0)."
-abbrev pub endingOf : Outcome → Answer
-endingOf (finished m f) = answer 0 0 f (countFree (m .cells))
-endingOf (ended c s m f) = answer c s f (countFree (m .cells))
-
-abbrev pub memoryAfter : Outcome → Memory
-memoryAfter (finished m f) = m
-memoryAfter (ended c s m f) = m
+-- "Endings return number, source statement, fuel left, free cells."
+abbrev pub endingAnswer : {S : Type 0} → (S → Memory) → Ending S → Answer
+endingAnswer memory e = answer (e .number) (e .statement) (e .fuel) (countFree (memory (e .state) .cells))
 
 -- a plain run's answer and its lent memory
 pub record PlainRun : Type 0 where
@@ -111,11 +106,11 @@ abbrev pub plainRefused : ℕ → ℕ → List ℕ → PlainRun
 plainRefused k n memory = record { answer = answer k n 0 0; memory = memory }
 
 -- "A run clears both memories": what the memory held before counts for nothing
-abbrev pub plainOutcome : List ℕ → List ℕ → ℕ → Outcome
+abbrev pub plainOutcome : List ℕ → List ℕ → ℕ → Outcome Memory
 plainOutcome t i f = run (sourceProgram t) startVariables (startMemory (inputsOf i)) f
 
-abbrev pub plainEnded : Outcome → PlainRun
-plainEnded o = record { answer = endingOf o; memory = memoryImage (memoryAfter o) }
+abbrev pub plainEnded : Ending Memory → PlainRun
+plainEnded e = record { answer = endingAnswer (λ m. m) e; memory = memoryImage (e .state) }
 
 abbrev pub plainBy : Checked → List ℕ → List ℕ → ℕ → List ℕ → PlainRun
 plainBy (checked.Refused k n) t i f memory = plainRefused k n memory
@@ -123,25 +118,13 @@ plainBy checked.Accepted t i f memory =
     elim (inputsFault i) [
       | true ↦ plainRefused 9 0 memory
       | false ↦
-          elim (memoryFault memory) [ true ↦ plainRefused 21 0 memory | false ↦ plainEnded (plainOutcome t i f) ]
+          elim (memoryFault memory) [ true ↦ plainRefused 21 0 memory | false ↦ plainEnded (ending (plainOutcome t i f)) ]
     ]
 
 abbrev pub runPlain : List ℕ → List ℕ → ℕ → List ℕ → PlainRun
 runPlain t i f memory = plainBy (check source t) t i f memory
 
 -- the same of a watched run
-abbrev pub watchedEndingOf : WatchedOutcome → Answer
-watchedEndingOf (watched.finished m o τ f) = answer 0 0 f (countFree (m .cells))
-watchedEndingOf (watched.ended c s m o τ f) = answer c s f (countFree (m .cells))
-
-abbrev pub watchedMemoryAfter : WatchedOutcome → Memory
-watchedMemoryAfter (watched.finished m o τ f) = m
-watchedMemoryAfter (watched.ended c s m o τ f) = m
-
-abbrev pub observationAfter : WatchedOutcome → Observation
-observationAfter (watched.finished m o τ f) = o
-observationAfter (watched.ended c s m o τ f) = o
-
 pub record WatchedRun : Type 0 where
   pub answer : Answer
   pub memory : List ℕ
@@ -150,15 +133,17 @@ pub record WatchedRun : Type 0 where
 abbrev pub watchedRefused : ℕ → ℕ → List ℕ → List ℕ → WatchedRun
 watchedRefused k n memory observation = record { answer = answer k n 0 0; memory = memory; observation = observation }
 
-abbrev pub watchedOutcome : List ℕ → List ℕ → ℕ → WatchedOutcome
-watchedOutcome t i f =
-    watch (targetProgram t) startVariables (startMemory (inputsOf i)) (startObservation (length i / 8)) startTemporaries f
+abbrev pub watchedStart : List ℤ → WatchedState
+watchedStart inputs = watching (startMemory inputs) (startObservation (length inputs)) startTemporaries
 
-abbrev pub watchedEnded : WatchedOutcome → WatchedRun
-watchedEnded w = record {
-  answer = watchedEndingOf w;
-  memory = memoryImage (watchedMemoryAfter w);
-  observation = observationImage (observationAfter w);
+abbrev pub watchedOutcome : List ℕ → List ℕ → ℕ → Outcome WatchedState
+watchedOutcome t i f = watch (targetProgram t) startVariables (watchedStart (inputsOf i)) f
+
+abbrev pub watchedEnded : Ending WatchedState → WatchedRun
+watchedEnded e = record {
+  answer = endingAnswer (λ x. x .memory) e;
+  memory = memoryImage (e .state .memory);
+  observation = observationImage (e .state .observation);
 }
 
 abbrev pub watchedBy : Checked → List ℕ → List ℕ → ℕ → List ℕ → List ℕ → WatchedRun
@@ -173,7 +158,7 @@ watchedBy checked.Accepted t i f memory observation =
                 elim (observationFault observation) [
                   | true ↦ watchedRefused 22 0 memory observation
                   | false ↦
-                      watchedEnded (watchedOutcome t i f)
+                      watchedEnded (ending (watchedOutcome t i f))
                 ]
           ]
     ]

@@ -6,31 +6,30 @@ use lib.ListN.{take}
 use Rattle.rules.specs.Records.{Record, tableBytes}
 use Rattle.rules.specs.Nodes.{sourceProgram}
 use Rattle.rules.specs.Memory.{Memory, blockOf, startMemory}
-use Rattle.rules.specs.Observation.{Observation, recordOf, startObservation}
-use Rattle.rules.specs.Plain.{Outcome, run, startVariables}
-use Rattle.rules.specs.Watched.{WatchedOutcome, watch, startTemporaries}
+use Rattle.rules.specs.Observation.{Observation, recordOf}
+use Rattle.rules.specs.Flow.{Ending, ending}
+use Rattle.rules.specs.Plain.{run, startVariables}
+use Rattle.rules.specs.Watched.{WatchedState, watch}
 use Rattle.rules.specs.Translation.{translate, translation}
 use Rattle.rules.specs.Layout.{blockBytes, recordedBytes}
-use Rattle.rules.specs.Answers.{endingOf, memoryAfter, watchedOutcome, watchedEndingOf, watchedMemoryAfter}
-use Rattle.rules.specs.Answers.{observationAfter}
+use Rattle.rules.specs.Answers.{endingAnswer, watchedStart, watchedOutcome, watchedEnded}
 use Rattle.rules.specs.Cases.{inputs, line, of, literal, stop, five, letFive, p5, p6, p7, p9}
 
 -- a program's plain run, and the watched run of its translation
-unfoldable pub plainly : List Record → Outcome
-plainly rs = run (sourceProgram (tableBytes rs)) startVariables (startMemory (pos 7 ∷ pos 9 ∷ [])) 0
+unfoldable pub plainly : List Record → Ending Memory
+plainly rs = ending (run (sourceProgram (tableBytes rs)) startVariables (startMemory (pos 7 ∷ pos 9 ∷ [])) 0)
 
-unfoldable pub watchedly : List Record → WatchedOutcome
+unfoldable pub watchedly : List Record → Ending WatchedState
 watchedly rs =
-    watch (translate (sourceProgram (tableBytes rs))) startVariables (startMemory (pos 7 ∷ pos 9 ∷ []))
-    (startObservation 2) startTemporaries 0
+    ending (watch (translate (sourceProgram (tableBytes rs))) startVariables (watchedStart (pos 7 ∷ pos 9 ∷ [])) 0)
 
 -- number and statement of both endings
 unfoldable pub stops : List Record → List ℕ
-stops rs = stop (endingOf (plainly rs)) ++ stop (watchedEndingOf (watchedly rs))
+stops rs = stop (endingAnswer (λ m. m) (plainly rs)) ++ stop (endingAnswer (λ x. x .memory) (watchedly rs))
 
 -- and of the watched run's, from the translation's bytes on
 unfoldable pub readBack : List Record → List ℕ
-readBack rs = stop (watchedEndingOf (watchedOutcome (translation (tableBytes rs)) inputs 0))
+readBack rs = stop (watchedEnded (ending (watchedOutcome (translation (tableBytes rs)) inputs 0)) .answer)
 
 -- "reporting 33 where 41 stops the evaluation": in a fresh let, assert x = 1
 abbrev pub undecided : List Record
@@ -61,8 +60,8 @@ states m = take 1 (blockBytes (blockOf m 3)) ++ take 1 (blockBytes (blockOf m 4)
 abbrev pub recordedStates : Observation → List ℕ
 recordedStates o = take 1 (recordedBytes (recordOf o 3)) ++ take 1 (recordedBytes (recordOf o 4))
 
-abbrev pub watchedStates : WatchedOutcome → List ℕ
-watchedStates w = states (watchedMemoryAfter w) ++ recordedStates (observationAfter w)
+abbrev pub watchedStates : WatchedState → List ℕ
+watchedStates x = states (x .memory) ++ recordedStates (x .observation)
 
 -- P5: the inputs are recorded; P6: valid is not initialised; P7: *p is marked where it was before the store; P9: a dead
 -- name is not given again
@@ -71,11 +70,11 @@ told =
     stops (p5 (pos 0))
     ∷ stops p6
     ∷ stops p7
-    ∷ states (memoryAfter (plainly p9))
+    ∷ states (plainly p9 .state)
     ∷ stops undecided
     ∷ (stops later ++ readBack later)
     ∷ stops dangling
-    ∷ (states (memoryAfter (plainly freedBlock)) ++ watchedStates (watchedly freedBlock))
+    ∷ (states (plainly freedBlock .state) ++ watchedStates (watchedly freedBlock .state))
     ∷ []
 
 unfoldable pub right : List (List ℕ)

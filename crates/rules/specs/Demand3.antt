@@ -11,8 +11,9 @@ use Rattle.rules.specs.Kinds.{source, target}
 use Rattle.rules.specs.Checker.{check, inputsFault}
 use Rattle.rules.specs.Nodes.{sourceProgram}
 use Rattle.rules.specs.Memory.{startMemory}
-use Rattle.rules.specs.Plain.{Outcome, startVariables}
-use Rattle.rules.specs.Past.{PastOutcome, runPast, atFirstFalse}
+use Rattle.rules.specs.Flow.{Outcome, ending}
+use Rattle.rules.specs.Plain.{startVariables}
+use Rattle.rules.specs.Past.{PastState, runPast, atFirstFalse}
 use Rattle.rules.specs.Observation.{mirror}
 use Rattle.rules.specs.Translation.{translation}
 use Rattle.rules.specs.Origins.{targetRecords, sum}
@@ -21,7 +22,7 @@ use Rattle.rules.specs.Answers.{isIn, refusals, PlainRun, WatchedRun, in
 use Rattle.rules.specs.declared.Checked.the-variants.{Accepted}
 
 -- "Take the source table run by these rules with one change": the run that goes on past false assertions
-abbrev pub pastOutcome : List ℕ → List ℕ → ℕ → PastOutcome
+abbrev pub pastOutcome : List ℕ → List ℕ → ℕ → Outcome PastState
 pastOutcome t i f = runPast (sourceProgram t) startVariables (startMemory (inputsOf i)) f
 
 -- what plain run p, watched run w of the translation, and the run that goes on past false assertions owe one another
@@ -37,7 +38,7 @@ pub record Agreement (t i : List ℕ) (f : ℕ) (p : PlainRun) (w : WatchedRun) 
   pub same-answer : w .answer ≡ p .answer
   pub same-memory : w .memory ≡ p .memory
   -- "Both runs end 33 at the first that is false, with fuel left and memory as then; with none, both end as this run does."
-  pub first-false : p ≡ plainEnded (atFirstFalse (pastOutcome t i f))
+  pub first-false : p ≡ plainEnded (atFirstFalse (ending (pastOutcome t i f)))
   -- "Live blocks, lengths and initialised cells are those of the plain run's execution memory": the observation memory
   -- names exactly these, but after 42, where a new block may have been made whose pointer could not be stored
   pub exact : p .answer .number ≢ 42 → w .observation ≡ observationImage (mirror (memoryOf (p .memory)))

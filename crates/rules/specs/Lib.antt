@@ -10,6 +10,7 @@ pub mod Nodes
 pub mod Numbers
 pub mod Memory
 pub mod Evaluation
+pub mod Flow
 pub mod Plain
 pub mod Past
 pub mod Observation

@@ -78,16 +78,21 @@ defined (cell.Holds o (value.Pointer p)) = evaluated.Value (value.Pointer p)
 abbrev pub readCell : Memory → Pointer → Evaluated
 readCell m p = atCell (λ i. defined (cellOf m i)) evaluated.Stopped (locate m p)
 
--- a change of the memory, or a stop with the memory as it is then
-pub data Change : Type 0 where
-  changed : Memory → Change
-  stopped : ℕ → Memory → Change
+-- a change of a run's state, the memory or what holds it, or a stop with the state as it is then
+pub data Change (S : Type 0) : Type 0 where
+  changed : S → Change S
+  stopped : ℕ → S → Change S
+
+-- a change of the memory in a state that takes it
+abbrev pub changeIn : {S : Type 0} → (Memory → S) → Change Memory → Change S
+changeIn put (changed m) = changed (put m)
+changeIn put (stopped c m) = stopped c (put m)
 
 -- a store keeps the cell's owner
 abbrev pub setCell : Memory → ℕ → Cell → Memory
 setCell m i c = record { blocks = m .blocks; cells = set (m .cells) i c }
 
-abbrev pub storeCell : Memory → Pointer → Value → Change
+abbrev pub storeCell : Memory → Pointer → Value → Change Memory
 storeCell m p v =
     atCell (λ i. changed (setCell m i (cell.Holds (p .name) v))) (λ k. stopped k m) (locate m p)
 
@@ -137,17 +142,21 @@ withBlock m u k first n = record {
   cells = fill (m .cells) first n (cell.Holds k value.Undefined);
 }
 
--- a new block's name and the memory with it, or "31 all names given", then "30 no run of free cells long enough"
-pub data Made : Type 0 where
-  made : ℕ → Memory → Made
-  unmade : ℕ → Made
+-- a new block's name and the state with it, or "31 all names given", then "30 no run of free cells long enough"
+pub data Made (S : Type 0) : Type 0 where
+  made : ℕ → S → Made S
+  unmade : ℕ → Made S
 
-abbrev pub makeAt : Memory → Use → ℕ → Search → Search → Made
+abbrev pub madeIn : {S : Type 0} → (Memory → S) → Made Memory → Made S
+madeIn put (made k m) = made k (put m)
+madeIn put (unmade c) = unmade c
+
+abbrev pub makeAt : Memory → Use → ℕ → Search → Search → Made Memory
 makeAt m u n search.Nothing run = unmade 31
 makeAt m u n (search.At k) search.Nothing = unmade 30
 makeAt m u n (search.At k) (search.At first) = made k (withBlock m u k first n)
 
-abbrev pub makeBlock : Memory → Use → ℕ → Made
+abbrev pub makeBlock : Memory → Use → ℕ → Made Memory
 makeBlock m u n = makeAt m u n (nextName m) (freeRun m n)
 
 -- a block's end: its cells are free again, its name is dead
@@ -183,40 +192,40 @@ onPointer (value.Integer z) stop next = stop 40
 onPointer (value.Pointer p) stop next = next p
 
 -- "41 place A takes expression B"
-abbrev pub assigned : Memory → Found → Evaluated → Change
+abbrev pub assigned : Memory → Found → Evaluated → Change Memory
 assigned m f e = onPlace f (λ k. stopped k m) (λ p. onValue e (λ k. stopped k m) (λ v. storeCell m p v))
 
 -- "Statement 42 makes the block first and then stores the pointer."
-abbrev pub storeNew : Memory → Pointer → Made → Change
+abbrev pub storeNew : Memory → Pointer → Made Memory → Change Memory
 storeNew m p (made k m₁) = storeCell m₁ p (value.Pointer (record { name = k; offset = pos 0 }))
 storeNew m p (unmade c) = stopped c m
 
 -- "45 size below 1"; "at a new block 45, 31, 30 after 40"
-abbrev pub newOfSize : Memory → Pointer → ℤ → Change
+abbrev pub newOfSize : Memory → Pointer → ℤ → Change Memory
 newOfSize m p (pos zero) = stopped 45 m
 newOfSize m p (pos (suc n)) = storeNew m p (makeBlock m freeable (suc n))
 newOfSize m p (negsuc n) = stopped 45 m
 
 -- "42 place A takes a new block of B cells"
-abbrev pub allocated : Memory → Found → Evaluated → Change
+abbrev pub allocated : Memory → Found → Evaluated → Change Memory
 allocated m f e =
     onPlace f (λ k. stopped k m) (λ p.
     onValue e (λ k. stopped k m) (λ v.
     onInteger v (λ k. stopped k m) (λ z. newOfSize m p z)))
 
 -- "46 free of a pointer to anything but the first cell of a live freeable block"
-abbrev pub freeOf : Memory → ℕ → Block → Change
+abbrev pub freeOf : Memory → ℕ → Block → Change Memory
 freeOf m k block.Unused = stopped 46 m
 freeOf m k (block.Fixed first n) = stopped 46 m
 freeOf m k (block.Freeable first n) = changed (endBlock m k)
 freeOf m k block.Dead = stopped 46 m
 
-abbrev pub freeAt : Memory → ℕ → ℤ → Change
+abbrev pub freeAt : Memory → ℕ → ℤ → Change Memory
 freeAt m k (pos zero) = freeOf m k (blockOf m k)
 freeAt m k (pos (suc o)) = stopped 46 m
 freeAt m k (negsuc o) = stopped 46 m
 
-abbrev pub freed : Memory → Evaluated → Change
+abbrev pub freed : Memory → Evaluated → Change Memory
 freed m e =
     onValue e (λ k. stopped k m) (λ v.
     onPointer v (λ k. stopped k m) (λ p. freeAt m (p .name) (p .offset)))

@@ -8,8 +8,10 @@ use Rattle.rules.specs.TargetTrees.{TargetStatement, skip, assign, new, 
 use Rattle.rules.specs.TargetTrees.{takeAddress, takeValue, takeOperation, takeQuery, takeNot, branchOn}
 use Rattle.rules.specs.TargetTrees.{assertOn}
 use Rattle.rules.specs.TargetTrees as target
-use Rattle.rules.specs.Memory.{Memory, Change, changed, stopped, Use, fixed, Made, made, unmade, makeBlock}
+use Rattle.rules.specs.Memory.{Memory, Change, changed, stopped, changeIn, Use, fixed, madeIn, makeBlock}
 use Rattle.rules.specs.Memory.{endBlock, assigned, allocated, freed, onValue}
+use Rattle.rules.specs.Flow.{Outcome, finished, into, next, after, decide, turns, inLet}
+use Rattle.rules.specs.Plain.{asserted}
 use Rattle.rules.specs.Evaluation.{Variables, Holding, held, evaluate, findPlace, addressOf, operated, opposite}
 use Rattle.rules.specs.Evaluation.{condition, extend}
 use Rattle.rules.specs.Observation.{Observation, Noted, noted, refused, storeBlock, deleteBlock, initialise}
@@ -17,8 +19,7 @@ use Rattle.rules.specs.Observation.{queryObservation}
 use Rattle.rules.specs.declared.Value.{Value}
 use Rattle.rules.specs.declared.Evaluated.{Evaluated}
 use Rattle.rules.specs.declared.Evaluated.the-variants as evaluated
-use Rattle.rules.specs.declared.Test.{Test}
-use Rattle.rules.specs.declared.Test.the-variants as test
+use Rattle.rules.specs.declared.Found.{Found}
 use Rattle.rules.specs.declared.Temporary.{Temporary}
 use Rattle.rules.specs.declared.Temporary.the-variants as temporary
 
@@ -35,48 +36,38 @@ temporaryOf τ n = getD τ n temporary.Empty
 abbrev pub heldIn : Temporaries → ℕ → Evaluated
 heldIn τ n = held (temporaryOf τ n)
 
-pub data WatchedOutcome : Type 0 where
-  finished : Memory → Observation → Temporaries → ℕ → WatchedOutcome
-  ended : ℕ → ℕ → Memory → Observation → Temporaries → ℕ → WatchedOutcome
+-- both memories and the temporaries
+pub record WatchedState : Type 0 where
+  pub memory : Memory
+  pub observation : Observation
+  pub temporaries : Temporaries
 
-abbrev pub Watching : Type 0
-Watching = Memory → Observation → Temporaries → ℕ → WatchedOutcome
+abbrev pub watching : Memory → Observation → Temporaries → WatchedState
+watching m o τ = record { memory = m; observation = o; temporaries = τ }
 
-abbrev pub next : WatchedOutcome → Watching → WatchedOutcome
-next (finished m o τ f) k = k m o τ f
-next (ended c s m o τ f) k = ended c s m o τ f
+abbrev pub withMemory : WatchedState → Memory → WatchedState
+withMemory x m = watching m (x .observation) (x .temporaries)
 
-abbrev pub after : ℕ → Observation → Temporaries → ℕ → Change → WatchedOutcome
-after s o τ f (changed m) = finished m o τ f
-after s o τ f (stopped c m) = ended c s m o τ f
+-- what an expression gives, and where a place leads, in a state
+abbrev pub valueIn : Expression ℕ → Variables → WatchedState → Evaluated
+valueIn e ρ x = evaluate e (temporaryOf (x .temporaries)) ρ (x .memory)
 
-abbrev pub decide : ℕ → Test → Watching → Watching → Watching
-decide s test.Yes x y m o τ f = x m o τ f
-decide s test.No x y m o τ f = y m o τ f
-decide s (test.Stopped c) x y m o τ f = ended c s m o τ f
+abbrev pub placeIn : Place ℕ → Variables → WatchedState → Found
+placeIn p ρ x = findPlace p (temporaryOf (x .temporaries)) ρ (x .memory)
 
--- as in the plain run
-unfoldable pub turns : ℕ → ℕ → (Temporaries → Memory → Test) → Watching → Watching
-turns zero s holds body m o τ f = ended 32 s m o τ f
-turns (suc g) s holds body m o τ zero = ended 32 s m o τ zero
-turns (suc g) s holds body m o τ (suc f) =
-    decide s (holds τ m)
-    (λ m₁ o₁ τ₁ f₁. next (body m₁ o₁ τ₁ f₁) (λ m₂ o₂ τ₂ f₂. turns g s holds body m₂ o₂ τ₂ f₂))
-    finished m o τ f
-
-abbrev pub inLet : ℕ → Made → (ℕ → Watching) → Watching
-inLet s (unmade c) body m o τ f = ended c s m o τ f
-inLet s (made k m₁) body m o τ f = next (body k m₁ o τ f) (λ m₂ o₂ τ₂ f₂. finished (endBlock m₂ k) o₂ τ₂ f₂)
+-- what temporary n holds in a state
+abbrev pub holding : WatchedState → ℕ → Evaluated
+holding x n = heldIn (x .temporaries) n
 
 -- temporary n takes what evaluating gave
-abbrev pub taken : ℕ → ℕ → Evaluated → Watching
-taken s n (evaluated.Value v) m o τ f = finished m o (set τ n (temporary.Holds v)) f
-taken s n (evaluated.Stopped c) m o τ f = ended c s m o τ f
+abbrev pub taken : WatchedState → ℕ → Evaluated → Change WatchedState
+taken x n (evaluated.Value v) = changed (watching (x .memory) (x .observation) (set (x .temporaries) n (temporary.Holds v)))
+taken x n (evaluated.Stopped c) = stopped c x
 
 -- the observation memory takes what a call gave
-abbrev pub observed : ℕ → Noted → Watching
-observed s (noted o₁) m o τ f = finished m o₁ τ f
-observed s (refused c) m o τ f = ended c s m o τ f
+abbrev pub observed : WatchedState → Noted → Change WatchedState
+observed x (noted o) = changed (watching (x .memory) o (x .temporaries))
+observed x (refused c) = stopped c x
 
 -- a call with one temporary, and with two: "49" for either, then "40"
 abbrev pub calledOn : Evaluated → (Value → Noted) → Noted
@@ -85,35 +76,31 @@ calledOn e call = onValue e refused call
 abbrev pub calledOnTwo : Evaluated → Evaluated → (Value → Value → Noted) → Noted
 calledOnTwo a b call = onValue a refused (λ v. onValue b refused (λ w. call v w))
 
-unfoldable pub watch : TargetStatement → Variables → Watching
-watch (skip s) ρ m o τ f = finished m o τ f
-watch (assign s p e) ρ m o τ f =
-    after s o τ f (assigned m (findPlace p (temporaryOf τ) ρ m) (evaluate e (temporaryOf τ) ρ m))
-watch (new s p e) ρ m o τ f =
-    after s o τ f (allocated m (findPlace p (temporaryOf τ) ρ m) (evaluate e (temporaryOf τ) ρ m))
-watch (free s e) ρ m o τ f = after s o τ f (freed m (evaluate e (temporaryOf τ) ρ m))
-watch (sequence s a b) ρ m o τ f = next (watch a ρ m o τ f) (λ m₁ o₁ τ₁ f₁. watch b ρ m₁ o₁ τ₁ f₁)
-watch (branch s e a b) ρ m o τ f =
-    decide s (condition (evaluate e (temporaryOf τ) ρ m))
-    (λ m₁ o₁ τ₁ f₁. watch a ρ m₁ o₁ τ₁ f₁) (λ m₁ o₁ τ₁ f₁. watch b ρ m₁ o₁ τ₁ f₁) m o τ f
-watch (while s e b) ρ m o τ f =
-    turns f s (λ τ₁ m₁. condition (evaluate e (temporaryOf τ₁) ρ m₁))
-    (λ m₁ o₁ τ₁ f₁. watch b ρ m₁ o₁ τ₁ f₁) m o τ f
-watch (letIn s x b) ρ m o τ f =
-    inLet s (makeBlock m fixed 1) (λ k m₁ o₁ τ₁ f₁. watch b (extend ρ x k) m₁ o₁ τ₁ f₁) m o τ f
-watch (takeAddress s n p) ρ m o τ f = taken s n (addressOf (findPlace p (temporaryOf τ) ρ m)) m o τ f
-watch (takeValue s n e) ρ m o τ f = taken s n (evaluate e (temporaryOf τ) ρ m) m o τ f
-watch (takeOperation s n q) ρ m o τ f =
-    taken s n (operated q (heldIn τ (suc n)) (heldIn τ (suc (suc n)))) m o τ f
-watch (takeQuery s n q) ρ m o τ f =
-    taken s n (onValue (heldIn τ (suc n)) evaluated.Stopped (queryObservation q o)) m o τ f
-watch (takeNot s n) ρ m o τ f = taken s n (onValue (heldIn τ (suc n)) evaluated.Stopped opposite) m o τ f
-watch (branchOn s n a b) ρ m o τ f =
-    decide s (condition (heldIn τ n))
-    (λ m₁ o₁ τ₁ f₁. watch a ρ m₁ o₁ τ₁ f₁) (λ m₁ o₁ τ₁ f₁. watch b ρ m₁ o₁ τ₁ f₁) m o τ f
-watch (assertOn s n) ρ m o τ f =
-    decide s (condition (heldIn τ n)) finished (λ m₁ o₁ τ₁ f₁. ended 33 s m₁ o₁ τ₁ f₁) m o τ f
-watch (target.storeBlock s n) ρ m o τ f =
-    observed s (calledOnTwo (heldIn τ n) (heldIn τ (suc n)) (storeBlock o)) m o τ f
-watch (target.deleteBlock s n) ρ m o τ f = observed s (calledOn (heldIn τ n) (deleteBlock o)) m o τ f
-watch (target.initialise s n) ρ m o τ f = observed s (calledOn (heldIn τ n) (initialise o)) m o τ f
+unfoldable pub watch : TargetStatement → Variables → WatchedState → ℕ → Outcome WatchedState
+watch (skip s) ρ x f = finished x f
+watch (assign s p e) ρ x f =
+    after s ρ f (changeIn (withMemory x) (assigned (x .memory) (placeIn p ρ x) (valueIn e ρ x)))
+watch (new s p e) ρ x f =
+    after s ρ f (changeIn (withMemory x) (allocated (x .memory) (placeIn p ρ x) (valueIn e ρ x)))
+watch (free s e) ρ x f = after s ρ f (changeIn (withMemory x) (freed (x .memory) (valueIn e ρ x)))
+watch (sequence s a b) ρ x f = next (into 0 (watch a ρ x f)) (λ x₁ f₁. into 1 (watch b ρ x₁ f₁))
+watch (branch s e a b) ρ x f =
+    decide s ρ (condition (valueIn e ρ x)) x f (into 1 (watch a ρ x f)) (into 2 (watch b ρ x f))
+watch (while s e b) ρ x f =
+    turns f s ρ (λ x₁. condition (valueIn e ρ x₁)) (λ x₁ f₁. into 1 (watch b ρ x₁ f₁)) x f
+watch (letIn s y b) ρ x f =
+    inLet s ρ x f (madeIn (withMemory x) (makeBlock (x .memory) fixed 1)) (λ x₁ k. withMemory x₁ (endBlock (x₁ .memory) k))
+    (λ k x₁ f₁. into 0 (watch b (extend ρ y k) x₁ f₁))
+watch (takeAddress s n p) ρ x f = after s ρ f (taken x n (addressOf (placeIn p ρ x)))
+watch (takeValue s n e) ρ x f = after s ρ f (taken x n (valueIn e ρ x))
+watch (takeOperation s n q) ρ x f = after s ρ f (taken x n (operated q (holding x (suc n)) (holding x (suc (suc n)))))
+watch (takeQuery s n q) ρ x f =
+    after s ρ f (taken x n (onValue (holding x (suc n)) evaluated.Stopped (queryObservation q (x .observation))))
+watch (takeNot s n) ρ x f = after s ρ f (taken x n (onValue (holding x (suc n)) evaluated.Stopped opposite))
+watch (branchOn s n a b) ρ x f =
+    decide s ρ (condition (holding x n)) x f (into 1 (watch a ρ x f)) (into 2 (watch b ρ x f))
+watch (assertOn s n) ρ x f = after s ρ f (asserted x (condition (holding x n)))
+watch (target.storeBlock s n) ρ x f =
+    after s ρ f (observed x (calledOnTwo (holding x n) (holding x (suc n)) (storeBlock (x .observation))))
+watch (target.deleteBlock s n) ρ x f = after s ρ f (observed x (calledOn (holding x n) (deleteBlock (x .observation))))
+watch (target.initialise s n) ρ x f = after s ρ f (observed x (calledOn (holding x n) (initialise (x .observation))))

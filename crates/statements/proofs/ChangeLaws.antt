@@ -37,10 +37,10 @@ pub becomes-then : {a b c : List ℕ} {m m₁ : Memory} → Becomes a b m → Be
 becomes-then p q = record { view = q .view; exact = λ x. q .exact (p .exact x) }
 
 -- ---- what a change does
-pub does-is : {x y : Change} {r : ℕ} {a b : List ℕ} → x ≡ y → Does y r a b → Does x r a b
-does-is {x} {y} {r} {a} {b} e h = subst (λ (z : Change). Does z r a b) (sym e) h
+pub does-is : {x y : Change Memory} {r : ℕ} {a b : List ℕ} → x ≡ y → Does y r a b → Does x r a b
+does-is {x} {y} {r} {a} {b} e h = subst (λ (z : Change Memory). Does z r a b) (sym e) h
 
-pub does-then : {x : Change} {r : ℕ} {m : Memory} {a b c : List ℕ} → Becomes a b m → Does x r b c → Does x r a c
+pub does-then : {x : Change Memory} {r : ℕ} {m : Memory} {a b c : List ℕ} → Becomes a b m → Does x r b c → Does x r a c
 does-then p h = record { number = h .number; memory = becomes-then p (h .memory) }
 
 pub does-stop : (k : ℕ) (l : List ℕ) → Does (stopped k (memoryOf l)) k l l
@@ -66,12 +66,12 @@ isName (making.Name k) = true
 isName (making.Stopped c) = false
 
 -- what it answers tells how it went
-pub made-by : (x : Made) (k : ℕ) (m : Memory) → making.Name k ≡ makingOf x → x ≡ made k (madeMemory m x)
+pub made-by : (x : Made Memory) (k : ℕ) (m : Memory) → making.Name k ≡ makingOf x → x ≡ made k (madeMemory m x)
 unfolding nameOf isName
 made-by (made j m₁) k m e = ap (λ (i : ℕ). made i m₁) (sym (ap nameOf e))
 made-by (unmade c) k m e = absurd (false≢true (sym (ap isName e)))
 
-pub unmade-by : (x : Made) (c : ℕ) → making.Stopped c ≡ makingOf x → x ≡ unmade c
+pub unmade-by : (x : Made Memory) (c : ℕ) → making.Stopped c ≡ makingOf x → x ≡ unmade c
 unfolding nameOf isName
 unmade-by (made j m₁) c e = absurd (false≢true (ap isName e))
 unmade-by (unmade d) c e = ap unmade (sym (ap nameOf e))
@@ -85,7 +85,7 @@ pub name-fits : (m : Memory) (u : Use) (n k : ℕ) → making.Name k ≡ makingO
 name-fits m u n k e =
     subst (MadeKeeps (λ k m₁. FitsName k) AnyNumber) (made-by (makeBlock m u n) k m e) (made-name m u n)
 
-module _ (p : Pointer) (x : Made) (l l₁ : List ℕ) (w : Becomes l l₁ (madeMemory (memoryOf l) x)) where
+module _ (p : Pointer) (x : Made Memory) (l l₁ : List ℕ) (w : Becomes l l₁ (madeMemory (memoryOf l) x)) where
   pub does-new : (k r : ℕ) (l₂ : List ℕ) → making.Name k ≡ makingOf x
       → Does (storeCell (memoryOf l₁) p (pointerTo k)) r l₁ l₂ → Does (storeNew (memoryOf l) p x) r l l₂
   does-new k r l₂ e h =

@@ -17,10 +17,11 @@ use Rattle.rules.specs.Nodes.{targetStatement, targetProgram}
 use Rattle.rules.specs.TargetTrees.{TargetStatement}
 use Rattle.rules.specs.Memory.{Memory, countFree, startMemory}
 use Rattle.rules.specs.Observation.{Observation, startObservation}
+use Rattle.rules.specs.Flow.{Ending, ending}
 use Rattle.rules.specs.Plain.{startVariables}
-use Rattle.rules.specs.Watched.{Temporaries, startTemporaries, WatchedOutcome, finished, ended, watch}
+use Rattle.rules.specs.Watched.{Temporaries, startTemporaries, WatchedState, watching, watch}
 use Rattle.rules.specs.Layout.{cellFrom, memoryOf, memoryImage, observationOf, observationImage}
-use Rattle.rules.specs.Answers.{answer, inputsOf, watchedEndingOf, watchedMemoryAfter, watchedOutcome, watchedEnded}
+use Rattle.rules.specs.Answers.{answer, inputsOf, watchedOutcome, watchedEnded}
 use Rattle.rules.specs.Answers.{watchedRefused, watchedBy, WatchedRun}
 use Rattle.rules.specs.declared.Answer.{Answer}
 use Rattle.rules.specs.declared.Checked.{Checked}
@@ -36,10 +37,11 @@ use Rattle.rules.proofs.LayoutLaws.{memory-back, observation-back}
 use Rattle.rules.proofs.Reachable.{startVariables-fit, startTemporaries-fit}
 use Rattle.rules.proofs.ReachableRoundTrip.{start-inside, watched-round-trip}
 use Rattle.rules.proofs.Padding.{node-padded}
+use Rattle.rules.proofs.Inputs.{inputs-length}
 use Rattle.rules.proofs.TargetFields.{statementAt}
 use Rattle.temporaries.specs.Bytes.{temporaryIn, temporaryPlace, temporaryAt, temporariesOf}
 use Rattle.endings.specs.declared.Ended.{Ended}
-use Rattle.watched_statements.specs.Watching.{lent, Ready, resultOf, Ran, Leaves, watchFrom, AnsweredBy}
+use Rattle.watched_statements.specs.Watching.{lent, Ready, Ran, LeavesSo, Leaves, watchFrom, AnsweredBy}
 
 -- ---- the start
 pub temporaries-start : temporariesOf (replicate 1024 0) ≡ startTemporaries
@@ -51,16 +53,16 @@ temporaries-start = table-all 64 0 (temporaryAt (replicate 1024 0)) temporary.Em
         ap (λ (k : ℕ). temporaryIn (cellFrom k 0 (wordAt 2 (replicate 1024 0) (temporaryPlace n + 2))
         (integerAt (replicate 1024 0) (temporaryPlace n + 8)))) (getD-zero 1024 (temporaryPlace n))
 
-pub leaves-is : {v w : WatchedOutcome} {r : Ended} {l l₁ o o₁ : List ℕ} → v ≡ w → Leaves w r l l₁ o o₁
-    → Leaves v r l l₁ o o₁
-leaves-is {v} {w} {r} {l} {l₁} {o} {o₁} e h = subst (λ (u : WatchedOutcome). Leaves u r l l₁ o o₁) (sym e) h
+pub leaves-is : {e d : Ending WatchedState} {r : Ended} {l l₁ o o₁ : List ℕ} → e ≡ d → LeavesSo d r l l₁ o o₁
+    → LeavesSo e r l l₁ o o₁
+leaves-is {e} {d} {r} {l} {l₁} {o} {o₁} q h = subst (λ (u : Ending WatchedState). LeavesSo u r l l₁ o o₁) (sym q) h
 
 -- a run from there
 pub leaves-start : (s : TargetStatement) (f : ℕ) (r : Ended) (l l₁ o o₁ τ₁ : List ℕ)
     → Ran (watchFrom s startVariables (lent l o (replicate 1024 0)) f) r (lent l o (replicate 1024 0)) (lent l₁ o₁ τ₁)
-    → Leaves (watch s startVariables (memoryOf l) (observationOf o) startTemporaries f) r l l₁ o o₁
+    → Leaves (watch s startVariables (watching (memoryOf l) (observationOf o) startTemporaries) f) r l l₁ o o₁
 leaves-start s f r l l₁ o o₁ τ₁ w =
-    subst (λ (τ : Temporaries). Leaves (watch s startVariables (memoryOf l) (observationOf o) τ f) r l l₁ o o₁)
+    subst (λ (τ : Temporaries). Leaves (watch s startVariables (watching (memoryOf l) (observationOf o) τ) f) r l l₁ o o₁)
     temporaries-start (record { answer = w .answer; memory = w .memory; observation = w .observation })
 
 module _ (t l : List ℕ) (h : check target t ≡ checked.Accepted) where
@@ -89,12 +91,6 @@ module _ (t l : List ℕ) (h : check target t ≡ checked.Accepted) where
       }
 
 -- ---- the end
-ending-is : (w : WatchedOutcome)
-    → answer (resultOf w .number) (resultOf w .statement) (resultOf w .fuel) (countFree (watchedMemoryAfter w .cells))
-    ≡ watchedEndingOf w
-ending-is (finished m o τ f) = refl
-ending-is (ended c s m o τ f) = refl
-
 module _ (i : List ℕ) (e : inputsFault i ≡ false) (l o : List ℕ) (s : l ≡ memoryImage (startMemory (inputsOf i)))
     (u : o ≡ observationImage (startObservation (length i / 8))) where
   start-fits : FitsMemory (startMemory (inputsOf i))
@@ -103,32 +99,34 @@ module _ (i : List ℕ) (e : inputsFault i ≡ false) (l o : List ℕ) (s : l �
   start-view : memoryOf l ≡ startMemory (inputsOf i)
   start-view = ap memoryOf s ∙ memory-back (startMemory (inputsOf i)) start-fits
 
-  observation-view : observationOf o ≡ startObservation (length i / 8)
+  observation-view : observationOf o ≡ startObservation (length (inputsOf i))
   observation-view =
-      ap observationOf u ∙ observation-back (startObservation (length i / 8)) (startObservation-fits (length i / 8))
+      ap observationOf u
+      ∙ observation-back (startObservation (length i / 8)) (startObservation-fits (length i / 8))
+      ∙ ap startObservation (sym (inputs-length i))
 
   pub start-ready : FitsMemory (memoryOf l) × FitsObservation (observationOf o)
   start-ready = (
     subst FitsMemory (sym start-view) start-fits,
-    subst FitsObservation (sym observation-view) (startObservation-fits (length i / 8)),
+    subst FitsObservation (sym observation-view) (startObservation-fits (length (inputsOf i))),
   )
 
   -- what a run leaves is exact
   pub entry-ends : (t : List ℕ) (f : ℕ) (r : Ended) (l₁ o₁ : List ℕ) (k : ℕ)
-      → Leaves (watch (targetProgram t) startVariables (memoryOf l) (observationOf o) startTemporaries f) r l l₁ o o₁
+      → Leaves (watch (targetProgram t) startVariables (watching (memoryOf l) (observationOf o) startTemporaries) f) r
+      l l₁ o o₁
       → k ≡ countFree (memoryOf l₁ .cells)
-      → AnsweredBy (watchedEnded (watchedOutcome t i f)) (answer (r .number) (r .statement) (r .fuel) k) l₁ o₁
+      → AnsweredBy (watchedEnded (ending (watchedOutcome t i f))) (answer (r .number) (r .statement) (r .fuel) k) l₁ o₁
   entry-ends t f r l₁ o₁ k w g =
       let v : Leaves (watchedOutcome t i f) r l l₁ o o₁ =
-      (subst (λ (m : Memory). Leaves (watch (targetProgram t) startVariables m (startObservation (length i / 8))
-      startTemporaries f) r l l₁ o o₁) start-view
-      (subst (λ (x : Observation). Leaves (watch (targetProgram t) startVariables (memoryOf l) x startTemporaries f) r
-      l l₁ o o₁) observation-view w)) in
+      (subst (λ (m : Memory). Leaves (watch (targetProgram t) startVariables
+      (watching m (startObservation (length (inputsOf i))) startTemporaries) f) r l l₁ o o₁) start-view
+      (subst (λ (x : Observation). Leaves (watch (targetProgram t) startVariables
+      (watching (memoryOf l) x startTemporaries) f) r l l₁ o o₁) observation-view w)) in
       record {
         answer =
-            (λ j. answer (v .answer j .number) (v .answer j .statement) (v .answer j .fuel)
-            ((g ∙ ap (λ (m : Memory). countFree (m .cells)) (v .memory .view)) j))
-            ∙ ending-is (watchedOutcome t i f);
+            λ j. answer (v .answer j .number) (v .answer j .statement) (v .answer j .fuel)
+            ((g ∙ ap (λ (m : Memory). countFree (m .cells)) (v .memory .view)) j);
         memory = v .memory .exact (s ∙ ap memoryImage (sym start-view)) ∙ ap memoryImage (v .memory .view);
         observation =
             v .observation .exact (u ∙ ap observationImage (sym observation-view))
@@ -137,7 +135,7 @@ module _ (i : List ℕ) (e : inputsFault i ≡ false) (l o : List ℕ) (s : l �
 
 -- it has the length of its memory
 pub exit-lengths : (t i : List ℕ) (f : ℕ) (r : Answer) (l o : List ℕ) → check target t ≡ checked.Accepted
-    → inputsFault i ≡ false → AnsweredBy (watchedEnded (watchedOutcome t i f)) r l o
+    → inputsFault i ≡ false → AnsweredBy (watchedEnded (ending (watchedOutcome t i f))) r l o
     → (length l ≡ 18424) × (length o ≡ 3064)
 exit-lengths t i f r l o h e w =
     let x = watched-round-trip t i f (accepted-program target t h .last .sound) e in
@@ -166,7 +164,7 @@ module _ (t i : List ℕ) (f : ℕ) (m o : List ℕ) where
             elim c [
               | true ↦ watchedRefused 21 0 m o
               | false ↦
-                  elim d [ true ↦ watchedRefused 22 0 m o | false ↦ watchedEnded (watchedOutcome t i f) ]
+                  elim d [ true ↦ watchedRefused 22 0 m o | false ↦ watchedEnded (ending (watchedOutcome t i f)) ]
             ]
       ])
   by-faults b c d p q r =
@@ -176,7 +174,7 @@ module _ (t i : List ℕ) (f : ℕ) (m o : List ℕ) where
             elim (q j) [
               | true ↦ watchedRefused 21 0 m o
               | false ↦
-                  elim (r j) [ true ↦ watchedRefused 22 0 m o | false ↦ watchedEnded (watchedOutcome t i f) ]
+                  elim (r j) [ true ↦ watchedRefused 22 0 m o | false ↦ watchedEnded (ending (watchedOutcome t i f)) ]
             ]
       ]
 
@@ -201,7 +199,7 @@ module _ (t i : List ℕ) (f : ℕ) (m o : List ℕ) where
   refuse-observation r p q x w = refused-as 22 r (by-faults false false true p q x) w
 
   pub run-both : (r : Answer) (m₁ o₁ : List ℕ) → inputsFault i ≡ false → memoryFault m ≡ false
-      → observationFault o ≡ false → AnsweredBy (watchedEnded (watchedOutcome t i f)) r m₁ o₁
+      → observationFault o ≡ false → AnsweredBy (watchedEnded (ending (watchedOutcome t i f))) r m₁ o₁
       → AnsweredBy (watchedBy checked.Accepted t i f m o) r m₁ o₁
   run-both r m₁ o₁ p q x h =
       subst (λ (y : WatchedRun). AnsweredBy y r m₁ o₁) (sym (by-faults false false false p q x)) h

@@ -5,8 +5,9 @@ ghost use lib.ListN.{replicate};
 ghost use Rattle.rules.specs.Kinds.{target};
 ghost use Rattle.rules.specs.Checker.{check, inputsFault, memoryFault, observationFault};
 ghost use Rattle.rules.specs.Nodes.{targetProgram};
+ghost use Rattle.rules.specs.Flow.{ending};
 ghost use Rattle.rules.specs.Plain.{startVariables};
-ghost use Rattle.rules.specs.Watched.{watch, startTemporaries};
+ghost use Rattle.rules.specs.Watched.{watching, watch, startTemporaries};
 ghost use Rattle.rules.specs.Layout.{memoryOf, observationOf};
 ghost use Rattle.rules.specs.Answers.{watchedEnded, watchedOutcome, watchedBy, runWatched};
 ghost use Rattle.rules.specs.declared.Checked.the-variants as checked;
@@ -26,8 +27,8 @@ fn run_from_start(
     fuel: u32,
 ) -> Ended
     requires { ⌜ Ready (now table) n startVariables (lent (now mem) (now obs) (replicate 1024 0)) ⌝ }
-    ensures { λ r. ⌜ Leaves (watch (statementAt (now (table .entry)) n) startVariables (memoryOf (now (mem .entry)))
-        (observationOf (now (obs .entry))) startTemporaries fuel) r
+    ensures { λ r. ⌜ Leaves (watch (statementAt (now (table .entry)) n) startVariables (watching (memoryOf (now (mem .entry)))
+        (observationOf (now (obs .entry))) startTemporaries) fuel) r
         (now (mem .entry)) (now (mem .exit)) (now (obs .entry)) (now (obs .exit)) ⌝ }
 {
     let variables = variables::start_variables();
@@ -39,8 +40,8 @@ fn run_from_start(
 fn run_table(table: &[u8], mem: &mut [u8; 18424], obs: &mut [u8; 3064], fuel: u32) -> Ended
     requires { ⌜ (check target (now table) ≡ checked.Accepted) × FitsMemory (memoryOf (now mem))
         × FitsObservation (observationOf (now obs)) ⌝ }
-    ensures { λ r. ⌜ Leaves (watch (targetProgram (now (table .entry))) startVariables (memoryOf (now (mem .entry)))
-        (observationOf (now (obs .entry))) startTemporaries fuel) r
+    ensures { λ r. ⌜ Leaves (watch (targetProgram (now (table .entry))) startVariables (watching (memoryOf (now (mem .entry)))
+        (observationOf (now (obs .entry))) startTemporaries) fuel) r
         (now (mem .entry)) (now (mem .exit)) (now (obs .entry)) (now (obs .exit)) ⌝ }
 {
     let mut whole = [0u8; 65536];
@@ -57,7 +58,7 @@ fn run_memories(
     obs: &mut [u8; 3064],
 ) -> Answer
     requires { ⌜ (check target (now table) ≡ checked.Accepted) × (inputsFault (now inputs) ≡ false) ⌝ }
-    ensures { λ r. ⌜ AnsweredBy (watchedEnded (watchedOutcome (now (table .entry)) (now (inputs .entry)) fuel)) r
+    ensures { λ r. ⌜ AnsweredBy (watchedEnded (ending (watchedOutcome (now (table .entry)) (now (inputs .entry)) fuel))) r
         (now (mem .exit)) (now (obs .exit)) ⌝ }
 {
     starting::start(mem, inputs);
@@ -82,7 +83,7 @@ fn run_inputs(
 ) -> Answer
     requires { ⌜ (check target (now table) ≡ checked.Accepted) × (inputsFault (now inputs) ≡ false)
         × (memoryFault (now memory) ≡ false) × (observationFault (now observation) ≡ false) ⌝ }
-    ensures { λ r. ⌜ AnsweredBy (watchedEnded (watchedOutcome (now (table .entry)) (now (inputs .entry)) fuel)) r
+    ensures { λ r. ⌜ AnsweredBy (watchedEnded (ending (watchedOutcome (now (table .entry)) (now (inputs .entry)) fuel))) r
         (now (memory .exit)) (now (observation .exit)) ⌝ }
 {
     let mut mem = [0u8; 18424];

@@ -6,18 +6,20 @@ use mathlib.Core.Logic.{_≢_, inl, inr}
 use mathlib.Core.Path.{_≡_, refl, sym, ap, _∙_}
 use Rattle.rules.specs.Kinds.{target, expression, statement}
 use Rattle.rules.specs.Records.{kindOf, markOf, childA, childB, childC}
-use Rattle.rules.specs.Memory.{Memory, fixed, Made, made, makeBlock, endBlock}
-use Rattle.rules.specs.Observation.{Observation}
+use Rattle.rules.specs.Memory.{Memory, fixed, Made, made, unmade, madeIn, makeBlock, endBlock}
+use Rattle.rules.specs.Flow.{Outcome, finished, ended, Ending, ending, into, next, decide, inLet}
 use Rattle.rules.specs.TargetTrees.{TargetStatement}
-use Rattle.rules.specs.Evaluation.{Variables, evaluate, condition, extend}
-use Rattle.rules.specs.Watched.{Temporaries, temporaryOf, WatchedOutcome, finished, ended, Watching, next}
-use Rattle.rules.specs.Watched.{decide, inLet, watch}
-use Rattle.rules.specs.Layout.{memoryOf, observationOf}
+use Rattle.rules.specs.Evaluation.{Variables, condition, extend}
+use Rattle.rules.specs.Watched.{Temporaries, WatchedState, watching, withMemory, valueIn, watch}
+use Rattle.rules.specs.Layout.{memoryOf}
 use Rattle.rules.specs.declared.Test.{Test}
-use Rattle.rules.proofs.Fuel.{watchedFuelOf, watch-fuel}
+use Rattle.rules.proofs.Fuel.{watch-fuel}
+use Rattle.rules.proofs.Outcomes.{into-ending, next-ending, decide-ending}
+use Rattle.rules.proofs.TargetRuns.{closing}
 use Rattle.rules.proofs.StatementArms.{sequence-children, while-children}
 use Rattle.rules.proofs.TargetFields.{Under, expressionAt, statementAt, numberAt}
-use Rattle.rules.proofs.TargetArms.{watch-branch, watch-branch-on, watch-while-zero, watch-while-suc, watch-let}
+use Rattle.rules.proofs.TargetArms.{watch-sequence, watch-branch, watch-branch-on, watch-while-zero, watch-while-suc}
+use Rattle.rules.proofs.TargetArms.{watch-let}
 use Rattle.cells.specs.Changes.{Becomes}
 use Rattle.blocks.specs.Blocks.{makingOf, madeMemory}
 use Rattle.blocks.specs.declared.Making.the-variants as making
@@ -25,8 +27,8 @@ use Rattle.temporaries.specs.Bytes.{temporariesOf}
 use Rattle.endings.specs.declared.Ended.{Ended}
 use Rattle.endings.specs.Ending.{result}
 use Rattle.statements.proofs.ChangeLaws.{becomes-is, made-by, unmade-by}
-use Rattle.watched_statements.specs.Watching.{Lent, lent, goFrom, watchFrom, LentFits, Ready, Inside, enclosed}
-use Rattle.watched_statements.specs.Watching.{resultOf, Ran}
+use Rattle.watched_statements.specs.Watching.{Lent, lent, stateOf, watchFrom, LentFits, Ready, Inside, enclosed}
+use Rattle.watched_statements.specs.Watching.{Ran}
 use Rattle.choices.specs.Branches.{IsBranch, choice}
 use Rattle.choices.proofs.Choices.{choice-on, choice-of}
 use Rattle.watched_statements.proofs.Laws.{observation-same, Kept, kept-then, ran-kept, ran-is, ran-from}
@@ -36,9 +38,6 @@ use Rattle.watched_statements.proofs.ReadyLaws.{run-kept}
 module _ {t : List ℕ} {n : ℕ} {ρ : Variables} {x : Lent} (h : Ready t n ρ x) where
   abbrev memory : Memory
   memory = memoryOf (x .memory)
-
-  abbrev observation : Observation
-  observation = observationOf (x .observation)
 
   abbrev temporaries : Temporaries
   temporaries = temporariesOf (x .temporaries)
@@ -51,73 +50,96 @@ module _ {t : List ℕ} {n : ℕ} {ρ : Variables} {x : Lent} (h : Ready t n ρ 
   while-parts = while-children target t n (h .is)
 
   -- a branch, by a condition or by a temporary
-  abbrev deciding : Test → ℕ → WatchedOutcome
-  deciding y f =
-      goFrom (decide (numberAt t n) y (λ m₁ o₁ τ₁ f₁. watch (statementAt t (childB t n)) ρ m₁ o₁ τ₁ f₁)
-      (λ m₁ o₁ τ₁ f₁. watch (statementAt t (childC t n)) ρ m₁ o₁ τ₁ f₁)) x f
+  abbrev part : ℕ → WatchedState → ℕ → Outcome WatchedState
+  part k y g = watch (statementAt t k) ρ y g
+
+  abbrev deciding : Test → ℕ → Outcome WatchedState
+  deciding y f = decide (numberAt t n) ρ y (stateOf x) f (part (childB t n) (stateOf x) f) (part (childC t n) (stateOf x) f)
+
+  decided : (y : Test) (f : ℕ)
+      → ending (decide (numberAt t n) ρ y (stateOf x) f (into 1 (part (childB t n) (stateOf x) f))
+      (into 2 (part (childC t n) (stateOf x) f)))
+      ≡ ending (deciding y f)
+  decided y f =
+      decide-ending (numberAt t n) ρ y (stateOf x) f _ _ _ _ (into-ending 1 (part (childB t n) (stateOf x) f))
+      (into-ending 2 (part (childC t n) (stateOf x) f))
 
   chosen : IsBranch (kindOf t n) → (f : ℕ)
-      → watchFrom (statementAt t n) ρ x f ≡ deciding (choice t n temporaries ρ memory) f
+      → ending (watchFrom (statementAt t n) ρ x f) ≡ ending (deciding (choice t n temporaries ρ memory) f)
   chosen (inl e) f =
-      watch-branch t n (h .is) ρ memory observation temporaries f e
-      ∙ ap (λ (y : Test). deciding y f) (choice-of t n temporaries ρ memory (λ d. omega (arith, e, d)))
+      ap ending (watch-branch t n (h .is) ρ (stateOf x) f e)
+      ∙ decided _ f
+      ∙ ap (λ (y : Test). ending (deciding y f)) (choice-of t n temporaries ρ memory (λ d. omega (arith, e, d)))
   chosen (inr e) f =
-      watch-branch-on t n (h .is) ρ memory observation temporaries f e
-      ∙ ap (λ (y : Test). deciding y f) (choice-on t n temporaries ρ memory e)
+      ap ending (watch-branch-on t n (h .is) ρ (stateOf x) f e)
+      ∙ decided _ f
+      ∙ ap (λ (y : Test). ending (deciding y f)) (choice-on t n temporaries ρ memory e)
 
   pub branch-by : IsBranch (kindOf t n) → (f : ℕ) (y : Test) → choice t n temporaries ρ memory ≡ y
-      → watchFrom (statementAt t n) ρ x f ≡ deciding y f
-  branch-by q f y e = chosen q f ∙ ap (λ (z : Test). deciding z f) e
+      → ending (watchFrom (statementAt t n) ρ x f) ≡ ending (deciding y f)
+  branch-by q f y e = chosen q f ∙ ap (λ (z : Test). ending (deciding z f)) e
 
   -- a turn of a while, from the bytes y
   abbrev conditionIn : Lent → Test
-  conditionIn y =
-      condition
-      (evaluate (expressionAt t (childA t n)) (temporaryOf (temporariesOf (y .temporaries))) ρ (memoryOf (y .memory)))
+  conditionIn y = condition (valueIn (expressionAt t (childA t n)) ρ (stateOf y))
 
-  abbrev turning : Lent → Test → ℕ → WatchedOutcome
+  abbrev turning : Lent → Test → ℕ → Outcome WatchedState
   turning y z f =
-      goFrom (decide (numberAt t n) z (λ m₁ o₁ τ₁ f₁. next (watch (statementAt t (childB t n)) ρ m₁ o₁ τ₁ f₁)
-      (λ m₂ o₂ τ₂ f₂. watch (statementAt t n) ρ m₂ o₂ τ₂ f₂)) finished) y f
+      decide (numberAt t n) ρ z (stateOf y) f (next (part (childB t n) (stateOf y) f) (λ w g. part n w g))
+      (finished (stateOf y) f)
 
   pub turn-by : kindOf t n ≡ 46 → (y : Lent) (f : ℕ) → 0 < f → (z : Test) → conditionIn y ≡ z
-      → watchFrom (statementAt t n) ρ y f ≡ turning y z (f - 1)
+      → ending (watchFrom (statementAt t n) ρ y f) ≡ ending (turning y z (f - 1))
   turn-by q y f p z e =
       let d : f ≡ suc (f - 1) = omega arith in
-      ap (λ (k : ℕ). watchFrom (statementAt t n) ρ y k) d
-      ∙ watch-while-suc t n (h .is) q ρ (memoryOf (y .memory)) (observationOf (y .observation))
-      (temporariesOf (y .temporaries)) (f - 1)
-      ∙ ap (λ (u : Test). turning y u (f - 1)) e
+      ap (λ (k : ℕ). ending (watchFrom (statementAt t n) ρ y k)) d
+      ∙ ap ending (watch-while-suc t n (h .is) q ρ (stateOf y) (f - 1))
+      ∙ decide-ending (numberAt t n) ρ (conditionIn y) (stateOf y) (f - 1) _ _ _ _
+      (next-ending 1 (part (childB t n) (stateOf y) (f - 1)) _ _ (λ w g. refl)) refl
+      ∙ ap (λ (u : Test). ending (turning y u (f - 1))) e
 
   pub turn-out : kindOf t n ≡ 46 → (y : Lent) (f : ℕ) → f ≤ 0
-      → watchFrom (statementAt t n) ρ y f ≡ goFrom (ended 32 (numberAt t n)) y 0
+      → ending (watchFrom (statementAt t n) ρ y f)
+      ≡ record { number = 32; statement = numberAt t n; state = stateOf y; fuel = 0 }
   turn-out q y f p =
       let d : f ≡ 0 = omega arith in
-      ap (λ (k : ℕ). watchFrom (statementAt t n) ρ y k) d
-      ∙ watch-while-zero t n (h .is) q ρ (memoryOf (y .memory)) (observationOf (y .observation))
-      (temporariesOf (y .temporaries))
+      ap (λ (k : ℕ). ending (watchFrom (statementAt t n) ρ y k)) d
+      ∙ ap ending (watch-while-zero t n (h .is) q ρ (stateOf y))
+
+  -- a sequence
+  pub sequence-by : kindOf t n ≡ 44 → (y : Lent) (f : ℕ)
+      → ending (watchFrom (statementAt t n) ρ y f)
+      ≡ ending (next (watchFrom (statementAt t (childA t n)) ρ y f) (λ w g. part (childB t n) w g))
+  sequence-by q y f =
+      ap ending (watch-sequence t n (h .is) ρ (stateOf y) f q)
+      ∙ next-ending 0 (part (childA t n) (stateOf y) f) _ _ (λ w g. into-ending 1 (part (childB t n) w g))
 
   -- a let, and its block, made in memory
   module _ (q : kindOf t n ≡ 47) {l : List ℕ}
       (w : Becomes (x .memory) l (madeMemory memory (makeBlock memory fixed 1))) where
-    abbrev block : Made
+    abbrev block : Made Memory
     block = makeBlock memory fixed 1
 
-    enclosing : (f : ℕ) (y : Made) → block ≡ y
-        → watchFrom (statementAt t n) ρ x f
-        ≡ goFrom (inLet (numberAt t n) y
-        (λ k m₁ o₁ τ₁ f₁. watch (statementAt t (childA t n)) (extend ρ (markOf t n) k) m₁ o₁ τ₁ f₁)) x f
+    abbrev inside : ℕ → WatchedState → ℕ → Outcome WatchedState
+    inside k y g = watch (statementAt t (childA t n)) (extend ρ (markOf t n) k) y g
+
+    abbrev letting : ℕ → Made Memory → Outcome WatchedState
+    letting f z =
+        inLet (numberAt t n) ρ (stateOf x) f (madeIn (withMemory (stateOf x)) z) closing (λ k y g. into 0 (inside k y g))
+
+    enclosing : (f : ℕ) (y : Made Memory) → block ≡ y
+        → ending (watchFrom (statementAt t n) ρ x f) ≡ ending (letting f y)
     enclosing f y e =
-        watch-let t n (h .is) ρ memory observation temporaries f q
-        ∙ ap (λ (z : Made). goFrom (inLet (numberAt t n) z
-        (λ k m₁ o₁ τ₁ f₁. watch (statementAt t (childA t n)) (extend ρ (markOf t n) k) m₁ o₁ τ₁ f₁)) x f) e
+        ap ending (watch-let t n (h .is) ρ (stateOf x) f q) ∙ ap (λ (z : Made Memory). ending (letting f z)) e
 
     pub let-made : (f : ℕ) {k : ℕ} → making.Name k ≡ makingOf block
-        → watchFrom (statementAt t n) ρ x f ≡ enclosed t n ρ (lent l (x .observation) (x .temporaries)) f k
+        → ending (watchFrom (statementAt t n) ρ x f)
+        ≡ ending (enclosed t n ρ (lent l (x .observation) (x .temporaries)) f k)
     let-made f {k} e =
         enclosing f (made k (madeMemory memory block)) (made-by block k memory e)
-        ∙ ap (λ (m : Memory). next (watch (statementAt t (childA t n)) (extend ρ (markOf t n) k) m
-        observation temporaries f) (λ m₁ o₁ τ₁ f₁. finished (endBlock m₁ k) o₁ τ₁ f₁)) (sym (w .view))
+        ∙ next-ending 0 (inside k (withMemory (stateOf x) (madeMemory memory block)) f) _ _ (λ y g. refl)
+        ∙ ap (λ (m : Memory). ending (next (inside k (withMemory (stateOf x) m) f) (λ y g. finished (closing y k) g)))
+        (sym (w .view))
 
     pub let-unmade : (f c : ℕ) → making.Stopped c ≡ makingOf block
         → Ran (watchFrom (statementAt t n) ρ x f) (result c (numberAt t n) f) x
@@ -135,7 +157,7 @@ module _ {t : List ℕ} {n : ℕ} {ρ : Variables} {x : Lent} (h : Ready t n ρ 
 -- what ran so far of statement n: statement m is left to run
 pub record Remaining (t : List ℕ) (n : ℕ) (ρ : Variables) (entry : Lent) (fuel m : ℕ) (x : Lent) (left : ℕ)
     : Type 0 where
-  pub rest : watchFrom (statementAt t n) ρ entry fuel ≡ watchFrom (statementAt t m) ρ x left
+  pub rest : ending (watchFrom (statementAt t n) ρ entry fuel) ≡ ending (watchFrom (statementAt t m) ρ x left)
   pub bytes : Kept entry x
   pub fits : LentFits x
 
@@ -144,15 +166,15 @@ pub record Part (t : List ℕ) (n : ℕ) (ρ : Variables) (entry : Lent) (fuel m
     (r : Ended) (y : Lent) : Type 0 where
   pub earlier : Remaining t n ρ entry fuel m x left
   pub ran : Ran (watchFrom (statementAt t b) ρ x f) r x y
-  pub leads : watchFrom (statementAt t m) ρ x left
-      ≡ next (watchFrom (statementAt t b) ρ x f) (λ m₂ o₂ τ₂ f₂. watch (statementAt t k) ρ m₂ o₂ τ₂ f₂)
+  pub leads : ending (watchFrom (statementAt t m) ρ x left)
+      ≡ ending (next (watchFrom (statementAt t b) ρ x f) (λ w g. watch (statementAt t k) ρ w g))
 
 module _ {t : List ℕ} {n : ℕ} {ρ : Variables} {entry : Lent} {fuel m : ℕ} {x : Lent} {left b k f : ℕ} {r : Ended}
     {y : Lent} (p : Part t n ρ entry fuel m x left b k f r y) where
-  abbrev following : Watching
-  following m₂ o₂ τ₂ f₂ = watch (statementAt t k) ρ m₂ o₂ τ₂ f₂
+  abbrev following : WatchedState → ℕ → Outcome WatchedState
+  following w g = watch (statementAt t k) ρ w g
 
-  finish : r .number ≡ 0 → watchFrom (statementAt t b) ρ x f ≡ goFrom finished y (r .fuel)
+  finish : r .number ≡ 0 → watchFrom (statementAt t b) ρ x f ≡ finished (stateOf y) (r .fuel)
   finish d = watch-finished (statementAt t b) ρ f following r x y (p .ran) d
 
   pub part-ends : r .number ≢ 0 → Ran (watchFrom (statementAt t n) ρ entry fuel) r entry y
@@ -162,7 +184,7 @@ module _ {t : List ℕ} {n : ℕ} {ρ : Variables} {entry : Lent} {fuel m : ℕ}
 
   pub part-finishes : r .number ≡ 0 → Ready t b ρ x → Remaining t n ρ entry fuel k y (r .fuel)
   part-finishes d h = record {
-    rest = p .earlier .rest ∙ p .leads ∙ ap (λ (u : WatchedOutcome). next u following) (finish d);
+    rest = p .earlier .rest ∙ p .leads ∙ ap (λ (u : Outcome WatchedState). ending (next u following)) (finish d);
     bytes = kept-then (p .earlier .bytes) (ran-kept (p .ran));
     fits = run-kept t b ρ x h f r y (p .ran);
   }
@@ -171,16 +193,15 @@ module _ {t : List ℕ} {n : ℕ} {ρ : Variables} {entry : Lent} {fuel m : ℕ}
   part-spends d z =
       omega (
         arith,
-        ap watchedFuelOf (finish d),
-        watch-fuel (statementAt t b) ρ (memoryOf (x .memory)) (observationOf (x .observation))
-            (temporariesOf (x .temporaries)) f,
+        ap (λ (u : Outcome WatchedState). ending u .fuel) (finish d),
+        watch-fuel (statementAt t b) ρ (stateOf x) f,
       )
 
 -- a let's child ran: where it finished, the block ends
 module _ {t : List ℕ} {n : ℕ} {ρ : Variables} {k : ℕ} {r : Ended} {x y : Lent} (i : Inside t n ρ x k) (f : ℕ)
     (w : Ran (watchFrom (statementAt t (childA t n)) (extend ρ (markOf t n) k) x f) r x y) where
-  abbrev closing : Watching
-  closing m₁ o₁ τ₁ f₁ = finished (endBlock m₁ k) o₁ τ₁ f₁
+  abbrev ended-block : WatchedState → ℕ → Outcome WatchedState
+  ended-block w g = finished (closing w k) g
 
   abbrev child : TargetStatement
   child = statementAt t (childA t n)
@@ -188,13 +209,16 @@ module _ {t : List ℕ} {n : ℕ} {ρ : Variables} {k : ℕ} {r : Ended} {x y : 
   pub inside-ends : r .number ≡ 0 → {l : List ℕ} → Becomes (y .memory) l (endBlock (memoryOf (y .memory)) k)
       → Ran (enclosed t n ρ x f k) r x (lent l (y .observation) (y .temporaries))
   inside-ends e {l} v =
-      next-goes child (extend ρ (markOf t n) k) f closing r x y w r (lent l (y .observation) (y .temporaries)) e
+      next-goes child (extend ρ (markOf t n) k) f ended-block r x y w r (lent l (y .observation) (y .temporaries)) e
       (record {
-        answer = w .answer ∙ ap resultOf (watch-finished child (extend ρ (markOf t n) k) f closing r x y w e);
+        answer =
+            w .answer
+            ∙ ap (λ (u : Outcome WatchedState). result (ending u .number) (ending u .statement) (ending u .fuel))
+            (watch-finished child (extend ρ (markOf t n) k) f ended-block r x y w e);
         memory = v;
         observation = observation-same refl;
         temporaries = refl;
       })
 
   pub inside-stays : r .number ≢ 0 → Ran (enclosed t n ρ x f k) r x y
-  inside-stays e = next-stays child (extend ρ (markOf t n) k) f closing r x y w e
+  inside-stays e = next-stays child (extend ρ (markOf t n) k) f ended-block r x y w e

@@ -9,12 +9,13 @@ use mathlib.Core.Path.{_≡_, refl, sym, ap, _∙_, subst}
 use borrow.Author.Tests.{ne-eqb}
 use Rattle.rules.specs.Kinds.{statement}
 use Rattle.rules.specs.Records.{kindOf, markOf, childC}
-use Rattle.rules.specs.Memory.{Memory, Change, changed, stopped}
+use Rattle.rules.specs.Memory.{Memory, Change, changed, stopped, changeIn}
 use Rattle.rules.specs.Evaluation.{Variables}
 use Rattle.rules.specs.Observation.{Observation, Noted, noted, refused}
 use Rattle.rules.specs.TargetTrees.{TargetStatement}
-use Rattle.rules.specs.Watched.{Temporaries, WatchedOutcome, finished, ended, Watching, after, decide, taken}
-use Rattle.rules.specs.Watched.{observed, watch}
+use Rattle.rules.specs.Flow.{Outcome, ending, after}
+use Rattle.rules.specs.Plain.{asserted}
+use Rattle.rules.specs.Watched.{WatchedState, withMemory, taken, observed, watch}
 use Rattle.rules.specs.Layout.{memoryOf, observationOf}
 use Rattle.rules.specs.declared.Evaluated.{Evaluated}
 use Rattle.rules.specs.declared.Evaluated.the-variants as evaluated
@@ -22,7 +23,7 @@ use Rattle.rules.specs.declared.Test.{Test}
 use Rattle.rules.specs.declared.Test.the-variants as test
 use Rattle.rules.specs.Answers.{watchedEndings}
 use Rattle.rules.proofs.Among.{Among}
-use Rattle.rules.proofs.Endings.{WatchedEnds, watch-endings}
+use Rattle.rules.proofs.Endings.{EndsAmong, watch-endings}
 use Rattle.rules.proofs.TargetFields.{HasSort, statementAt, numberAt, statement-kinds}
 use Rattle.rules.proofs.TargetArms.{watch-operation, watch-query, watch-not, watch-store-block, watch-delete-block}
 use Rattle.rules.proofs.TargetArms.{watch-initialise}
@@ -34,17 +35,22 @@ use Rattle.steps.specs.Steps.{Takes, IsTake, takenOf}
 use Rattle.steps.proofs.StepLaws.{take-operation-is, take-query-is, take-not-is}
 use Rattle.noting.specs.Calls.{Observes, IsNote, noteOf}
 use Rattle.noting.proofs.CallLaws.{note-record, note-delete, note-mark}
-use Rattle.watched_statements.specs.Watching.{lent, goFrom, watchFrom, IsAct, Ran}
+use Rattle.watched_statements.specs.Watching.{lent, stateOf, watchFrom, IsAct, Ran}
 use Rattle.watched_statements.proofs.Laws.{observation-same, ran-is, ends-above}
 
 concluded-stop : (c s f : ℕ) → Among watchedEndings c → concluded c s f ≡ result c s f
 concluded-stop c s f h = ap (λ (b : Bool). cond b (result 0 0 f) (result c s f)) (ne-eqb c 0 (ends-above c h))
 
 -- the outcome by a change of the memory, a value for a temporary, a call, and an assertion
-module _ (l o τ : List ℕ) (s f r : ℕ) where
-  ran-change : (c : Change) (l₁ : List ℕ) → WatchedEnds (after s (observationOf o) (temporariesOf τ) f c)
-      → Does c r l l₁
-      → Ran (after s (observationOf o) (temporariesOf τ) f c) (concluded r s f) (lent l o τ) (lent l₁ o τ)
+module _ (l o τ : List ℕ) (s : ℕ) (ρ : Variables) (f r : ℕ) where
+  abbrev here : WatchedState
+  here = stateOf (lent l o τ)
+
+  abbrev Ends : Change WatchedState → Type 0
+  Ends c = EndsAmong watchedEndings (after s ρ f c)
+
+  ran-change : (c : Change Memory) (l₁ : List ℕ) → Ends (changeIn (withMemory here) c) → Does c r l l₁
+      → Ran (after s ρ f (changeIn (withMemory here) c)) (concluded r s f) (lent l o τ) (lent l₁ o τ)
   ran-change (changed m) l₁ h w = record {
     answer = rw (w .number) refl;
     memory = w .memory;
@@ -58,8 +64,8 @@ module _ (l o τ : List ℕ) (s f r : ℕ) where
     temporaries = refl;
   }
 
-  ran-taken : (n : ℕ) (e : Evaluated) (τ₁ : List ℕ) → WatchedEnds (goFrom (taken s n e) (lent l o τ) f)
-      → Takes τ τ₁ r n e → Ran (goFrom (taken s n e) (lent l o τ) f) (concluded r s f) (lent l o τ) (lent l o τ₁)
+  ran-taken : (n : ℕ) (e : Evaluated) (τ₁ : List ℕ) → Ends (taken here n e) → Takes τ τ₁ r n e
+      → Ran (after s ρ f (taken here n e)) (concluded r s f) (lent l o τ) (lent l o τ₁)
   ran-taken n (evaluated.Value v) τ₁ h w = record {
     answer = rw (w .number) refl;
     memory = becomes-same refl;
@@ -73,8 +79,8 @@ module _ (l o τ : List ℕ) (s f r : ℕ) where
     temporaries = w .temporaries;
   }
 
-  ran-observed : (z : Noted) (o₁ : List ℕ) → WatchedEnds (goFrom (observed s z) (lent l o τ) f) → Observes o o₁ r z
-      → Ran (goFrom (observed s z) (lent l o τ) f) (concluded r s f) (lent l o τ) (lent l o₁ τ)
+  ran-observed : (z : Noted) (o₁ : List ℕ) → Ends (observed here z) → Observes o o₁ r z
+      → Ran (after s ρ f (observed here z)) (concluded r s f) (lent l o τ) (lent l o₁ τ)
   ran-observed (noted x) o₁ h w = record {
     answer = rw (w .number) refl;
     memory = becomes-same refl;
@@ -88,11 +94,8 @@ module _ (l o τ : List ℕ) (s f r : ℕ) where
     temporaries = refl;
   }
 
-  abbrev asserted : Test → Watching
-  asserted t m₁ o₁ τ₁ f₁ = decide s t finished (λ m₂ o₂ τ₂ f₂. ended 33 s m₂ o₂ τ₂ f₂) m₁ o₁ τ₁ f₁
-
-  ran-asserted : (t : Test) → WatchedEnds (goFrom (asserted t) (lent l o τ) f) → r ≡ assertNumber t
-      → Ran (goFrom (asserted t) (lent l o τ) f) (concluded r s f) (lent l o τ) (lent l o τ)
+  ran-asserted : (t : Test) → Ends (asserted here t) → r ≡ assertNumber t
+      → Ran (after s ρ f (asserted here t)) (concluded r s f) (lent l o τ) (lent l o τ)
   ran-asserted test.Yes h e = record {
     answer = rw e refl;
     memory = becomes-same refl;
@@ -114,55 +117,63 @@ module _ (l o τ : List ℕ) (s f r : ℕ) where
 
 -- a statement whose outcome is one of these
 module _ (a : TargetStatement) (ρ : Variables) (l o τ : List ℕ) (s r : ℕ) where
-  ends : (f : ℕ) (w : WatchedOutcome) → watchFrom a ρ (lent l o τ) f ≡ w → WatchedEnds w
-  ends f w e = subst WatchedEnds e (watch-endings a ρ (memoryOf l) (observationOf o) (temporariesOf τ) f)
+  ends : (f : ℕ) (w : Outcome WatchedState) → watchFrom a ρ (lent l o τ) f ≡ w → EndsAmong watchedEndings w
+  ends f w e = subst (EndsAmong watchedEndings) e (watch-endings a ρ (stateOf (lent l o τ)) f)
 
-  pub acts-change : (c : Change) (l₁ : List ℕ)
-      → ((f : ℕ) → watchFrom a ρ (lent l o τ) f ≡ after s (observationOf o) (temporariesOf τ) f c) → Does c r l l₁
+  pub acts-change : (c : Change Memory) (l₁ : List ℕ)
+      → ((f : ℕ) → watchFrom a ρ (lent l o τ) f ≡ after s ρ f (changeIn (withMemory (stateOf (lent l o τ))) c))
+      → Does c r l l₁
       → (f : ℕ) → Ran (watchFrom a ρ (lent l o τ) f) (concluded r s f) (lent l o τ) (lent l₁ o τ)
-  acts-change c l₁ e w f = ran-is (e f) (ran-change l o τ s f r c l₁ (ends f _ (e f)) w)
+  acts-change c l₁ e w f = ran-is (ap ending (e f)) (ran-change l o τ s ρ f r c l₁ (ends f _ (e f)) w)
 
   pub acts-taken : (n : ℕ) (v : Evaluated) (τ₁ : List ℕ)
-      → ((f : ℕ) → watchFrom a ρ (lent l o τ) f ≡ goFrom (taken s n v) (lent l o τ) f) → Takes τ τ₁ r n v
+      → ((f : ℕ) → watchFrom a ρ (lent l o τ) f ≡ after s ρ f (taken (stateOf (lent l o τ)) n v)) → Takes τ τ₁ r n v
       → (f : ℕ) → Ran (watchFrom a ρ (lent l o τ) f) (concluded r s f) (lent l o τ) (lent l o τ₁)
-  acts-taken n v τ₁ e w f = ran-is (e f) (ran-taken l o τ s f r n v τ₁ (ends f _ (e f)) w)
+  acts-taken n v τ₁ e w f = ran-is (ap ending (e f)) (ran-taken l o τ s ρ f r n v τ₁ (ends f _ (e f)) w)
 
   pub acts-observed : (z : Noted) (o₁ : List ℕ)
-      → ((f : ℕ) → watchFrom a ρ (lent l o τ) f ≡ goFrom (observed s z) (lent l o τ) f) → Observes o o₁ r z
+      → ((f : ℕ) → watchFrom a ρ (lent l o τ) f ≡ after s ρ f (observed (stateOf (lent l o τ)) z)) → Observes o o₁ r z
       → (f : ℕ) → Ran (watchFrom a ρ (lent l o τ) f) (concluded r s f) (lent l o τ) (lent l o₁ τ)
-  acts-observed z o₁ e w f = ran-is (e f) (ran-observed l o τ s f r z o₁ (ends f _ (e f)) w)
+  acts-observed z o₁ e w f = ran-is (ap ending (e f)) (ran-observed l o τ s ρ f r z o₁ (ends f _ (e f)) w)
 
   pub acts-asserted : (t : Test)
-      → ((f : ℕ) → watchFrom a ρ (lent l o τ) f ≡ goFrom (asserted l o τ s f r t) (lent l o τ) f) → r ≡ assertNumber t
+      → ((f : ℕ) → watchFrom a ρ (lent l o τ) f ≡ after s ρ f (asserted (stateOf (lent l o τ)) t)) → r ≡ assertNumber t
       → (f : ℕ) → Ran (watchFrom a ρ (lent l o τ) f) (concluded r s f) (lent l o τ) (lent l o τ)
-  acts-asserted t e w f = ran-is (e f) (ran-asserted l o τ s f r t (ends f _ (e f)) w)
+  acts-asserted t e w f = ran-is (ap ending (e f)) (ran-asserted l o τ s ρ f r t (ends f _ (e f)) w)
 
 -- what takes from the temporaries after its own, and what changes the observation memory
-module _ (t : List ℕ) (n : ℕ) (h : HasSort statement t n) (ρ : Variables) (m : Memory) (o : Observation) (τ : Temporaries)
-    (f : ℕ) where
-  gives : Evaluated → WatchedOutcome
-  gives v = taken (numberAt t n) (markOf t n) v m o τ f
+module _ (t : List ℕ) (n : ℕ) (h : HasSort statement t n) (ρ : Variables) (x : WatchedState) (f : ℕ) where
+  gives : Evaluated → Outcome WatchedState
+  gives v = after (numberAt t n) ρ f (taken x (markOf t n) v)
 
   pub watch-take : IsTake (kindOf t n)
-      → watch (statementAt t n) ρ m o τ f
-      ≡ taken (numberAt t n) (markOf t n) (takenOf (kindOf t n) (childC t n) τ (markOf t n) o) m o τ f
+      → watch (statementAt t n) ρ x f
+      ≡ after (numberAt t n) ρ f
+      (taken x (markOf t n) (takenOf (kindOf t n) (childC t n) (x .temporaries) (markOf t n) (x .observation)))
   unfolding gives
   watch-take (inl e) =
-      watch-operation t n h ρ m o τ f e ∙ ap gives (sym (take-operation-is (childC t n) τ (markOf t n) o e))
+      watch-operation t n h ρ x f e
+      ∙ ap gives (sym (take-operation-is (childC t n) (x .temporaries) (markOf t n) (x .observation) e))
   watch-take (inr (inl e)) =
-      watch-query t n h ρ m o τ f e ∙ ap gives (sym (take-query-is (childC t n) τ (markOf t n) o e))
+      watch-query t n h ρ x f e
+      ∙ ap gives (sym (take-query-is (childC t n) (x .temporaries) (markOf t n) (x .observation) e))
   watch-take (inr (inr e)) =
-      watch-not t n h ρ m o τ f e ∙ ap gives (sym (take-not-is (childC t n) τ (markOf t n) o e))
+      watch-not t n h ρ x f e
+      ∙ ap gives (sym (take-not-is (childC t n) (x .temporaries) (markOf t n) (x .observation) e))
 
-  calls : Noted → WatchedOutcome
-  calls z = observed (numberAt t n) z m o τ f
+  calls : Noted → Outcome WatchedState
+  calls z = after (numberAt t n) ρ f (observed x z)
 
   pub watch-note : IsNote (kindOf t n)
-      → watch (statementAt t n) ρ m o τ f ≡ observed (numberAt t n) (noteOf (kindOf t n) τ (markOf t n) o) m o τ f
+      → watch (statementAt t n) ρ x f
+      ≡ after (numberAt t n) ρ f (observed x (noteOf (kindOf t n) (x .temporaries) (markOf t n) (x .observation)))
   unfolding calls
-  watch-note (inl e) = watch-store-block t n h ρ m o τ f e ∙ ap calls (sym (note-record τ (markOf t n) o e))
-  watch-note (inr (inl e)) = watch-delete-block t n h ρ m o τ f e ∙ ap calls (sym (note-delete τ (markOf t n) o e))
-  watch-note (inr (inr e)) = watch-initialise t n h ρ m o τ f e ∙ ap calls (sym (note-mark τ (markOf t n) o e))
+  watch-note (inl e) =
+      watch-store-block t n h ρ x f e ∙ ap calls (sym (note-record (x .temporaries) (markOf t n) (x .observation) e))
+  watch-note (inr (inl e)) =
+      watch-delete-block t n h ρ x f e ∙ ap calls (sym (note-delete (x .temporaries) (markOf t n) (x .observation) e))
+  watch-note (inr (inr e)) =
+      watch-initialise t n h ρ x f e ∙ ap calls (sym (note-mark (x .temporaries) (markOf t n) (x .observation) e))
 
 -- the kinds from 63 to 65 are those that take
 pub take-between : (k : ℕ) → 63 ≤ k → k < 66 → IsTake k

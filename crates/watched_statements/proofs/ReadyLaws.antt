@@ -7,18 +7,19 @@ use Rattle.rules.specs.Kinds.{target, statement}
 use Rattle.rules.specs.Records.{kindOf, markOf, childA, childB, childC}
 use Rattle.rules.specs.Memory.{Memory, Use, fixed, made, makeBlock}
 use Rattle.rules.specs.Evaluation.{Variables, held, evaluate}
-use Rattle.rules.specs.Watched.{Temporaries, temporaryOf, WatchedOutcome, finished, ended}
+use Rattle.rules.specs.Flow.{Ending, ending}
+use Rattle.rules.specs.Watched.{Temporaries, temporaryOf, WatchedState}
 use Rattle.rules.specs.Layout.{memoryOf, observationOf}
 use Rattle.rules.specs.declared.Temporary.the-variants as temporary
 use Rattle.rules.proofs.Lists.{All, all-getD}
 use Rattle.rules.proofs.Sound.{adding, Named, SoundTarget}
 use Rattle.rules.proofs.Keeping.{AnyNumber, MadeKeeps}
-use Rattle.rules.proofs.Outcomes.{WatchedOutcomes}
 use Rattle.rules.proofs.Fits.{FitsTemporary, FitsMemory, FitsObservation}
 use Rattle.rules.proofs.KeptPredicates.{MadeWith, fits-invariant, fits-observation-invariant, makeBlock-keeps}
 use Rattle.rules.proofs.FittingValues.{held-fits, evaluate-fits}
 use Rattle.rules.proofs.FittingValues as ranged
-use Rattle.rules.proofs.Reachable.{Watchedly, watch-keeps, extend-fits}
+use Rattle.rules.proofs.Reachable.{Watchedly, extend-fits}
+use Rattle.rules.proofs.ReachableRoundTrip.{watch-fits}
 use Rattle.rules.proofs.StatementArms.{statement-within, sequence-children, branch-children, while-children}
 use Rattle.rules.proofs.StatementArms.{let-child, sound-assign, sound-sequence, sound-branch, sound-while, sound-let}
 use Rattle.rules.proofs.TargetFields.{Under, expressionAt, statementAt, branch-on-fields, sound-branch-on}
@@ -30,20 +31,16 @@ use Rattle.temporaries.specs.Bytes.{temporariesOf}
 use Rattle.endings.specs.declared.Ended.{Ended}
 use Rattle.statements.proofs.ChangeLaws.{names-fit, made-by, name-fits}
 use Rattle.choices.specs.Branches.{IsBranch}
-use Rattle.watched_statements.specs.Watching.{Lent, lent, watchFrom, LentFits, Ready, Inside, Ran}
+use Rattle.watched_statements.specs.Watching.{Lent, lent, stateOf, watchFrom, LentFits, Ready, Inside}
+use Rattle.watched_statements.specs.Watching.{EndsSo, Ran}
 
--- what a run leaves fits where its outcome does
-lent-fits : (w : WatchedOutcome) (r : Ended) (x y : Lent)
-    → WatchedOutcomes (Watchedly FitsMemory FitsObservation) AnyNumber w → Ran w r x y → LentFits y
-lent-fits (finished m o τ f) r x y k v = record {
+-- what a run leaves fits where its ending does
+lent-fits : (e : Ending WatchedState) (r : Ended) (x y : Lent) → Watchedly FitsMemory FitsObservation (e .state)
+    → EndsSo e r x y → LentFits y
+lent-fits e r x y k v = record {
   memory = subst FitsMemory (sym (v .memory .view)) (k .memory-kept);
   observation = subst FitsObservation (sym (v .observation .view)) (k .observation-kept);
   temporaries = subst (All FitsTemporary) (sym (v .temporaries)) (k .temporaries-fit);
-}
-lent-fits (ended c s m o τ f) r x y k v = record {
-  memory = subst FitsMemory (sym (v .memory .view)) (k .1 .memory-kept);
-  observation = subst FitsObservation (sym (v .observation .view)) (k .1 .observation-kept);
-  temporaries = subst (All FitsTemporary) (sym (v .temporaries)) (k .1 .temporaries-fit);
 }
 
 module _ (t : List ℕ) (n : ℕ) (ρ : Variables) (x : Lent) (h : Ready t n ρ x) where
@@ -70,9 +67,8 @@ module _ (t : List ℕ) (n : ℕ) (ρ : Variables) (x : Lent) (h : Ready t n ρ 
   -- after the run the numbers still fit
   pub run-kept : (f : ℕ) (r : Ended) (y : Lent) → Ran (watchFrom (statementAt t n) ρ x f) r x y → LentFits y
   run-kept f r y w =
-      lent-fits (watchFrom (statementAt t n) ρ x f) r x y
-      (watch-keeps FitsMemory fits-invariant FitsObservation fits-observation-invariant (statementAt t n) (h .scope)
-      (h .sound) ρ (h .names) memory (observationOf (x .observation)) temporaries f (record {
+      lent-fits (ending (watchFrom (statementAt t n) ρ x f)) r x y
+      (watch-fits (statementAt t n) (h .scope) (h .sound) ρ (h .names) (stateOf x) f (record {
         memory-kept = h .fits .memory;
         observation-kept = h .fits .observation;
         temporaries-fit = h .fits .temporaries;

@@ -6,11 +6,12 @@ use mathlib.Core.Path.{_≡_}
 use Rattle.rules.specs.Records.{markOf, childA}
 use Rattle.rules.specs.Kinds.{statement}
 use Rattle.rules.specs.Memory.{endBlock}
+use Rattle.rules.specs.Flow.{Outcome, finished, Ending, ending, next}
 use Rattle.rules.specs.Evaluation.{Variables, extend}
 use Rattle.rules.specs.TargetTrees.{TargetStatement}
-use Rattle.rules.specs.Watched.{Temporaries, WatchedOutcome, finished, ended, Watching, next, watch}
+use Rattle.rules.specs.Watched.{WatchedState, watching, withMemory, watch}
 use Rattle.rules.specs.Layout.{memoryOf, observationOf}
-use Rattle.rules.specs.Answers.{watchedMemoryAfter, observationAfter, WatchedRun}
+use Rattle.rules.specs.Answers.{WatchedRun}
 use Rattle.rules.specs.declared.Answer.{Answer}
 use Rattle.rules.proofs.Lists.{All}
 use Rattle.rules.proofs.Sound.{Scope, SoundTarget}
@@ -33,12 +34,12 @@ pub record Lent : Type 0 where
 abbrev pub lent : List ℕ → List ℕ → List ℕ → Lent
 lent m o τ = record { memory = m; observation = o; temporaries = τ }
 
--- to go on from what the bytes stand for
-abbrev pub goFrom : Watching → Lent → ℕ → WatchedOutcome
-goFrom k x f = k (memoryOf (x .memory)) (observationOf (x .observation)) (temporariesOf (x .temporaries)) f
+-- what the bytes stand for, and a run from there
+abbrev pub stateOf : Lent → WatchedState
+stateOf x = watching (memoryOf (x .memory)) (observationOf (x .observation)) (temporariesOf (x .temporaries))
 
-abbrev pub watchFrom : TargetStatement → Variables → Lent → ℕ → WatchedOutcome
-watchFrom s ρ x f = goFrom (watch s ρ) x f
+abbrev pub watchFrom : TargetStatement → Variables → Lent → ℕ → Outcome WatchedState
+watchFrom s ρ x f = watch s ρ (stateOf x) f
 
 -- what the bytes stand for has numbers and names that fit
 pub record LentFits (x : Lent) : Type 0 where
@@ -62,26 +63,21 @@ pub record Inside (t : List ℕ) (n : ℕ) (ρ : Variables) (x : Lent) (k : ℕ)
   pub body : Ready t (childA t n) (extend ρ (markOf t n) k) x
 
 -- a let from where its block is made
-abbrev pub enclosed : List ℕ → ℕ → Variables → Lent → ℕ → ℕ → WatchedOutcome
+abbrev pub enclosed : List ℕ → ℕ → Variables → Lent → ℕ → ℕ → Outcome WatchedState
 enclosed t n ρ x f k =
     next (watchFrom (statementAt t (childA t n)) (extend ρ (markOf t n) k) x f)
-    (λ m₁ o₁ τ₁ f₁. finished (endBlock m₁ k) o₁ τ₁ f₁)
+    (λ y g. finished (withMemory y (endBlock (y .memory) k)) g)
 
--- the answer of an outcome, and the temporaries after it
-abbrev pub resultOf : WatchedOutcome → Ended
-resultOf (finished m o τ f) = result 0 0 f
-resultOf (ended c s m o τ f) = result c s f
+-- a run's result and bytes are those of an ending
+pub record EndsSo (e : Ending WatchedState) (r : Ended) (entry exit : Lent) : Type 0 where
+  pub answer : r ≡ result (e .number) (e .statement) (e .fuel)
+  pub memory : Becomes (entry .memory) (exit .memory) (e .state .memory)
+  pub observation : ObservationBecomes (entry .observation) (exit .observation) (e .state .observation)
+  pub temporaries : temporariesOf (exit .temporaries) ≡ e .state .temporaries
 
-abbrev pub temporariesAfter : WatchedOutcome → Temporaries
-temporariesAfter (finished m o τ f) = τ
-temporariesAfter (ended c s m o τ f) = τ
-
--- a run's result and bytes are those of an outcome
-pub record Ran (w : WatchedOutcome) (r : Ended) (entry exit : Lent) : Type 0 where
-  pub answer : r ≡ resultOf w
-  pub memory : Becomes (entry .memory) (exit .memory) (watchedMemoryAfter w)
-  pub observation : ObservationBecomes (entry .observation) (exit .observation) (observationAfter w)
-  pub temporaries : temporariesOf (exit .temporaries) ≡ temporariesAfter w
+-- and so of an outcome
+abbrev pub Ran : Outcome WatchedState → Ended → Lent → Lent → Type 0
+Ran o r entry exit = EndsSo (ending o) r entry exit
 
 -- statement n ran, with the variables ρ and fuel f
 abbrev pub Runs : List ℕ → ℕ → Variables → ℕ → Ended → Lent → Lent → Type 0
@@ -96,10 +92,13 @@ abbrev pub Acts : List ℕ → ℕ → Variables → ℕ → Lent → Lent → T
 Acts t n ρ r x y = (f : ℕ) → Runs t n ρ f (concluded r (numberAt t n) f) x y
 
 -- the same of a run from empty temporaries, which nobody sees after it
-pub record Leaves (w : WatchedOutcome) (r : Ended) (mem mem₁ obs obs₁ : List ℕ) : Type 0 where
-  pub answer : r ≡ resultOf w
-  pub memory : Becomes mem mem₁ (watchedMemoryAfter w)
-  pub observation : ObservationBecomes obs obs₁ (observationAfter w)
+pub record LeavesSo (e : Ending WatchedState) (r : Ended) (mem mem₁ obs obs₁ : List ℕ) : Type 0 where
+  pub answer : r ≡ result (e .number) (e .statement) (e .fuel)
+  pub memory : Becomes mem mem₁ (e .state .memory)
+  pub observation : ObservationBecomes obs obs₁ (e .state .observation)
+
+abbrev pub Leaves : Outcome WatchedState → Ended → List ℕ → List ℕ → List ℕ → List ℕ → Type 0
+Leaves o r mem mem₁ obs obs₁ = LeavesSo (ending o) r mem mem₁ obs obs₁
 
 -- an entry's answer and its lent memories are those of a watched run
 pub record AnsweredBy (x : WatchedRun) (r : Answer) (m o : List ℕ) : Type 0 where

@@ -2,6 +2,7 @@ use Prim.Native.Nat.{ℕ, _≤_}
 use mathlib.Core.Path.{sym, ap, subst}
 use lib.ListN.{length, replicate, length-replicate}
 use Rattle.rules.specs.Trees.{Statement}
+use Rattle.rules.specs.Flow.{ending}
 use Rattle.rules.specs.Plain.{run, startVariables}
 use Rattle.rules.specs.Layout.{memoryOf}
 use Rattle.plain_runs.proofs.Laws.{ran-is}
@@ -30,7 +31,7 @@ returns c =
     let s = c .before .before .before .before .before .before .before in
     let T = s .args .table .now in
     ran-is
-    (ap (λ (x : Statement). run x startVariables (memoryOf (s .args .mem .now)) (s .args .fuel))
+    (ap (λ (x : Statement). ending (run x startVariables (memoryOf (s .args .mem .now)) (s .args .fuel)))
     (sym (same-program T (replicate 65536 0) (s .pre .0))))
     (rw (c .before .before .before .before .copy .ensures) at (c .run-from-start .ensures))
 

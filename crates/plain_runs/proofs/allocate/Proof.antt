@@ -1,5 +1,5 @@
 use mathlib.Core.Path.{sym, ap, ap₂, _∙_}
-use Rattle.rules.specs.Plain.{after}
+use Rattle.rules.specs.Flow.{after}
 use Rattle.rules.specs.Layout.{memoryOf}
 use Rattle.evaluation.specs.State.{variablesOf}
 use Rattle.temporaries.specs.Bytes.{temporariesOf}
@@ -57,7 +57,7 @@ returns c =
     (c .before .before .before .evaluate-b .result))
     (c .before .new-at .result) (c .conclude .result) l (c .before .new-at .last .0)
     (run-new T n (s .pre .0 .is) ρ (memoryOf l) (s .args .fuel) (s .pre .1)
-    ∙ sym (ap (after n (s .args .fuel))
+    ∙ sym (ap (after n ρ (s .args .fuel))
     (ap₂ (allocated (memoryOf l))
     (c .before .before .before .before .before .find-a .ensures ∙ found-alike T (childA T n) τ ρ (memoryOf l)
     (q .0 .2)) (c .before .before .before .evaluate-b .ensures ∙ evaluated-alike T (childB T n) τ ρ (memoryOf l)

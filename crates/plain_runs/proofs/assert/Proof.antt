@@ -1,5 +1,7 @@
 use mathlib.Core.Path.{sym, ap, _∙_}
+use Rattle.rules.specs.Flow.{after}
 use Rattle.rules.specs.Plain.{asserted}
+use Rattle.rules.specs.declared.Test.{Test}
 use Rattle.rules.specs.Layout.{memoryOf}
 use Rattle.evaluation.specs.State.{variablesOf}
 use Rattle.rules.proofs.PlainArms.{statementAt, assert-child, run-assert}
@@ -35,7 +37,7 @@ returns c =
     ran-asserts (statementAt T n) ρ (s .args .fuel) n (c .before .before .test-predicate .result)
     (c .before .assert-number .result) (c .conclude .result) l
     (run-assert T n (s .pre .0 .is) ρ (memoryOf l) (s .args .fuel) (s .pre .1)
-    ∙ sym (ap (asserted n (memoryOf l) (s .args .fuel)) (c .before .before .test-predicate .ensures)))
+    ∙ sym (ap (λ (x : Test). after n ρ (s .args .fuel) (asserted (memoryOf l) x)) (c .before .before .test-predicate .ensures)))
     (c .before .assert-number .ensures) (c .conclude .ensures)
 
 pub assert-spec : {M : Type 1} → statement M

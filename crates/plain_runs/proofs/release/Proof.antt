@@ -1,5 +1,5 @@
 use mathlib.Core.Path.{sym, ap, _∙_}
-use Rattle.rules.specs.Plain.{after}
+use Rattle.rules.specs.Flow.{after}
 use Rattle.rules.specs.Layout.{memoryOf}
 use Rattle.evaluation.specs.State.{variablesOf}
 use Rattle.temporaries.specs.Bytes.{temporariesOf}
@@ -45,7 +45,7 @@ returns c =
     ran-does (statementAt T n) ρ (s .args .fuel) n (freed (memoryOf l) (c .before .before .before .evaluate-a .result))
     (c .before .free-at .result) (c .conclude .result) l (c .before .free-at .last .0)
     (run-free T n (s .pre .0 .is) ρ (memoryOf l) (s .args .fuel) (s .pre .1)
-    ∙ sym (ap (after n (s .args .fuel))
+    ∙ sym (ap (after n ρ (s .args .fuel))
     (ap (freed (memoryOf l))
     (c .before .before .before .evaluate-a .ensures ∙ evaluated-alike T (childA T n) τ ρ (memoryOf l)
     (free-child source T n (s .pre .0 .is) (s .pre .1) .2)))))

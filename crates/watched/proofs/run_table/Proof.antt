@@ -2,8 +2,9 @@ use Prim.Native.Nat.{ℕ, _≤_}
 use mathlib.Core.Path.{sym, ap, subst}
 use lib.ListN.{length, replicate, length-replicate}
 use Rattle.rules.specs.TargetTrees.{TargetStatement}
+use Rattle.rules.specs.Flow.{ending}
 use Rattle.rules.specs.Plain.{startVariables}
-use Rattle.rules.specs.Watched.{startTemporaries, watch}
+use Rattle.rules.specs.Watched.{startTemporaries, watching, watch}
 use Rattle.rules.specs.Layout.{memoryOf, observationOf}
 use Rattle.watched.proofs.EntryLaws.{leaves-is, table-length, ready-start, same-program}
 use Rattle.watched.proofs.run_table.Statement.{statement}
@@ -34,7 +35,7 @@ returns c =
     let m = memoryOf (s .args .mem .now) in
     let o = observationOf (s .args .obs .now) in
     leaves-is
-    (ap (λ (x : TargetStatement). watch x startVariables m o startTemporaries (s .args .fuel))
+    (ap (λ (x : TargetStatement). ending (watch x startVariables (watching m o startTemporaries) (s .args .fuel)))
     (sym (same-program (s .args .table .now) (replicate 65536 0) (s .pre .0))))
     (rw (after-copy .copy .ensures) at (c .run-from-start .ensures))
 

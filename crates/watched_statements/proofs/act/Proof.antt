@@ -1,16 +1,16 @@
 use Prim.Native.Nat.{_<_, _≤_}
 use mathlib.Core.Logic.{_⊎_, inl, inr, ⊎-elim}
-use mathlib.Core.Path.{sym, _∙_}
+use mathlib.Core.Path.{sym, ap, _∙_}
 use Rattle.rules.specs.Records.{markOf}
 use Rattle.rules.specs.Evaluation.{condition}
 use Rattle.rules.specs.Watched.{heldIn}
-use Rattle.rules.specs.Layout.{memoryOf, observationOf}
+use Rattle.rules.specs.Flow.{ending}
 use Rattle.rules.proofs.TargetFields.{statementAt, numberAt}
 use Rattle.rules.proofs.TargetArms.{watch-skip, watch-assign, watch-new, watch-free, watch-address, watch-value}
 use Rattle.rules.proofs.TargetArms.{watch-assert-on}
 use Rattle.evaluation.specs.State.{variablesOf}
 use Rattle.temporaries.specs.Bytes.{temporariesOf}
-use Rattle.watched_statements.specs.Watching.{lent}
+use Rattle.watched_statements.specs.Watching.{lent, stateOf}
 use Rattle.watched_statements.proofs.Laws.{ran-is, ran-finished}
 use Rattle.watched_statements.proofs.ActLaws.{watch-take, watch-note, take-between, last-act, acts-change}
 use Rattle.watched_statements.proofs.ActLaws.{acts-taken, acts-observed, acts-asserted}
@@ -92,7 +92,7 @@ returns c =
     let o = s .args .obs .now in
     let τ = s .args .temporaries .now in
     let h = s .pre .0 .is in
-    λ f. ran-is (watch-skip T n h ρ (memoryOf l) (observationOf o) (temporariesOf τ) f q) (ran-finished
+    λ f. ran-is (ap ending (watch-skip T n h ρ (stateOf (lent l o τ)) f q)) (ran-finished
     (lent l o τ) f)
 
 returns-2 : tie.Need-returns-2
@@ -109,7 +109,7 @@ returns-2 c =
     let h = s .pre .0 .is in
     let q = sym (after-kind .kind .ensures) ∙ after-match .match .keys2 in
     acts-change (statementAt T n) ρ l o τ (numberAt T n) (c .assign .result) _ _
-    (λ f. watch-assign T n h ρ (memoryOf l) (observationOf o) (temporariesOf τ) f q) (c .assign .ensures)
+    (λ f. watch-assign T n h ρ (stateOf (lent l o τ)) f q) (c .assign .ensures)
 
 returns-3 : tie.Need-returns-3
 returns-3 c =
@@ -125,7 +125,7 @@ returns-3 c =
     let h = s .pre .0 .is in
     let q = sym (after-kind .kind .ensures) ∙ after-match .match .keys3 in
     acts-change (statementAt T n) ρ l o τ (numberAt T n) (c .allocate .result) _ _
-    (λ f. watch-new T n h ρ (memoryOf l) (observationOf o) (temporariesOf τ) f q) (c .allocate .ensures)
+    (λ f. watch-new T n h ρ (stateOf (lent l o τ)) f q) (c .allocate .ensures)
 
 returns-4 : tie.Need-returns-4
 returns-4 c =
@@ -141,7 +141,7 @@ returns-4 c =
     let h = s .pre .0 .is in
     let q = sym (after-kind .kind .ensures) ∙ after-match .match .keys4 in
     acts-change (statementAt T n) ρ l o τ (numberAt T n) (c .release .result) _ _
-    (λ f. watch-free T n h ρ (memoryOf l) (observationOf o) (temporariesOf τ) f q) (c .release .ensures)
+    (λ f. watch-free T n h ρ (stateOf (lent l o τ)) f q) (c .release .ensures)
 
 returns-5 : tie.Need-returns-5
 returns-5 c =
@@ -157,7 +157,7 @@ returns-5 c =
     let h = s .pre .0 .is in
     let q = sym (after-kind .kind .ensures) ∙ after-match .match .keys5 in
     acts-taken (statementAt T n) ρ l o τ (numberAt T n) (c .take-address .result) _ _ _
-    (λ f. watch-address T n h ρ (memoryOf l) (observationOf o) (temporariesOf τ) f q) (c .take-address .ensures)
+    (λ f. watch-address T n h ρ (stateOf (lent l o τ)) f q) (c .take-address .ensures)
 
 returns-6 : tie.Need-returns-6
 returns-6 c =
@@ -173,7 +173,7 @@ returns-6 c =
     let h = s .pre .0 .is in
     let q = sym (after-kind .kind .ensures) ∙ after-match .match .keys6 in
     acts-taken (statementAt T n) ρ l o τ (numberAt T n) (c .take-value .result) _ _ _
-    (λ f. watch-value T n h ρ (memoryOf l) (observationOf o) (temporariesOf τ) f q) (c .take-value .ensures)
+    (λ f. watch-value T n h ρ (stateOf (lent l o τ)) f q) (c .take-value .ensures)
 
 returns-7 : tie.Need-returns-7
 returns-7 c =
@@ -190,7 +190,7 @@ returns-7 c =
     let q = sym (after-kind .kind .ensures) ∙ after-match .match .keys7 in
     acts-asserted (statementAt T n) ρ l o τ (numberAt T n) (c .assert .result)
     (condition (heldIn (temporariesOf τ) (markOf T n)))
-    (λ f. watch-assert-on T n h ρ (memoryOf l) (observationOf o) (temporariesOf τ) f q) (c .assert .ensures)
+    (λ f. watch-assert-on T n h ρ (stateOf (lent l o τ)) f q) (c .assert .ensures)
 
 returns-8 : tie.Need-returns-8
 returns-8 c =
@@ -207,7 +207,7 @@ returns-8 c =
     let h = s .pre .0 .is in
     let q = rw (after-kind .kind .ensures) at (take-between _ (after-if1 .if1 .left) (after-if2 .if2 .taken)) in
     acts-taken (statementAt T n) ρ l o τ (numberAt T n) (c .take .result) _ _ _
-    (λ f. watch-take T n h ρ (memoryOf l) (observationOf o) (temporariesOf τ) f q) (c .take .ensures)
+    (λ f. watch-take T n h ρ (stateOf (lent l o τ)) f q) (c .take .ensures)
 
 returns-9 : tie.Need-returns-9
 returns-9 c =
@@ -226,7 +226,7 @@ returns-9 c =
     let out : (k < 63) ⊎ (66 ≤ k) = ⊎-elim (λ w. inl (w .taken)) (λ w. inr (w .1 .left)) (after-if1 .if1 .came) in
     let q = last-act T n h (s .pre .1) (after-kind .kind .ensures) (after-match .match .rest) out in
     acts-observed (statementAt T n) ρ l o τ (numberAt T n) (c .note .result) _ _
-    (λ f. watch-note T n h ρ (memoryOf l) (observationOf o) (temporariesOf τ) f q) (c .note .ensures)
+    (λ f. watch-note T n h ρ (stateOf (lent l o τ)) f q) (c .note .ensures)
 
 pub act-spec : {M : Type 1} → statement M
 act-spec =

@@ -4,13 +4,13 @@ use native.Mathlib.Omega.{arith}
 use mathlib.Core.Path.{refl, sym, _∙_}
 use Rattle.rules.specs.Records.{childA, childB}
 use Rattle.rules.specs.Layout.{memoryOf}
-use Rattle.rules.proofs.PlainArms.{run-sequence}
 use Rattle.evaluation.specs.State.{variablesOf}
 use Rattle.statements.proofs.ChangeLaws.{becomes-same}
 use Rattle.plain_runs.specs.Running.{Ready}
 use Rattle.plain_runs.proofs.Laws.{ran-is}
 use Rattle.plain_runs.proofs.ReadyLaws.{ready-within, sequence-parts, ready-first, ready-second}
-use Rattle.plain_runs.proofs.MemberLaws.{ran-from, Remaining, Part, part-ends, part-finishes}
+use Rattle.plain_runs.proofs.MemberLaws.{ran-from, sequence-by, Remaining, Part, part-ends}
+use Rattle.plain_runs.proofs.MemberLaws.{part-finishes}
 use Rattle.plain_runs.proofs.run.Reads as run
 use Rattle.plain_runs.proofs.+branch+enclose+repeat+run+run_inside+run_single.Lts-run as run-lts
 use Rattle.plain_runs.proofs.+branch+enclose+repeat+run+run_inside+run_single.Proof.Cycle.{run-at, run-claims}
@@ -67,9 +67,8 @@ module _ (t : ℕ) where
         earlier = after-loop .loop .inv .0;
         ran = rw (after-child-a .child-a .ensures) at (c .run .ensures);
         leads =
-            run-sequence (s .args .table .now) (after-loop .loop .at) (after-loop .loop .inv .1 .is)
-            (variablesOf (s .args .variables .now)) (memoryOf (after-loop .loop .mem)) (after-loop .loop .left)
-            (sym (after-kind .kind .ensures) ∙ after-if1 .if1 .taken);
+            sequence-by (after-loop .loop .inv .1) (sym (after-kind .kind .ensures) ∙ after-if1 .if1 .taken)
+            (memoryOf (after-loop .loop .mem)) (after-loop .loop .left);
       }
 
   returns : run-lts.Need-returns (run-claims t) (run-at t) run.Post Inv-loop μ-loop

@@ -1,8 +1,9 @@
 -- The needs of a statement that is no sequence: the dispatcher.
 use Prim.Native.Nat.{ℕ}
 use native.Mathlib.Omega.{arith}
-use mathlib.Core.Path.{_≡_, sym, _∙_}
+use mathlib.Core.Path.{_≡_, sym, ap, _∙_}
 use Rattle.rules.specs.Records.{kindOf}
+use Rattle.rules.specs.Flow.{ending}
 use Rattle.rules.specs.Layout.{memoryOf}
 use Rattle.rules.proofs.PlainArms.{statement-kinds, run-skip}
 use Rattle.evaluation.specs.State.{variablesOf}
@@ -65,8 +66,8 @@ module _ (t : ℕ) where
       let s = c .before .before .before in
       let l = s .args .mem .now in
       ran-is
-      (run-skip (s .args .table .now) (s .args .n) (s .pre .1 .0 .is) (variablesOf (s .args .variables .now))
-      (memoryOf l) (s .args .fuel) (of-kind (c .before) (c .match .keys1) .1))
+      (ap ending (run-skip (s .args .table .now) (s .args .n) (s .pre .1 .0 .is) (variablesOf (s .args .variables .now))
+      (memoryOf l) (s .args .fuel) (of-kind (c .before) (c .match .keys1) .1)))
       (ran-finished l (s .args .fuel))
 
   returns-2 : run-single-lts.Need-returns-2 (run-single-claims t) (run-single-at t) run-single.Post

@@ -3,14 +3,12 @@ use Prim.Native.Nat.{ℕ, _≤_}
 use native.Mathlib.Omega.{arith}
 use mathlib.Core.Path.{refl, sym, _∙_}
 use Rattle.rules.specs.Records.{childA, childB}
-use Rattle.rules.specs.Layout.{memoryOf, observationOf}
-use Rattle.rules.proofs.TargetArms.{watch-sequence}
 use Rattle.evaluation.specs.State.{variablesOf}
-use Rattle.temporaries.specs.Bytes.{temporariesOf}
 use Rattle.watched_statements.specs.Watching.{lent, Ready}
 use Rattle.watched_statements.proofs.Laws.{kept-same, ran-is, ran-from}
 use Rattle.watched_statements.proofs.ReadyLaws.{ready-within, ready-first, ready-later}
-use Rattle.watched_runs.proofs.MemberLaws.{sequence-parts, Remaining, Part, part-ends, part-finishes}
+use Rattle.watched_runs.proofs.MemberLaws.{sequence-parts, sequence-by, Remaining, Part, part-ends}
+use Rattle.watched_runs.proofs.MemberLaws.{part-finishes}
 use Rattle.watched_runs.proofs.run.Reads as run
 use Rattle.watched_runs.proofs.+branch+enclose+repeat+run+run_inside+run_single.Lts-run as run-lts
 use Rattle.watched_runs.proofs.+branch+enclose+repeat+run+run_inside+run_single.Proof.Cycle.{run-at, run-claims}
@@ -71,10 +69,8 @@ module _ (t : ℕ) where
         earlier = loop .inv .0;
         ran = rw (after-child-a .child-a .ensures) at (c .run .ensures);
         leads =
-            watch-sequence (s .args .table .now) (loop .at) (loop .inv .1 .is)
-            (variablesOf (s .args .variables .now)) (memoryOf (loop .mem)) (observationOf (loop .obs))
-            (temporariesOf (loop .temporaries)) (loop .left)
-            (sym (after-kind .kind .ensures) ∙ after-if1 .if1 .taken);
+            sequence-by (loop .inv .1) (sym (after-kind .kind .ensures) ∙ after-if1 .if1 .taken)
+            (lent (loop .mem) (loop .obs) (loop .temporaries)) (loop .left);
       }
 
   returns : run-lts.Need-returns (run-claims t) (run-at t) run.Post Inv-loop μ-loop
