@@ -5,7 +5,7 @@ use mathlib.Core.Path.{_≡_, refl, _∙_}
 use mathlib.Core.List.{List}
 use lib.IntN.{pos}
 use lib.ListN.{length}
-use Rattle.rules.specs.Translation.{RecordTree, none, node}
+use Rattle.rules.specs.Emission.{RecordTree, none, node}
 use Rattle.emission.specs.Emission.{recordOf, withRecord, Room, Emitted, sequenceTree}
 use Rattle.emission.proofs.Emitting.{emitted-none, emitted-node, Some, some, root-some, field-some}
 use Rattle.emission.proofs.Parts.{emitted-sequence}

@@ -8,7 +8,7 @@ use lib.IntN.{pos}
 use borrow.Author.Tests.{ne-eqb}
 use Rattle.rules.specs.Records.{kindOf, markOf, childA, childB}
 use Rattle.rules.specs.Checker.{isUnary}
-use Rattle.rules.specs.Translation.{RecordTree, none, node}
+use Rattle.rules.specs.Emission.{RecordTree, none, node}
 use Rattle.tables.specs.Within.{Within}
 use Rattle.emission.specs.Emission.{Copied, sequenceTree, partTree}
 use Rattle.sizes.specs.Trees.{treeAt}

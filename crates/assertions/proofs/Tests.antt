@@ -13,8 +13,8 @@ use Rattle.rules.specs.Checker.{isUnary, isBinary}
 use Rattle.rules.specs.Kinds.{source, Sort, expression, place, term, predicate, statement, between}
 use Rattle.rules.specs.Nodes.{SourceNode, expressionNode, placeNode, termNode, predicateNode, statementNode, junk}
 use Rattle.rules.specs.Nodes.{nodeSort, asTerm, asPredicate, operatorOf, nodeAt}
-use Rattle.rules.specs.Translation.{embed, translateTerm, translatePredicate, operatorNumber, RecordTree, none, node}
-use Rattle.rules.specs.Translation.{statementTree}
+use Rattle.rules.specs.Emission.{operatorNumber, RecordTree, none, node, statementTree}
+use Rattle.rules.specs.Translation.{embed, translateTerm, translatePredicate}
 use Rattle.rules.proofs.KindViews.{and-split, formAt, SourceKind, literal, read, address, operation, shifted}
 use Rattle.rules.proofs.KindViews.{variable, pointed, value, base, offset, blockLength, combined, valid, initialised}
 use Rattle.rules.proofs.KindViews.{compared, negated, both, either, skip, assign, new, free, sequence, branch, while}

@@ -9,7 +9,7 @@ use Rattle.rules.specs.Kinds.{source}
 use Rattle.rules.specs.Nodes.{SourceNode, expressionNode, placeNode, termNode, predicateNode, statementNode, junk}
 use Rattle.rules.specs.Nodes.{nodeAt}
 use Rattle.rules.specs.Trees.{Term, value, asked, combined, Predicate, holds, compared, negated, both, either}
-use Rattle.rules.specs.Translation.{RecordTree}
+use Rattle.rules.specs.Emission.{RecordTree}
 use Rattle.sizes.specs.Trees.{treeAt}
 use Rattle.emission.specs.Emission.{recordOf, withRecord, Room, sequenceTree, partTree}
 

@@ -11,7 +11,8 @@ use lib.IntN.{ℤ, pos}
 use Rattle.rules.specs.Records.{kindOf, markOf, childA, childB, literalOf}
 use Rattle.rules.specs.Kinds.{source, Sort, sortNumber, expression, place, between}
 use Rattle.rules.specs.Nodes.{SourceNode, operatorOf, nodeAt}
-use Rattle.rules.specs.Translation.{embed, operatorNumber, RecordTree, none, node, expressionTree}
+use Rattle.rules.specs.Emission.{operatorNumber, RecordTree, none, node, expressionTree}
+use Rattle.rules.specs.Translation.{embed}
 use Rattle.rules.proofs.KindViews.{and-split, formAt, SourceKind, literal, read, address, operation, shifted}
 use Rattle.rules.proofs.KindViews.{variable, pointed, value, base, offset, blockLength, combined, valid, initialised}
 use Rattle.rules.proofs.KindViews.{compared, negated, both, either, skip, assign, new, free, sequence, branch, while}

@@ -11,7 +11,7 @@ use Rattle.rules.specs.Records.{Record, recordBytes, tableBytes}
 use Rattle.rules.specs.TargetTrees.{TargetStatement, skip, assign, new, free, sequence, branch, while, letIn}
 use Rattle.rules.specs.TargetTrees.{takeAddress, takeValue, takeOperation, takeQuery, takeNot, branchOn, assertOn}
 use Rattle.rules.specs.TargetTrees.{storeBlock, deleteBlock, initialise}
-use Rattle.rules.specs.Translation.{RecordTree, none, node, statementTree, treeSize, rootNumber, fieldC, emit}
+use Rattle.rules.specs.Emission.{RecordTree, none, node, statementTree, treeSize, rootNumber, fieldC, emit}
 use Rattle.rules.proofs.RecordBytes.{length-record, table-length}
 use Rattle.rules.proofs.EmissionLaws.{length-emit, ownRecord}
 use Rattle.emission.specs.Emission.{recordOf, withRecord, withTree, Room, Emitted}

@@ -11,7 +11,7 @@ use mir.Val.{toZ, ofZ}
 use mir.Facts.{toZ-ofZ}
 use lib.ListN.{length}
 use Rattle.rules.specs.Records.{kindOf, markOf, childA, childB, literalOf}
-use Rattle.rules.specs.Translation.{RecordTree, none, node, treeSize, rootNumber}
+use Rattle.rules.specs.Emission.{RecordTree, none, node, treeSize, rootNumber}
 use Rattle.emission.specs.Emission.{recordOf, withRecord, Room, Emitted, Copied, rootFrom, sequenceTree}
 use Rattle.sizes.specs.Trees.{copyAt}
 use Rattle.emission.proofs.Emitting.{emitted-none, emitted-node, Some, some, root-some}

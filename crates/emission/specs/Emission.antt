@@ -9,7 +9,7 @@ use lib.IntN.{ℤ, pos}
 use lib.ListN.{length}
 use Rattle.rules.specs.Words.{put}
 use Rattle.rules.specs.Records.{Record, recordBytes, tableBytes}
-use Rattle.rules.specs.Translation.{RecordTree, none, node, treeSize, emit}
+use Rattle.rules.specs.Emission.{RecordTree, none, node, treeSize, emit}
 use Rattle.sizes.specs.Trees.{copyAt, sortAt}
 
 abbrev pub recordOf : ℕ → ℕ → ℕ → ℕ → ℕ → ℤ → Record

@@ -6,7 +6,7 @@ ghost use lib.IntN.{pos};
 ghost use lib.ListN.{length};
 ghost use Rattle.rules.specs.Words.{put, digits};
 ghost use Rattle.rules.specs.Records.{kindOf, markOf, literalOf};
-ghost use Rattle.rules.specs.Translation.{none, node};
+ghost use Rattle.rules.specs.Emission.{none, node};
 ghost use Rattle.tables.specs.Within.{Within};
 ghost use Rattle.emission.specs.Emission.{recordOf, withRecord, Room, Emitted, Copied, rootFrom};
 ghost use Rattle.sizes.specs.Trees.{copyAt};

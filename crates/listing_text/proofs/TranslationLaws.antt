@@ -14,7 +14,8 @@ use Rattle.rules.specs.Kinds.{source, target}
 use Rattle.rules.specs.Checker.{check}
 use Rattle.rules.specs.declared.Checked.the-variants as checked
 use Rattle.rules.specs.Nodes.{sourceProgram}
-use Rattle.rules.specs.Translation.{translate, statementTree, treeSize, translatedRecords, translation}
+use Rattle.rules.specs.Emission.{statementTree, treeSize}
+use Rattle.rules.specs.Translation.{translate, translatedRecords, translation}
 use Rattle.rules.specs.Listing.{recordLines}
 use Rattle.rules.specs.Answers.{translatedInto}
 use Rattle.rules.specs.declared.Answer.{Answer}

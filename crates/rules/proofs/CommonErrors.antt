@@ -13,8 +13,8 @@ use Rattle.rules.specs.Evaluation.{evaluate, queried, evaluateTerm, eval
 use Rattle.rules.specs.Flow.{turns, runBy}
 use Rattle.rules.specs.Observation.{covered, markAll}
 use Rattle.rules.specs.Watched.{watch}
-use Rattle.rules.specs.Translation.{embed, translateTerm, translatePredicate, translate, expressionTree}
-use Rattle.rules.specs.Translation.{statementTree, emit, translatedRecords}
+use Rattle.rules.specs.Emission.{expressionTree, statementTree, emit}
+use Rattle.rules.specs.Translation.{embed, translateTerm, translatePredicate, translate, translatedRecords}
 use Rattle.rules.specs.Layout.{blockBytes, recordedBytes}
 use Rattle.rules.specs.Cases.{p5, p6, p7, p9}
 use Rattle.rules.specs.CommonErrors.{plainly, watchedly, stops, readBack, undecided, later, dangling, freedBlock}

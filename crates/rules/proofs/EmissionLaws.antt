@@ -8,7 +8,7 @@ use lib.IntN.{ℤ}
 use lib.ListN.{length, getD, length-append, List·getD-append}
 use lib.Seq.{getD-append-add}
 use Rattle.rules.specs.Records.{Record}
-use Rattle.rules.specs.Translation.{RecordTree, none, node, treeSize, rootNumber, fieldC, emit}
+use Rattle.rules.specs.Emission.{RecordTree, none, node, treeSize, rootNumber, fieldC, emit}
 use Rattle.rules.proofs.RecordBytes.{noRecord}
 
 pub length-emit : (w : RecordTree) (n : ℕ) → length (emit w n) ≡ treeSize w

@@ -6,7 +6,7 @@ use mathlib.Core.Path.{_≡_, ap, _∙_}
 use mathlib.Core.List.{List, _++_}
 use Rattle.rules.specs.Records.{Record, recordCount, recordAt, tableBytes}
 use Rattle.rules.specs.Kinds.{Language}
-use Rattle.rules.specs.Translation.{RecordTree, none, node, treeSize, fieldC, emit}
+use Rattle.rules.specs.Emission.{RecordTree, none, node, treeSize, fieldC, emit}
 use Rattle.rules.proofs.Sound.{Scope}
 use Rattle.rules.proofs.RecordBytes.{AllBytes, bytes-table, AllFit, all-append, table-record, table-count}
 use Rattle.rules.proofs.EmissionLaws.{length-emit, root-most, emit-holds}

@@ -19,8 +19,9 @@ use Rattle.rules.specs.Flow.{Ending, runBy}
 use Rattle.rules.specs.Flow as flow
 use Rattle.rules.specs.Observation.{covered, markAll}
 use Rattle.rules.specs.Watched.{WatchedState, watch}
-use Rattle.rules.specs.Translation.{embed, translateTerm, translatePredicate, translate, expressionTree}
-use Rattle.rules.specs.Translation.{statementTree, emit, translatedRecords, translation}
+use Rattle.rules.specs.Emission.{expressionTree, statementTree, emit}
+use Rattle.rules.specs.Translation.{embed, translateTerm, translatePredicate, translate, translatedRecords}
+use Rattle.rules.specs.Translation.{translation}
 use Rattle.rules.specs.Layout.{blockBytes, cellBytes, memoryImage}
 use Rattle.rules.specs.Answers.{PlainRun, WatchedRun, plainOutcome, plainEnded, watchedOutcome, watchedEnded}
 use Rattle.rules.specs.Listing.{decimalDigits, recordLines, listing}

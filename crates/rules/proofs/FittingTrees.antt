@@ -13,8 +13,8 @@ use Rattle.rules.specs.Kinds.{Language, source, target, Sort, expression
 use Rattle.rules.specs.Kinds.{sortNumber, Field, unnamed, child, number, Form, formOf, lookUp}
 use Rattle.rules.specs.Checker.{fieldFits, literalFits, fieldsFit, sortOf, childFits, childrenFit, recordFault}
 use Rattle.rules.specs.Numbers.{inRange}
-use Rattle.rules.specs.Translation.{RecordTree, node, treeSize, rootNumber, fieldC}
-use Rattle.rules.specs.Translation as tree
+use Rattle.rules.specs.Emission.{RecordTree, node, treeSize, rootNumber, fieldC}
+use Rattle.rules.specs.Emission as tree
 use Rattle.rules.proofs.BooleanLaws.{both-true}
 use Rattle.rules.proofs.Sound.{Scope}
 use Rattle.rules.proofs.EmissionLaws.{Holds, ownRecord, field-root, Step, everywhere}

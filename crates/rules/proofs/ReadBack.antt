@@ -17,8 +17,8 @@ use Rattle.rules.specs.TargetTrees.{assertOn, storeBlock, deleteBlock, i
 use Rattle.rules.specs.Nodes.{operatorOf, queryOf, TargetNode, expressionNode, placeNode, statementNode, junk}
 use Rattle.rules.specs.Nodes.{targetStatement, targetOf, nodesFit, nodeIn, makeNode, nodes, nodeAt}
 use Rattle.rules.specs.Nodes.{targetProgram}
-use Rattle.rules.specs.Translation.{RecordTree, none, node, operatorNumber, queryNumber, expressionTree}
-use Rattle.rules.specs.Translation.{placeTree, statementTree, treeSize, rootNumber, fieldC, emit}
+use Rattle.rules.specs.Emission.{RecordTree, none, node, operatorNumber, queryNumber, expressionTree, placeTree}
+use Rattle.rules.specs.Emission.{statementTree, treeSize, rootNumber, fieldC, emit}
 use Rattle.rules.proofs.Sound.{startScope, SoundTarget}
 use Rattle.rules.proofs.EmissionLaws.{Holds, ownRecord, root-most, root-size, field-root}
 use Rattle.rules.proofs.FittingTrees.{Held, records-fit}

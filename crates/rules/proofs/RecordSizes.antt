@@ -14,9 +14,8 @@ use Rattle.rules.specs.Nodes.{SourceNode, expressionNode, placeNode, ter
 use Rattle.rules.specs.Nodes.{nodeSort, asExpression, asPlace, asTerm, asPredicate, sourceStatement, nodeAt}
 use Rattle.rules.specs.Trees.{Term, Predicate}
 use Rattle.rules.specs.Trees as tree
-use Rattle.rules.specs.Translation.{embed, embedPlace, translateTerm, translatePredicate, translate, RecordTree}
-use Rattle.rules.specs.Translation.{none}
-use Rattle.rules.specs.Translation.{expressionTree, placeTree, statementTree, treeSize}
+use Rattle.rules.specs.Emission.{RecordTree, none, expressionTree, placeTree, statementTree, treeSize}
+use Rattle.rules.specs.Translation.{embed, embedPlace, translateTerm, translatePredicate, translate}
 use Rattle.rules.proofs.BooleanLaws.{three-pass}
 use Rattle.rules.proofs.KindViews.{formAt, found-at, every, found-passes, SourceKind, literal, read}
 use Rattle.rules.proofs.KindViews.{address, operation, shifted, variable, pointed, value, base, offset}

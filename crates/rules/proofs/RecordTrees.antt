@@ -6,8 +6,8 @@ use mathlib.Core.Path.{_≡_}
 use Rattle.rules.specs.Kinds.{source}
 use Rattle.rules.specs.Nodes.{SourceNode, expressionNode, placeNode, termNode, predicateNode, statementNode}
 use Rattle.rules.specs.Nodes.{junk, nodeSort, nodeAt}
-use Rattle.rules.specs.Translation.{embed, embedPlace, translateTerm, translatePredicate, translate, RecordTree}
-use Rattle.rules.specs.Translation.{none, expressionTree, placeTree, statementTree}
+use Rattle.rules.specs.Emission.{RecordTree, none, expressionTree, placeTree, statementTree}
+use Rattle.rules.specs.Translation.{embed, embedPlace, translateTerm, translatePredicate, translate}
 use Rattle.rules.specs.Origins.{ownRecords, copiesOfA, copiesOfB}
 
 -- the records that a record is translated to: those of a term or predicate under statement s at level v

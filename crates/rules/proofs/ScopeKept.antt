@@ -9,7 +9,7 @@ use lib.IntN.{ℤ}
 use Rattle.rules.specs.Records.{Record, recordCount, kindOf, markOf, recordAt}
 use Rattle.rules.specs.Kinds.{Language}
 use Rattle.rules.specs.Checker.{inScope, scopeFault}
-use Rattle.rules.specs.Translation.{RecordTree, node, treeSize, rootNumber}
+use Rattle.rules.specs.Emission.{RecordTree, node, treeSize, rootNumber}
 use Rattle.rules.proofs.Sound.{Scope, startScope}
 use Rattle.rules.proofs.EmissionLaws.{Holds, root-size, Step, everywhere}
 use Rattle.rules.proofs.FittingTrees.{OwnScope, scopeBelow, Fitting}

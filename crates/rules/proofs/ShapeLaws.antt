@@ -11,7 +11,7 @@ use borrow.Author.Tests.{eq-eqb, ne-eqb}
 use Rattle.rules.specs.Records.{Record, recordCount, kindOf, recordAt}
 use Rattle.rules.specs.Kinds.{Language, statement, sortNumber, Field, unnamed, child, number, formOf}
 use Rattle.rules.specs.Checker.{sortOf, timesIn, timesOf, timesChildOf, timesChild, shapeFault}
-use Rattle.rules.specs.Translation.{RecordTree, none, node, treeSize, rootNumber, fieldC}
+use Rattle.rules.specs.Emission.{RecordTree, none, node, treeSize, rootNumber, fieldC}
 use Rattle.rules.proofs.Sound.{Scope}
 use Rattle.rules.proofs.EmissionLaws.{Holds, ownRecord, root-size, field-root}
 use Rattle.rules.proofs.FittingTrees.{rootKind, FieldTree, scopeBelow, Fits, Fitting, no-sort, root-kind, Held}

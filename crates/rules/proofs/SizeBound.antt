@@ -13,7 +13,8 @@ use Rattle.rules.specs.Kinds.{source, statement, lookUp, formOf}
 use Rattle.rules.specs.Checker.{lowest, recordFault, timesChildOf, timesChild, shapeFault, parentOf, inScope}
 use Rattle.rules.specs.Checker.{scopeFault, levelOf, levelFault, check}
 use Rattle.rules.specs.Nodes.{sourceProgram, nodeAt}
-use Rattle.rules.specs.Translation.{translate, statementTree, treeSize}
+use Rattle.rules.specs.Emission.{statementTree, treeSize}
+use Rattle.rules.specs.Translation.{translate}
 use Rattle.rules.specs.Origins.{ownRecords, copiesOfA, copiesOfB, copiesIn, copiesOf, targetRecords, sum}
 use Rattle.rules.specs.Cases.{line, of}
 use Rattle.rules.specs.declared.Checked.the-variants as checked

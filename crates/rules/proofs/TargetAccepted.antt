@@ -11,7 +11,7 @@ use Rattle.rules.specs.Records.{Record, recordCount, tableBytes}
 use Rattle.rules.specs.Kinds.{target, statement, sortNumber}
 use Rattle.rules.specs.Checker.{sortOf, lengthFault, check}
 use Rattle.rules.specs.TargetTrees.{TargetStatement}
-use Rattle.rules.specs.Translation.{RecordTree, none, node, statementTree, treeSize, emit}
+use Rattle.rules.specs.Emission.{RecordTree, none, node, statementTree, treeSize, emit}
 use Rattle.rules.specs.declared.Checked.the-variants as checked
 use Rattle.rules.proofs.Sound.{startScope, SoundTarget}
 use Rattle.rules.proofs.RecordBytes.{table-length}

@@ -17,8 +17,8 @@ use Rattle.rules.specs.Trees.{operation, shifted, Place, variable, point
 use Rattle.rules.specs.TargetTrees.{TargetStatement, skip, assign, new, free, sequence, branch, while, letIn}
 use Rattle.rules.specs.TargetTrees.{takeAddress, takeValue, takeOperation, takeQuery, takeNot, branchOn}
 use Rattle.rules.specs.TargetTrees.{assertOn, storeBlock, deleteBlock, initialise}
-use Rattle.rules.specs.Translation.{RecordTree, none, operatorNumber, queryNumber, expressionTree, placeTree}
-use Rattle.rules.specs.Translation.{statementTree}
+use Rattle.rules.specs.Emission.{RecordTree, none, operatorNumber, queryNumber, expressionTree, placeTree}
+use Rattle.rules.specs.Emission.{statementTree}
 use Rattle.rules.proofs.Sound.{Scope, adding, isPlainOperator, SoundExpression, SoundPlace, Named, Numbered}
 use Rattle.rules.proofs.Sound.{SoundTarget}
 use Rattle.rules.proofs.BooleanLaws.{both-true}

@@ -6,7 +6,8 @@ use Rattle.rules.specs.Records.{recordCount}
 use Rattle.rules.specs.Kinds.{target}
 use Rattle.rules.specs.Checker.{check}
 use Rattle.rules.specs.Nodes.{sourceProgram, targetProgram}
-use Rattle.rules.specs.Translation.{translate, statementTree, treeSize, translatedRecords, translation}
+use Rattle.rules.specs.Emission.{statementTree, treeSize}
+use Rattle.rules.specs.Translation.{translate, translatedRecords, translation}
 use Rattle.rules.specs.declared.Checked.the-variants as checked
 use Rattle.rules.proofs.Sound.{startScope, SoundStatement}
 use Rattle.rules.proofs.SoundTranslation.{sound-translation}

@@ -15,6 +15,7 @@ pub mod Plain
 pub mod Past
 pub mod Observation
 pub mod Watched
+pub mod Emission
 pub mod Translation
 pub mod Origins
 pub mod Layout

@@ -9,7 +9,8 @@ use Rattle.rules.specs.Records.{kindOf, childA, childB}
 use Rattle.rules.specs.Kinds.{source, Sort, sortNumber, expression, place, predicate, statement}
 use Rattle.rules.specs.Nodes.{SourceNode, expressionNode, placeNode, termNode, predicateNode, statementNode, junk}
 use Rattle.rules.specs.Nodes.{nodeSort, nodeAt}
-use Rattle.rules.specs.Translation.{translate, expressionTree, statementTree, none, node}
+use Rattle.rules.specs.Emission.{expressionTree, statementTree, none, node}
+use Rattle.rules.specs.Translation.{translate}
 use Rattle.rules.proofs.KindViews.{formAt, SourceKind, literal, read, address, operation, shifted, variable, pointed}
 use Rattle.rules.proofs.KindViews.{value, base, offset, blockLength, combined, valid, initialised, compared, negated}
 use Rattle.rules.proofs.KindViews.{both, either, skip, assign, new, free, sequence, branch, while, letIn, assert}

@@ -7,7 +7,7 @@ use Rattle.rules.specs.Kinds.{source}
 use Rattle.rules.specs.Nodes.{SourceNode, expressionNode, placeNode, termNode, predicateNode, statementNode, junk, nodeAt}
 use Rattle.rules.specs.Trees.{Statement}
 use Rattle.rules.specs.Trees as tree
-use Rattle.rules.specs.Translation.{RecordTree, none, node}
+use Rattle.rules.specs.Emission.{RecordTree, none, node}
 use Rattle.emission.specs.Emission.{sequenceTree, partTree}
 use Rattle.assertions.specs.Tests.{PredicateLevels}
 

@@ -6,7 +6,7 @@ use mathlib.Core.Path.{_≡_, sym, ap, _∙_}
 use mathlib.Core.List.{List}
 use lib.Dec.{leb, eqb}
 use Rattle.rules.specs.Records.{kindOf, childA, childB, childC}
-use Rattle.rules.specs.Translation.{treeSize}
+use Rattle.rules.specs.Emission.{treeSize}
 use Rattle.rules.proofs.RecordTrees.{treeAt, Sorted, sizeFrom}
 use Rattle.rules.proofs.RecordSizes.{none-at, SizeLaw}
 

@@ -3,7 +3,7 @@ use Prim.Native.Nat.{ℕ}
 use mathlib.Core.List.{List}
 use Rattle.rules.specs.Kinds.{source}
 use Rattle.rules.specs.Nodes.{nodeSort, nodeAt}
-use Rattle.rules.specs.Translation.{RecordTree}
+use Rattle.rules.specs.Emission.{RecordTree}
 use Rattle.rules.proofs.RecordTrees.{treeAt}
 pub use Rattle.rules.proofs.RecordTrees.{targetTree, treeAt, Sorted}
 

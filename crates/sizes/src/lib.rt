@@ -1,7 +1,7 @@
 // How many records a record is translated to, by recursion on the record number.
 ghost use mathlib.Core.Path.{_≡_};
 ghost use Prim.Native.Nat.{_≤_};
-ghost use Rattle.rules.specs.Translation.{treeSize};
+ghost use Rattle.rules.specs.Emission.{treeSize};
 ghost use Rattle.rules.specs.Origins.{ownRecords, copiesOfA, copiesOfB};
 ghost use Rattle.rules.proofs.RecordTrees.{treeAt, Sorted, sizeFrom};
 

@@ -18,7 +18,8 @@ use Rattle.rules.specs.Trees.{Predicate, holds, compared, negated, both, either
 use Rattle.rules.specs.Trees as tree
 use Rattle.rules.specs.Answers.{answer, Translated, translatedInto}
 use Rattle.rules.specs.Words.{put}
-use Rattle.rules.specs.Translation.{translate, statementTree, treeSize, emit, translatedRecords, translation}
+use Rattle.rules.specs.Emission.{statementTree, treeSize, emit}
+use Rattle.rules.specs.Translation.{translate, translatedRecords, translation}
 use Rattle.rules.proofs.Sound.{Scope, startScope, adding, SoundTerm, SoundPredicate, SoundStatement}
 use Rattle.rules.proofs.AcceptedPrograms.{AcceptedProgram, accepted-program}
 use Rattle.rules.proofs.SizeBound.{size-bound}

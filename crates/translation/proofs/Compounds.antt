@@ -8,7 +8,8 @@ use Rattle.rules.specs.Records.{kindOf, markOf, childA, childB, childC}
 use Rattle.rules.specs.Kinds.{source, expression, statement}
 use Rattle.rules.specs.Nodes.{SourceNode, expressionNode, placeNode, termNode, predicateNode, statementNode, junk}
 use Rattle.rules.specs.Nodes.{nodeSort, sourceStatement, nodeAt}
-use Rattle.rules.specs.Translation.{translate, expressionTree, statementTree, none, node}
+use Rattle.rules.specs.Emission.{expressionTree, statementTree, none, node}
+use Rattle.rules.specs.Translation.{translate}
 use Rattle.rules.proofs.Standing.{stands-at}
 use Rattle.sizes.specs.Trees.{targetTree, copyAt, sortAt}
 use Rattle.emission.specs.Emission.{sequenceTree}

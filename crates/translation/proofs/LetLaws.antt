@@ -5,7 +5,7 @@ use mathlib.Core.Path.{_≡_, refl, sym, ap, _∙_}
 use mathlib.Core.List.{List}
 use lib.IntN.{pos}
 use Rattle.rules.specs.Records.{childA}
-use Rattle.rules.specs.Translation.{treeSize}
+use Rattle.rules.specs.Emission.{treeSize}
 use Rattle.sizes.specs.Trees.{copyAt}
 use Rattle.rules.proofs.RecordSizes.{none-at}
 use Rattle.emission.specs.Emission.{recordOf, withRecord, withTree, Room, Emitted, partTree}

@@ -6,7 +6,7 @@ use mathlib.Core.List.{List}
 use lib.IntN.{ℤ}
 use lib.ListN.{length}
 use Rattle.rules.specs.Records.{tableBytes}
-use Rattle.rules.specs.Translation.{RecordTree, node, treeSize, emit}
+use Rattle.rules.specs.Emission.{RecordTree, node, treeSize, emit}
 use Rattle.rules.proofs.WordLaws.{length-put}
 use Rattle.emission.specs.Emission.{withTree, Room, Emitted}
 use Rattle.emission.proofs.Emitting.{bytes-emit}

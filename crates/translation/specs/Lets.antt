@@ -2,7 +2,7 @@
 use Prim.Native.Nat.{ℕ, _+_}
 use mathlib.Core.List.{List}
 use lib.IntN.{ℤ, pos}
-use Rattle.rules.specs.Translation.{RecordTree, none, node}
+use Rattle.rules.specs.Emission.{RecordTree, none, node}
 use Rattle.rules.specs.Records.{childA}
 use Rattle.sizes.specs.Trees.{copyAt}
 use Rattle.emission.specs.Emission.{recordOf, withRecord, withTree, sequenceTree, partTree}

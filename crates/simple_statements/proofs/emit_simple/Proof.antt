@@ -3,7 +3,7 @@ use native.Mathlib.Omega.{arith}
 use mathlib.Core.Logic.{inl}
 use mathlib.Core.Path.{refl, sym, ap, _∙_}
 use denote.Ref.{now}
-use Rattle.rules.specs.Translation.{treeSize}
+use Rattle.rules.specs.Emission.{treeSize}
 use Rattle.simple_statements.specs.Statements.{savedTree, newTree}
 use Rattle.assertions.specs.Tests.{assertTree}
 use Rattle.emission.proofs.Emitting.{emitted-as}

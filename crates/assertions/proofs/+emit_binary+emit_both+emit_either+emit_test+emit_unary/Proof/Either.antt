@@ -4,7 +4,7 @@ use mathlib.Core.Logic.{inl}
 use mathlib.Core.Path.{refl, _∙_, subst}
 use denote.Ref.{now}
 use lib.IntN.{pos}
-use Rattle.rules.specs.Translation.{none, node}
+use Rattle.rules.specs.Emission.{none, node}
 use Rattle.tables.specs.Within.{Within}
 use Rattle.sizes.specs.Trees.{treeAt}
 use Rattle.emission.specs.Emission.{Room}

@@ -5,7 +5,7 @@ use borrow.Author.Needs.{needs}
 use mathlib.Core.Logic.{inl}
 use mathlib.Core.Path.{refl, sym, ap, _∙_}
 use denote.Ref.{now}
-use Rattle.rules.specs.Translation.{treeSize}
+use Rattle.rules.specs.Emission.{treeSize}
 use Rattle.emission.proofs.Emitting.{emitted-as}
 use Rattle.assertions.proofs.Rooms.{falls-at}
 use Rattle.assertions.proofs.TestSteps.{ValueAt, within, value-at, either-kind, unary-not, unary-query}

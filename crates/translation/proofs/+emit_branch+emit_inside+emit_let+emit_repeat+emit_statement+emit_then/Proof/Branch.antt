@@ -5,7 +5,7 @@ use mathlib.Core.Logic.{inr}
 use mathlib.Core.Path.{_≡_, _∙_, subst}
 use denote.Ref.{now}
 use lib.IntN.{pos}
-use Rattle.rules.specs.Translation.{node}
+use Rattle.rules.specs.Emission.{node}
 use Rattle.emission.specs.Emission.{Room}
 use Rattle.sizes.specs.Trees.{copyAt, sortAt}
 use Rattle.simple_statements.specs.Statements.{StatementAt}

@@ -4,7 +4,7 @@ use native.Mathlib.Omega.{arith}
 use mathlib.Core.Path.{_≡_, ap, _∙_, subst}
 use denote.Ref.{now}
 use Rattle.rules.specs.Records.{childA}
-use Rattle.rules.specs.Translation.{treeSize}
+use Rattle.rules.specs.Emission.{treeSize}
 use Rattle.emission.specs.Emission.{Room}
 use Rattle.sizes.specs.Trees.{copyAt}
 use Rattle.translation.specs.Lets.{letTree}
