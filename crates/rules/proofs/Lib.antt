@@ -43,6 +43,7 @@ pub mod ShapeLaws
 pub mod ScopeKept
 pub mod TargetAccepted
 pub mod TranslatedTables
+pub mod Relabelled
 -- Runs: how they end, their fuel, a while by its turns, past false assertions.
 pub mod Keeping
 pub mod Operations

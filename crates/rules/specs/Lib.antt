@@ -17,6 +17,8 @@ pub mod Observation
 pub mod Watched
 pub mod Emission
 pub mod Translation
+pub mod SourceRecords
+pub mod Relabelling
 pub mod Origins
 pub mod Layout
 pub mod Answers
