@@ -44,7 +44,7 @@ pub mod ScopeKept
 pub mod TargetAccepted
 pub mod TranslatedTables
 pub mod Relabelled
--- Runs: how they end, their fuel, a while by its turns, past false assertions.
+-- Runs: how they end, their fuel, a while by its turns, past false assertions, with other statement numbers.
 pub mod Keeping
 pub mod Operations
 pub mod EvaluationEndings
@@ -59,6 +59,7 @@ pub mod Endings
 pub mod Fuel
 pub mod Turns
 pub mod PastRun
+pub mod RelabelledRuns
 -- Memories: what every change keeps.
 pub mod MemoryLaws
 pub mod Invariant
