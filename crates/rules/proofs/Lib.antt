@@ -38,6 +38,7 @@ pub mod FittingTrees
 pub mod TargetFitting
 pub mod EmittedBytes
 pub mod BuiltNodes
+pub mod RootNodes
 pub mod ReadBack
 pub mod ShapeLaws
 pub mod ScopeKept
