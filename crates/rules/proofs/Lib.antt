@@ -40,6 +40,9 @@ pub mod EmittedBytes
 pub mod BuiltNodes
 pub mod RootNodes
 pub mod ReadBack
+pub mod Writable
+pub mod SourceReadBack
+pub mod SourceFitting
 pub mod ShapeLaws
 pub mod ScopeKept
 pub mod TargetAccepted

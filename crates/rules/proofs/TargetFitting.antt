@@ -7,8 +7,8 @@ use mathlib.Core.Option.{some}
 use lib.Dec.{leb}
 use lib.IntN.{ℤ, pos}
 use borrow.Author.Tests.{lt-ltb, le-leb}
-use Rattle.rules.specs.Kinds.{target, expression, place, statement, sortNumber, statementLiteral, Form, between}
-use Rattle.rules.specs.Kinds.{lookUp, formOf}
+use Rattle.rules.specs.Kinds.{Language, target, expression, place, statement, sortNumber, statementLiteral}
+use Rattle.rules.specs.Kinds.{Form, between, lookUp, formOf}
 use Rattle.rules.specs.Checker.{sortOf, literalFits, fieldFits}
 use Rattle.rules.specs.Numbers.{inRange}
 use Rattle.rules.specs.Trees.{Operator, add, subtract, multiply, divide, nearest, atMost, equal, shift, Query}
@@ -96,11 +96,11 @@ pub below-let : (ρ : Scope) (m : ℕ) → adding ρ m ≡ scopeBelow 47 m ρ
 below-let ρ m = λ i x. adding-is ρ m x i
 
 -- a record of the rules, its form found from its kind
-fits : {k m : ℕ} {z : ℤ} {x : ℕ} {a b c : RecordTree} {ρ : Scope} {f : Form} → formOf target k ≡ some f
-    → (k < 256) × (m < 256) × (x < 65536) → inRange z ≡ true → literalFits (f .literal) z ≡ true
-    → fieldFits (f .mark) m ≡ true
-    → FieldTree target (f .a) a 0 → FieldTree target (f .b) b 0 → FieldTree target (f .c) c x
-    → OwnScope k m ρ → Fits target k m z x a b c ρ
+pub fits : {l : Language} {k m : ℕ} {z : ℤ} {x : ℕ} {a b c : RecordTree} {ρ : Scope} {f : Form}
+    → formOf l k ≡ some f → (k < 256) × (m < 256) × (x < 65536) → inRange z ≡ true
+    → literalFits (f .literal) z ≡ true → fieldFits (f .mark) m ≡ true
+    → FieldTree l (f .a) a 0 → FieldTree l (f .b) b 0 → FieldTree l (f .c) c x
+    → OwnScope k m ρ → Fits l k m z x a b c ρ
 fits {f} e s r l m fa fb fc q = record {
   form = f;
   is-form = e;
@@ -123,10 +123,10 @@ numbered {s} d e l h m fa fb fc q =
     fits e h (lt-ltb s (2 ^ 63) (omega arith))
     (rw l (both-true (leb 1 s) (leb s 256) (le-leb 1 s (d .0)) (le-leb s 256 (d .1)))) m fa fb fc q
 
-up-to : (high m : ℕ) → m ≤ high → between 0 high m ≡ true
+pub up-to : (high m : ℕ) → m ≤ high → between 0 high m ≡ true
 up-to high m h = between-true 0 high m (omega arith) h
 
-abbrev no-tree : (none ≡ none) × (_≡_ {A = ℕ} 0 0)
+abbrev pub no-tree : (none ≡ none) × (_≡_ {A = ℕ} 0 0)
 no-tree = (refl, refl)
 
 mutual
