@@ -43,6 +43,7 @@ pub mod ReadBack
 pub mod Writable
 pub mod SourceReadBack
 pub mod SourceFitting
+pub mod AcceptedWritable
 pub mod ShapeLaws
 pub mod ScopeKept
 pub mod TargetAccepted
