@@ -46,7 +46,9 @@ pub mod SourceFitting
 pub mod AcceptedWritable
 pub mod ShapeLaws
 pub mod ScopeKept
+pub mod LevelsKept
 pub mod TargetAccepted
+pub mod SourceAccepted
 pub mod TranslatedTables
 pub mod Relabelled
 -- Runs: how they end, their fuel, a while by its turns, past false assertions, with other statement numbers.

@@ -1,4 +1,4 @@
--- The bytes of an emitted target tree are accepted.
+-- The bytes of an emitted tree keep rules 1 to 7, and so those of a target tree are accepted.
 use Prim.Native.Nat.{ℕ, _%_, _≤_, _<_}
 use native.Mathlib.Omega.{arith}
 use mathlib.Core.Path.{_≡_}
@@ -8,7 +8,7 @@ use lib.Dec.{eqb}
 use lib.ListN.{length}
 use borrow.Author.Tests.{eq-eqb, ne-eqb, le-ltb}
 use Rattle.rules.specs.Records.{Record, recordCount, tableBytes}
-use Rattle.rules.specs.Kinds.{target, statement, sortNumber}
+use Rattle.rules.specs.Kinds.{Language, source, target, statement, sortNumber, recordLimit}
 use Rattle.rules.specs.Checker.{sortOf, lengthFault, check}
 use Rattle.rules.specs.TargetTrees.{TargetStatement}
 use Rattle.rules.specs.Emission.{RecordTree, none, node, statementTree, treeSize, emit}
@@ -36,25 +36,32 @@ whole-records rs h =
     sixteens = eq-eqb (length (tableBytes rs) % 16) 0 (omega (arith, table-length rs))
 
 -- a tree of some sort has a record
-some-record : (w : RecordTree) → sortOf target (rootKind w) ≡ sortNumber statement → 0 < treeSize w
-some-record none h = absurd (no-sort target statement h)
-some-record (node k m z x a b c) h = omega arith
+some-record : (l : Language) (w : RecordTree) → sortOf l (rootKind w) ≡ sortNumber statement → 0 < treeSize w
+some-record l none h = absurd (no-sort l statement h)
+some-record l (node k m z x a b c) h = omega arith
+
+at-most : (l : Language) → recordLimit l ≤ 4096
+at-most source = omega arith
+at-most target = omega arith
+
+-- in either language
+pub tree-keeps : (l : Language) (w : RecordTree) → Fitting l w startScope
+    → sortOf l (rootKind w) ≡ sortNumber statement → treeSize w ≤ recordLimit l → Keeps l (tableBytes (emit w 0))
+tree-keeps l w fitting sort s =
+    let t : List ℕ = tableBytes (emit w 0) in
+    let count : recordCount t ≡ treeSize w = emitted-count w in
+    let held : Held l t w 0 = emitted l w startScope fitting (omega (arith, at-most l)) in
+    let kept : Passed l t = passed l t w count held sort in
+    record {
+      length-kept = whole-records (emit w 0) (omega (arith, length-emit w 0, some-record l w sort));
+      count-kept = le-ltb (recordLimit l) (recordCount t) (omega arith);
+      passed = kept;
+      scope-kept = scope-kept l t w kept count (held .records) fitting;
+    }
 
 pub keeps-rules : (w : TargetStatement) → SoundTarget w startScope → treeSize (statementTree w) ≤ 4096
     → Keeps target (tableBytes (emit (statementTree w) 0))
-keeps-rules w h s =
-    let t : List ℕ = tableBytes (emit (statementTree w) 0) in
-    let count : recordCount t ≡ treeSize (statementTree w) = emitted-count (statementTree w) in
-    let fitting : Fitting target (statementTree w) startScope = statement-fits w startScope h in
-    let held : Held target t (statementTree w) 0 = emitted target (statementTree w) startScope fitting s in
-    let kept : Passed target t = passed target t (statementTree w) count held (statement-sort w) in
-    record {
-      length-kept = whole-records (emit (statementTree w) 0)
-          (omega (arith, length-emit (statementTree w) 0, some-record (statementTree w) (statement-sort w)));
-      count-kept = le-ltb 4096 (recordCount t) (omega arith);
-      passed = kept;
-      scope-kept = scope-kept target t (statementTree w) kept count (held .records) fitting;
-    }
+keeps-rules w h s = tree-keeps target (statementTree w) (statement-fits w startScope h) (statement-sort w) s
 
 pub target-accepted : (w : TargetStatement) → SoundTarget w startScope → treeSize (statementTree w) ≤ 4096
     → check target (tableBytes (emit (statementTree w) 0)) ≡ checked.Accepted
