@@ -1,5 +1,6 @@
 -- A program with other statement numbers: each through a function.
 use Prim.Native.Nat.{ℕ}
+use Rattle.rules.specs.Flow.{Outcome, finished, ended}
 use Rattle.rules.specs.Trees.{Statement}
 use Rattle.rules.specs.Trees as tree
 use Rattle.rules.specs.TargetTrees.{TargetStatement, skip, assign, new, free, sequence, branch, while, letIn}
@@ -36,3 +37,8 @@ relabelTarget g (assertOn s n) = assertOn (g s) n
 relabelTarget g (storeBlock s n) = storeBlock (g s) n
 relabelTarget g (deleteBlock s n) = deleteBlock (g s) n
 relabelTarget g (initialise s n) = initialise (g s) n
+
+-- the statement at which a run ended, through a function
+abbrev pub relabelOutcome : {S : Type 0} → (ℕ → ℕ) → Outcome S → Outcome S
+relabelOutcome g (finished x f) = finished x f
+relabelOutcome g (ended c s ρ w x f) = ended c (g s) ρ w x f
