@@ -60,6 +60,7 @@ pub mod EvaluatedValues
 pub mod Outcomes
 pub mod SourceRuns
 pub mod TargetRuns
+pub mod StoppedAt
 pub mod Calls
 pub mod ChangeEndings
 pub mod Endings

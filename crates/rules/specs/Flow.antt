@@ -1,6 +1,8 @@
 -- How the statements of a run follow one another: one control flow for every run, whatever its state S is.
 use Prim.Native.Nat.{ℕ, zero, suc}
 use mathlib.Core.List.{List, [], _∷_}
+use mathlib.Core.Option.{Option, none, some}
+use lib.ListN.{getD}
 use Rattle.rules.specs.Trees.{Place, Expression, Predicate, Statement, skip, assign, new, free, sequence, branch}
 use Rattle.rules.specs.Trees.{while, letIn, assert}
 use Rattle.rules.specs.Memory.{Memory, Change, changed, stopped, Made, made, unmade}
@@ -11,6 +13,27 @@ use Rattle.rules.specs.declared.Test.the-variants as test
 -- the way down a program to a statement: the child taken at each statement, A being 0
 abbrev pub TreePath : Type 0
 TreePath = List ℕ
+
+-- the statements that are children of a source statement, each in its place: A, B, C
+abbrev pub parts : Statement → List (Option Statement)
+parts (skip s) = []
+parts (assign s p e) = []
+parts (new s p e) = []
+parts (free s e) = []
+parts (sequence s a b) = some a ∷ some b ∷ []
+parts (branch s e a b) = none ∷ some a ∷ some b ∷ []
+parts (while s e b) = none ∷ some b ∷ []
+parts (letIn s x b) = some b ∷ []
+parts (assert s p) = []
+
+-- the statement to which a way down leads, if there is one
+abbrev pub ofChild : {A : Type 0} → Option A → (A → Option A) → Option A
+ofChild none on = none
+ofChild (some b) on = on b
+
+unfoldable pub statementOn : {A : Type 0} → (A → List (Option A)) → TreePath → A → Option A
+statementOn parts [] a = some a
+statementOn parts (n ∷ w) a = ofChild (getD (parts a) n none) (λ b. statementOn parts w b)
 
 -- how a statement comes out: finished, with state and fuel; or ended, with number, statement, state and fuel, and with
 -- what no answer tells: the variables' blocks as then, and the way down to the statement

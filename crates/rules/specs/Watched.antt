@@ -1,6 +1,7 @@
 -- The watched run.
 use Prim.Native.Nat.{ℕ, zero, suc}
-use mathlib.Core.List.{List}
+use mathlib.Core.List.{List, [], _∷_}
+use mathlib.Core.Option.{Option, none, some}
 use lib.ListN.{getD, set, replicate}
 use Rattle.rules.specs.Sizes.{temporaryCount}
 use Rattle.rules.specs.Trees.{Operator, Expression, Place}
@@ -35,6 +36,27 @@ temporaryOf τ n = getD τ n temporary.Empty
 
 abbrev pub heldIn : Temporaries → ℕ → Evaluated
 heldIn τ n = held (temporaryOf τ n)
+
+-- the statements that are children of a target statement, each in its place
+abbrev pub targetParts : TargetStatement → List (Option TargetStatement)
+targetParts (skip s) = []
+targetParts (assign s p e) = []
+targetParts (new s p e) = []
+targetParts (free s e) = []
+targetParts (sequence s a b) = some a ∷ some b ∷ []
+targetParts (branch s e a b) = none ∷ some a ∷ some b ∷ []
+targetParts (while s e b) = none ∷ some b ∷ []
+targetParts (letIn s x b) = some b ∷ []
+targetParts (takeAddress s n p) = []
+targetParts (takeValue s n e) = []
+targetParts (takeOperation s n o) = []
+targetParts (takeQuery s n q) = []
+targetParts (takeNot s n) = []
+targetParts (branchOn s n a b) = none ∷ some a ∷ some b ∷ []
+targetParts (assertOn s n) = []
+targetParts (target.storeBlock s n) = []
+targetParts (target.deleteBlock s n) = []
+targetParts (target.initialise s n) = []
 
 -- both memories and the temporaries
 pub record WatchedState : Type 0 where
