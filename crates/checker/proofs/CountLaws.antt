@@ -10,10 +10,11 @@ use borrow.Author.Tests.{eqb-true}
 use lib.Dec.{eqb}
 use lib.ListN.{length, getD, List·getD-eq-default}
 use Rattle.rules.specs.Records.{Record, kindOf, childA, childB, childC, recordAt}
-use Rattle.rules.specs.Kinds.{Language, Form, formOf}
+use Rattle.rules.specs.Kinds.{Language, Form, fieldOf, formOf}
 use Rattle.rules.specs.Checker.{timesIn, timesOf, timesChildOf, timesChild}
-use Rattle.rules.proofs.ParentLaws.{times-suc, times-zero}
+use Rattle.rules.proofs.ParentLaws.{times-in-all, times-suc, times-zero}
 use Rattle.forms.specs.Codes.{fieldFrom, entry, decoded, Coded}
+use Rattle.forms.proofs.FaultLaws.{field-asked}
 use Rattle.checker.specs.Searches.{countIn, countThree, Counted}
 use Rattle.checker.proofs.NoteLaws.{count-step, count-length, times-most, Room}
 
@@ -33,7 +34,10 @@ times-decoded k x r j = go (eqb x 0) refl
     go : (b : Bool) → eqb x 0 ≡ b
         → timesOf (elim b as (λ q. Option Form) [ true ↦ none | false ↦ some (entry k x) ]) r j ≡ inThree x r j
     go true e = none-of x r j (eqb-true x 0 e)
-    go false e = refl
+    go false e =
+        times-in-all (entry k x) r j
+        ∙ (λ i. timesIn (field-asked k x 0 i) (r .a) j + timesIn (field-asked k x 1 i) (r .b) j
+        + timesIn (field-asked k x 2 i) (r .c) j)
 
 pub times-as : (l : Language) (t : List ℕ) (n x j : ℕ) → Coded l (kindOf t n) x
     → timesChildOf l t n j ≡ inThree x (recordAt t n) j
@@ -44,8 +48,13 @@ times-as l t n x j k =
 -- no record counts for more than three
 of-three : (o : Option Form) (r : Record) (j : ℕ) → timesOf o r j ≤ 3
 of-three none r j = omega arith
-of-three (some f) r j =
-    omega (arith, times-most (f .a) (r .a) j, times-most (f .b) (r .b) j, times-most (f .c) (r .c) j)
+of-three (some f) r j = omega (
+  arith,
+  times-in-all f r j,
+  times-most (fieldOf f 0) (r .a) j,
+  times-most (fieldOf f 1) (r .b) j,
+  times-most (fieldOf f 2) (r .c) j,
+)
 
 times-of-most : (l : Language) (t : List ℕ) (n j : ℕ) → timesChildOf l t n j ≤ 3
 unfolding timesChildOf

@@ -7,14 +7,15 @@ use mathlib.Core.Option.{Option, none, some}
 use mathlib.Core.Path.{_≡_, refl, sym, ap, _∙_}
 use borrow.Author.Tests.{leb-true, eqb-true}
 use lib.Dec.{eqb, leb, eqb·suc-zero}
-use Rattle.rules.specs.Records.{recordCount, kindOf, markOf, childA, childB, childC, literalOf, recordAt}
+use Rattle.rules.specs.Records.{recordCount, kindOf, markOf, childB, recordAt}
 use Rattle.rules.specs.Kinds.{Language, source, target, Field, upTo, Form, lookUp, formOf}
-use Rattle.rules.specs.Checker.{fieldFits, literalFits, fieldsFit, childrenFit, faultOf, recordFault, parentOf}
+use Rattle.rules.specs.Checker.{fieldFits, fieldsFit, childrenFit, faultOf, recordFault, parentOf}
 use Rattle.rules.specs.Checker.{isLetOf, inScope, markInScope, scopeFault, levelBelow, levelOf, levelFault}
 use Rattle.rules.specs.declared.Search.{Search}
 use Rattle.rules.specs.declared.Search.the-variants as search
 use Rattle.rules.proofs.KindViews.{formAt}
-use Rattle.rules.proofs.ParentLaws.{Passed, IsParent, two-pass, five-pass}
+use Rattle.rules.proofs.ParentLaws.{Passed, IsParent, two-pass}
+use Rattle.rules.proofs.FormLaws.{fields-split}
 use Rattle.rules.proofs.ScopeLaws.{scope-child, scope-last, level-child, level-last}
 use Rattle.checker.specs.Scopes.{bit, outOfScope, tooDeep}
 use Rattle.checker.proofs.LevelLaws.{below-most}
@@ -30,8 +31,7 @@ unfolding recordFault
 mark-of l t n f e m h =
     let fit : fieldsFit f (recordAt t n) ≡ true =
     four-less (fieldsFit f (recordAt t n)) (childrenFit l t n f (recordAt t n)) (sym (ap (faultOf l t n) e) ∙ h) in
-    let p = five-pass (fieldFits (f .mark) (markOf t n)) (fieldFits (f .a) (childA t n)) (fieldFits (f .b) (childB t n))
-    (fieldFits (f .c) (childC t n)) (literalFits (f .literal) (literalOf t n)) fit in
+    let p = fields-split f (recordAt t n) fit in
     let range : (leb 0 (markOf t n) && leb (markOf t n) 63) ≡ true =
     sym (ap (λ (g : Field). fieldFits g (markOf t n)) m) ∙ p .0 in
     omega (arith, leb-true (markOf t n) 63 (two-pass (leb 0 (markOf t n)) (leb (markOf t n) 63) range .1))

@@ -1,18 +1,21 @@
 -- Rules 3 to 5 at one record, from what its kind's number asks.
-use Prim.Native.Nat.{ℕ, _/_, _%_, _<_, _≤_}
+use Prim.Native.Nat.{ℕ, zero, suc, _/_, _%_, _<_, _≤_}
 use native.Mathlib.Omega.{arith}
 use mathlib.Core.Bool.{Bool, true, false, cond, _&&_}
-use mathlib.Core.List.{List}
+use mathlib.Core.List.{List, [], _∷_, map}
 use mathlib.Core.Option.{Option, none, some}
 use mathlib.Core.Path.{_≡_, refl, sym, ap, subst, _∙_}
 use borrow.Author.Tests.{eq-eqb, ne-eqb, lt-ltb, le-ltb, ltb-true}
 use lib.Dec.{eqb, ltb}
 use lib.IntN.{ℤ}
+use lib.ListN.{getD}
 use Rattle.rules.specs.Records.{kindOf, markOf, childA, childB, childC, literalOf, recordAt}
-use Rattle.rules.specs.Kinds.{Language, Sort, sortNumber, Field, unnamed, child, number, Form}
-use Rattle.rules.specs.Checker.{fieldFits, literalFits, fieldsFit, sortOf, childFits, childrenFit, faultOf, recordFault}
+use Rattle.rules.specs.Kinds.{Language, Sort, sortNumber, Field, unnamed, child, number, Form, fieldOf, beside}
+use Rattle.rules.specs.Checker.{all, fieldFits, literalFits, fieldsFit, sortOf, childFits, childrenFit, faultOf}
+use Rattle.rules.specs.Checker.{recordFault}
 use Rattle.rules.proofs.ParentLaws.{five-pass}
-use Rattle.forms.specs.Codes.{sortFrom, testFrom, fieldFrom, literalFrom, fieldsThere, entry, decoded, Coded}
+use Rattle.forms.specs.Codes.{sortFrom, testFrom, fieldFrom, literalFrom, fieldDigits, withFirst, fieldsFrom}
+use Rattle.forms.specs.Codes.{fieldsThere, entry, decoded, Coded}
 use Rattle.forms.proofs.FieldLaws.{field-none, field-child, field-number, sort-digit}
 
 -- three tests in a row
@@ -38,14 +41,48 @@ five false a b c l = refl
 five true a b c true = and-true (a && b && c)
 five true a b c false = and-false (a && b && c)
 
+-- what a form has in a field is what its digit asks
+first-at : (f : Field) (fs : List Field) (i : ℕ) → getD (withFirst f fs) i unnamed ≡ getD (f ∷ fs) i unnamed
+first-at unnamed [] zero = refl
+first-at unnamed [] (suc i) = refl
+first-at unnamed (f ∷ fs) i = refl
+first-at (child s) fs i = refl
+first-at (number p) fs i = refl
+
+field-at : (ds : List ℕ) (i : ℕ) → getD (fieldsFrom ds) i unnamed ≡ getD (map fieldFrom ds) i unnamed
+field-at [] i = refl
+field-at (d ∷ ds) zero = first-at (fieldFrom d) (fieldsFrom ds) 0
+field-at (d ∷ ds) (suc i) = first-at (fieldFrom d) (fieldsFrom ds) (suc i) ∙ field-at ds i
+
+pub field-asked : (k x i : ℕ) → fieldOf (entry k x) i ≡ getD (map fieldFrom (fieldDigits x)) i unnamed
+field-asked k x i = field-at (fieldDigits x) i
+
+-- so the tests of fields are those of their digits
+all-asked : (test : Field → ℕ → Bool) (x a b c : ℕ) → all (beside test (entry 0 x) 0 (a ∷ b ∷ c ∷ []))
+    ≡ (test (fieldFrom (x / 4096 % 16)) a && test (fieldFrom (x / 256 % 16)) b && test (fieldFrom (x / 16 % 16)) c)
+all-asked test x a b c =
+    λ i. test (field-asked 0 x 0 i) a && test (field-asked 0 x 1 i) b && test (field-asked 0 x 2 i) c
+
+pub there-as : (x a b c : ℕ) → fieldsThere x (a ∷ b ∷ c ∷ [])
+    ≡ (fieldFits (fieldFrom (x / 4096 % 16)) a && fieldFits (fieldFrom (x / 256 % 16)) b
+    && fieldFits (fieldFrom (x / 16 % 16)) c)
+unfolding fieldsThere
+there-as x a b c = all-asked fieldFits x a b c
+
+pub children-as : (l : Language) (t : List ℕ) (n x : ℕ) → childrenFit l t n (entry 0 x) (recordAt t n)
+    ≡ (childFits l t n (fieldFrom (x / 4096 % 16)) (childA t n) && childFits l t n (fieldFrom (x / 256 % 16)) (childB t n)
+    && childFits l t n (fieldFrom (x / 16 % 16)) (childC t n))
+children-as l t n x = all-asked (childFits l t n) x (childA t n) (childB t n) (childC t n)
+
 pub fields-as : (x : ℕ) (t : List ℕ) (n : ℕ) → fieldsFit (entry 0 x) (recordAt t n)
     ≡ (fieldFits (fieldFrom (x / 65536 % 16)) (markOf t n) && literalFits (literalFrom (x % 16)) (literalOf t n)
-    && fieldsThere x (childA t n) (childB t n) (childC t n))
+    && fieldsThere x (childA t n ∷ childB t n ∷ childC t n ∷ []))
 unfolding fieldsThere
 fields-as x t n =
-    five (fieldFits (fieldFrom (x / 65536 % 16)) (markOf t n)) (fieldFits (fieldFrom (x / 4096 % 16)) (childA t n))
-    (fieldFits (fieldFrom (x / 256 % 16)) (childB t n)) (fieldFits (fieldFrom (x / 16 % 16)) (childC t n))
-    (literalFits (literalFrom (x % 16)) (literalOf t n))
+    let f = entry 0 x in
+    five (fieldFits (f .mark) (markOf t n)) (fieldFits (fieldOf f 0) (childA t n))
+    (fieldFits (fieldOf f 1) (childB t n)) (fieldFits (fieldOf f 2) (childC t n))
+    (literalFits (f .literal) (literalOf t n))
 
 -- ---- a child that is there
 module _ (l : Language) (t : List ℕ) (n d x : ℕ) where
@@ -88,10 +125,14 @@ pub there : (x : ℕ) (t : List ℕ) (n : ℕ) → fieldsFit (entry 0 x) (record
     × (fieldFits (fieldFrom (x / 256 % 16)) (childB t n) ≡ true)
     × (fieldFits (fieldFrom (x / 16 % 16)) (childC t n) ≡ true)
 there x t n h =
-    let p = five-pass (fieldFits (fieldFrom (x / 65536 % 16)) (markOf t n))
-    (fieldFits (fieldFrom (x / 4096 % 16)) (childA t n)) (fieldFits (fieldFrom (x / 256 % 16)) (childB t n))
-    (fieldFits (fieldFrom (x / 16 % 16)) (childC t n)) (literalFits (literalFrom (x % 16)) (literalOf t n)) h in
-    (p .1, p .2, p .3)
+    let f = entry 0 x in
+    let p = five-pass (fieldFits (f .mark) (markOf t n)) (fieldFits (fieldOf f 0) (childA t n))
+    (fieldFits (fieldOf f 1) (childB t n)) (fieldFits (fieldOf f 2) (childC t n))
+    (literalFits (f .literal) (literalOf t n)) h in
+    let fits : (i y : ℕ) → fieldFits (fieldOf f i) y ≡ true
+    → fieldFits (getD (map fieldFrom (fieldDigits x)) i unnamed) y ≡ true =
+    λ i y e. subst (λ (g : Field). fieldFits g y ≡ true) (field-asked 0 x i) e in
+    (fits 0 (childA t n) (p .1), fits 1 (childB t n) (p .2), fits 2 (childC t n) (p .3))
 
 -- ---- the record
 module _ (l : Language) (t : List ℕ) (n x : ℕ) (k : Coded l (kindOf t n) x) where

@@ -1,6 +1,6 @@
 -- A form as a number of six hexadecimal digits: sort, mark, A, B, C, literal; 0 where the language has no such kind.
 use Prim.Native.Nat.{ℕ, zero, suc, _/_, _%_}
-use mathlib.Core.Bool.{Bool, true, false, _&&_, _||_}
+use mathlib.Core.Bool.{Bool, true, false, _||_}
 use mathlib.Core.List.{List, [], _∷_}
 use mathlib.Core.Option.{Option, none, some}
 use mathlib.Core.Path.{_≡_}
@@ -8,8 +8,8 @@ use lib.Dec.{ltb, eqb}
 use lib.ListN.{getD}
 use Rattle.rules.specs.Kinds.{Language, source, target, Sort, expression, place, term, predicate, statement, Field}
 use Rattle.rules.specs.Kinds.{unnamed, child, number, between, Literal, zeroLiteral, anyLiteral, statementLiteral}
-use Rattle.rules.specs.Kinds.{Form, form, formOf}
-use Rattle.rules.specs.Checker.{fieldFits, sortOf}
+use Rattle.rules.specs.Kinds.{Form, form, beside, formOf}
+use Rattle.rules.specs.Checker.{all, fieldFits, sortOf}
 
 abbrev pub languageOf : Bool → Language
 languageOf true = target
@@ -51,10 +51,24 @@ literalFrom zero = zeroLiteral
 literalFrom (suc zero) = anyLiteral
 literalFrom (suc (suc n)) = statementLiteral
 
+-- the digits of A, B, C
+abbrev pub fieldDigits : ℕ → List ℕ
+fieldDigits x = (x / 4096 % 16) ∷ (x / 256 % 16) ∷ (x / 16 % 16) ∷ []
+
+-- a form lists its fields to the last that it names
+abbrev pub withFirst : Field → List Field → List Field
+withFirst unnamed [] = []
+withFirst unnamed (f ∷ fs) = unnamed ∷ f ∷ fs
+withFirst (child s) fs = child s ∷ fs
+withFirst (number p) fs = number p ∷ fs
+
+abbrev pub fieldsFrom : List ℕ → List Field
+fieldsFrom [] = []
+fieldsFrom (d ∷ ds) = withFirst (fieldFrom d) (fieldsFrom ds)
+
 abbrev pub entry : ℕ → ℕ → Form
 entry k x =
-    form k (sortFrom (x / 1048576)) (fieldFrom (x / 65536 % 16)) (fieldFrom (x / 4096 % 16)) (fieldFrom (x / 256 % 16))
-    (fieldFrom (x / 16 % 16)) (literalFrom (x % 16))
+    form k (sortFrom (x / 1048576)) (fieldFrom (x / 65536 % 16)) (fieldsFrom (fieldDigits x)) (literalFrom (x % 16))
 
 unfoldable pub decoded : ℕ → ℕ → Option Form
 decoded k x = elim (eqb x 0) [ true ↦ none | false ↦ some (entry k x) ]
@@ -64,8 +78,6 @@ pub record Coded (l : Language) (k x : ℕ) : Type 0 where
   pub asks : formOf l k ≡ decoded k x
   pub sort : sortOf l k ≡ x / 1048576
 
--- A, B and C are what x asks
-unfoldable pub fieldsThere : ℕ → ℕ → ℕ → ℕ → Bool
-fieldsThere x a b c =
-    fieldFits (fieldFrom (x / 4096 % 16)) a && fieldFits (fieldFrom (x / 256 % 16)) b
-    && fieldFits (fieldFrom (x / 16 % 16)) c
+-- fields are what x asks
+unfoldable pub fieldsThere : ℕ → List ℕ → Bool
+fieldsThere x xs = all (beside fieldFits (entry 0 x) 0 xs)

@@ -4,6 +4,7 @@ mod fields;
 
 ghost use mathlib.Core.Path.{_≡_};
 ghost use mathlib.Core.Bool.{true};
+ghost use mathlib.Core.List.{[], _∷_};
 ghost use Rattle.rules.specs.Records.{recordAt};
 ghost use Rattle.rules.specs.Checker.{fieldFits, fieldsFit, childFits, childrenFit, recordFault};
 ghost use Rattle.tables.specs.Within.{Within};
@@ -153,7 +154,7 @@ pub fn form_of(target: bool, kind: u8) -> usize
 }
 
 fn are_there(form: usize, a: usize, b: usize, c: usize) -> bool
-    ensures { λ r. ⌜ r ≡ fieldsThere form a b c ⌝ }
+    ensures { λ r. ⌜ r ≡ fieldsThere form (a ∷ b ∷ c ∷ []) ⌝ }
 {
     if fields::field_fits(form / 4096 % 16, a) {
         if fields::field_fits(form / 256 % 16, b) {

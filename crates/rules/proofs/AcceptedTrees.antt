@@ -7,7 +7,7 @@ use mathlib.Core.Path.{_≡_, refl, sym, ap, _∙_}
 use borrow.Author.Tests.{ltb-true, eqb-true, eq-eqb, not-false}
 use lib.Dec.{ltb, eqb}
 use Rattle.rules.specs.Records.{recordCount, kindOf, childA, childB, childC, recordAt}
-use Rattle.rules.specs.Kinds.{Language, Sort, sortNumber, statement, Field, unnamed, child, number, formOf}
+use Rattle.rules.specs.Kinds.{Language, Sort, sortNumber, statement, Field, unnamed, child, number, formOf, fieldOf}
 use Rattle.rules.specs.Checker.{fieldFits, formSort, sortOf, childFits, recordFault, shapeFault}
 use Rattle.rules.specs.Nodes.{sortOfNode, nodeFits, nodeIn, nodes, nodeAt}
 use Rattle.rules.proofs.Acceptance.{Accepted}
@@ -40,11 +40,11 @@ module _ (l : Language) (t : List ℕ) (rules : (n : ℕ) → 1 ≤ n → n ≤ 
       let w = faultless l t n e in
       let f = w .form in
       let v = fields-split f (recordAt t n) (w .fields) in
-      let k = three-pass (childFits l t n (f .a) (childA t n)) (childFits l t n (f .b) (childB t n))
-      (childFits l t n (f .c) (childC t n)) (w .children) in
-      let x = child-fits n q ih (f .a) (childA t n) (v .1) (k .0) in
-      let y = child-fits n q ih (f .b) (childB t n) (v .2) (k .1) in
-      let z = child-fits n q ih (f .c) (childC t n) (v .3) (k .2) in
+      let k = three-pass (childFits l t n (fieldOf f 0) (childA t n)) (childFits l t n (fieldOf f 1) (childB t n))
+      (childFits l t n (fieldOf f 2) (childC t n)) (w .children) in
+      let x = child-fits n q ih (fieldOf f 0) (childA t n) (v .1) (k .0) in
+      let y = child-fits n q ih (fieldOf f 1) (childB t n) (v .2) (k .1) in
+      let z = child-fits n q ih (fieldOf f 2) (childC t n) (v .3) (k .2) in
       let g = both-true _ _ (both-true _ _ x y) z in
       form-sort l t n f (w .found) (node-built l t n f p q e (w .found) (w .fields) g) ∙ sym (ap formSort (w .found))
 

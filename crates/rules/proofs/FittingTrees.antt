@@ -10,7 +10,7 @@ use lib.IntN.{ℤ}
 use borrow.Author.Tests.{lt-ltb, eq-eqb}
 use Rattle.rules.specs.Records.{Record, kindOf, recordAt}
 use Rattle.rules.specs.Kinds.{Language, source, target, Sort, expression, place, term, predicate, statement}
-use Rattle.rules.specs.Kinds.{sortNumber, Field, unnamed, child, number, Form, formOf, lookUp}
+use Rattle.rules.specs.Kinds.{sortNumber, Field, unnamed, child, number, Form, fieldOf, formOf, lookUp}
 use Rattle.rules.specs.Checker.{fieldFits, literalFits, fieldsFit, sortOf, childFits, childrenFit, recordFault}
 use Rattle.rules.specs.Numbers.{inRange}
 use Rattle.rules.specs.Emission.{RecordTree, node, treeSize, rootNumber, fieldC}
@@ -46,9 +46,9 @@ pub record Fits (l : Language) (k m : ℕ) (z : ℤ) (x : ℕ) (a b c : RecordTr
   pub small : (k < 256) × (m < 256) × (x < 65536)
   pub in-range : inRange z ≡ true
   pub mark : fieldFits (form .mark) m ≡ true
-  pub field-a : FieldTree l (form .a) a 0
-  pub field-b : FieldTree l (form .b) b 0
-  pub field-c : FieldTree l (form .c) c x
+  pub field-a : FieldTree l (fieldOf form 0) a 0
+  pub field-b : FieldTree l (fieldOf form 1) b 0
+  pub field-c : FieldTree l (fieldOf form 2) c x
   pub literal : literalFits (form .literal) z ≡ true
   pub scope : OwnScope k m ρ
 
@@ -120,17 +120,17 @@ own-fault l t k m z x a b c n ρ h q =
     let f : Form = h .form in
     let nb : ℕ = n + treeSize a in
     let nc : ℕ = n + treeSize a + treeSize b in
-    let fa : fieldFits (f .a) (rootNumber a n) ≡ true =
-    rw (field-root a n) (field-fits l (f .a) a 0 n (h .field-a)) in
-    let fb : fieldFits (f .b) (rootNumber b nb) ≡ true =
-    rw (field-root b nb) (field-fits l (f .b) b 0 nb (h .field-b)) in
-    let fc : fieldFits (f .c) (fieldC c x nc) ≡ true = field-fits l (f .c) c x nc (h .field-c) in
-    let ga : childFits l t j (f .a) (rootNumber a n) ≡ true =
-    rw (field-root a n) (child-fits l t (f .a) a 0 n j (h .field-a) (q .0) (omega arith)) in
-    let gb : childFits l t j (f .b) (rootNumber b nb) ≡ true =
-    rw (field-root b nb) (child-fits l t (f .b) b 0 nb j (h .field-b) (q .1) (omega arith)) in
-    let gc : childFits l t j (f .c) (fieldC c x nc) ≡ true =
-    child-fits l t (f .c) c x nc j (h .field-c) (q .2) (omega arith) in
+    let fa : fieldFits (fieldOf f 0) (rootNumber a n) ≡ true =
+    rw (field-root a n) (field-fits l (fieldOf f 0) a 0 n (h .field-a)) in
+    let fb : fieldFits (fieldOf f 1) (rootNumber b nb) ≡ true =
+    rw (field-root b nb) (field-fits l (fieldOf f 1) b 0 nb (h .field-b)) in
+    let fc : fieldFits (fieldOf f 2) (fieldC c x nc) ≡ true = field-fits l (fieldOf f 2) c x nc (h .field-c) in
+    let ga : childFits l t j (fieldOf f 0) (rootNumber a n) ≡ true =
+    rw (field-root a n) (child-fits l t (fieldOf f 0) a 0 n j (h .field-a) (q .0) (omega arith)) in
+    let gb : childFits l t j (fieldOf f 1) (rootNumber b nb) ≡ true =
+    rw (field-root b nb) (child-fits l t (fieldOf f 1) b 0 nb j (h .field-b) (q .1) (omega arith)) in
+    let gc : childFits l t j (fieldOf f 2) (fieldC c x nc) ≡ true =
+    child-fits l t (fieldOf f 2) c x nc j (h .field-c) (q .2) (omega arith) in
     no-fault l t j f (ownRecord k m z x a b c n) (q .3) (h .is-form)
     (both-true _ _ (both-true _ _ (both-true _ _ (both-true _ _ (h .mark) fa) fb) fc) (h .literal))
     (both-true _ _ (both-true _ _ ga gb) gc)

@@ -13,7 +13,7 @@ use lib.Signed.{leZ}
 use Rattle.rules.specs.Records.{Record, recordCount, kindOf, markOf, childA, childB, childC, literalOf, recordAt}
 use Rattle.rules.specs.Kinds.{Language, source, target, Sort, sortNumber, expression, place, term, predicate}
 use Rattle.rules.specs.Kinds.{statement, Field, unnamed, child, number, Literal, zeroLiteral, anyLiteral}
-use Rattle.rules.specs.Kinds.{statementLiteral, Form, forms, formOf}
+use Rattle.rules.specs.Kinds.{statementLiteral, Form, fieldOf, forms, formOf}
 use Rattle.rules.specs.Checker.{fieldFits, literalFits, fieldsFit, childrenFit, faultOf, recordFault}
 use Rattle.rules.specs.Nodes.{NodeOf, buildNode, sortOfNode, nodeFits, nodesFit, guarded, nodeAt}
 use Rattle.rules.proofs.BooleanLaws.{three-pass, five-pass}
@@ -56,9 +56,9 @@ nodeAs l k t n =
 -- record n keeps its form, and its node is what the fields say
 pub record FormHolds (l : Language) (t : List ℕ) (n : ℕ) (f : Form) : Type 0 where
   pub mark : MarkHolds (f .mark) (markOf t n)
-  pub a : FieldHolds l t n (f .a) (childA t n)
-  pub b : FieldHolds l t n (f .b) (childB t n)
-  pub c : FieldHolds l t n (f .c) (childC t n)
+  pub a : FieldHolds l t n (fieldOf f 0) (childA t n)
+  pub b : FieldHolds l t n (fieldOf f 1) (childB t n)
+  pub c : FieldHolds l t n (fieldOf f 2) (childC t n)
   pub literal : LiteralHolds (f .literal) (literalOf t n)
   pub node : nodeAt l t n ≡ nodeAs l (f .kind) t n
 
@@ -106,8 +106,8 @@ field-holds l t n (child s) x h q = go (decLt x n)
 field-holds l t n (number p) x h q = h
 
 pub fields-split : (f : Form) (r : Record) → fieldsFit f r ≡ true
-    → (fieldFits (f .mark) (r .mark) ≡ true) × (fieldFits (f .a) (r .a) ≡ true) × (fieldFits (f .b) (r .b) ≡ true)
-    × (fieldFits (f .c) (r .c) ≡ true) × (literalFits (f .literal) (r .literal) ≡ true)
+    → (fieldFits (f .mark) (r .mark) ≡ true) × (fieldFits (fieldOf f 0) (r .a) ≡ true) × (fieldFits (fieldOf f 1) (r .b) ≡ true)
+    × (fieldFits (fieldOf f 2) (r .c) ≡ true) × (literalFits (f .literal) (r .literal) ≡ true)
 fields-split f r h = five-pass _ _ _ _ (literalFits (f .literal) (r .literal)) h
 
 -- a record without fault has a form, and its fields and children fit it
@@ -138,7 +138,7 @@ isPlain (child s) = true
 isPlain (number p) = false
 
 readsChildren : Form → Bool
-readsChildren f = isPlain (f .a) && isPlain (f .b) && (isPlain (f .c) || eqb (f .kind) 63 || eqb (f .kind) 64)
+readsChildren f = isPlain (fieldOf f 0) && isPlain (fieldOf f 1) && (isPlain (fieldOf f 2) || eqb (f .kind) 63 || eqb (f .kind) 64)
 
 each-reads : (l : Language) → every readsChildren (forms l) ≡ true
 unfolding readsChildren isPlain
@@ -175,18 +175,18 @@ nodeUnder l t n =
     (nodeBefore l t n (childA t n)) (nodeBefore l t n (childB t n)) (nodeBefore l t n (childC t n))
 
 built-as : (l : Language) (t : List ℕ) (n : ℕ) (f : Form) → 1 ≤ n → kindOf t n ≡ f .kind → readsChildren f ≡ true
-    → FieldHolds l t n (f .a) (childA t n) → FieldHolds l t n (f .b) (childB t n)
-    → FieldHolds l t n (f .c) (childC t n) → nodeUnder l t n ≡ nodeAs l (f .kind) t n
+    → FieldHolds l t n (fieldOf f 0) (childA t n) → FieldHolds l t n (fieldOf f 1) (childB t n)
+    → FieldHolds l t n (fieldOf f 2) (childC t n) → nodeUnder l t n ≡ nodeAs l (f .kind) t n
 unfolding readsChildren
 built-as l t n f p k h a b c =
-    let r = and-split (isPlain (f .a) && isPlain (f .b)) (isPlain (f .c) || eqb (f .kind) 63 || eqb (f .kind) 64) h in
-    let q = and-split (isPlain (f .a)) (isPlain (f .b)) (r .0) in
+    let r = and-split (isPlain (fieldOf f 0) && isPlain (fieldOf f 1)) (isPlain (fieldOf f 2) || eqb (f .kind) 63 || eqb (f .kind) 64) h in
+    let q = and-split (isPlain (fieldOf f 0)) (isPlain (fieldOf f 1)) (r .0) in
     let C = nodeBefore l t n (childC t n) in
-    let a = plain-node l t n (f .a) (childA t n) p a (q .0) in
-    let b = plain-node l t n (f .b) (childB t n) p b (q .1) in
+    let a = plain-node l t n (fieldOf f 0) (childA t n) p a (q .0) in
+    let b = plain-node l t n (fieldOf f 1) (childB t n) p b (q .1) in
     (λ i. buildNode l n (recordAs (k i) t n) (a i) (b i) C)
-    ∙ ignores-c l (f .kind) (isPlain (f .c)) t n (nodeAt l t (childA t n)) (nodeAt l t (childB t n)) C
-    (nodeAt l t (childC t n)) (plain-node l t n (f .c) (childC t n) p c) (r .1)
+    ∙ ignores-c l (f .kind) (isPlain (fieldOf f 2)) t n (nodeAt l t (childA t n)) (nodeAt l t (childB t n)) C
+    (nodeAt l t (childC t n)) (plain-node l t n (fieldOf f 2) (childC t n) p c) (r .1)
 
 -- the nodes that record n has for children
 abbrev pub nodesUnder : (l : Language) → List ℕ → ℕ → Option Form → Bool
@@ -202,11 +202,11 @@ kept l t n f p o h q e =
     let B = nodeBefore l t n (childB t n) in
     let C = nodeBefore l t n (childC t n) in
     let k = kindOf t n in
-    let u = three-pass (nodeFits l (f .a) A) (nodeFits l (f .b) B) (nodeFits l (f .c) C) q in
+    let u = three-pass (nodeFits l (fieldOf f 0) A) (nodeFits l (fieldOf f 1) B) (nodeFits l (fieldOf f 2) C) q in
     let v = fields-split f (recordAt t n) h in
-    let a = field-holds l t n (f .a) (childA t n) (v .1) (u .0) in
-    let b = field-holds l t n (f .b) (childB t n) (v .2) (u .1) in
-    let c = field-holds l t n (f .c) (childC t n) (v .3) (u .2) in
+    let a = field-holds l t n (fieldOf f 0) (childA t n) (v .1) (u .0) in
+    let b = field-holds l t n (fieldOf f 1) (childB t n) (v .2) (u .1) in
+    let c = field-holds l t n (fieldOf f 2) (childC t n) (v .3) (u .2) in
     record {
       mark = mark-holds (f .mark) (markOf t n) (v .0);
       a = a;

@@ -37,7 +37,7 @@ found-form P l k f h e = subst (Found (λ g. P g × (k ≡ g .kind))) e (found-i
 
 -- the form of kind k, where k is one: it computes at a literal
 abbrev pub formIn : List Form → ℕ → Form
-formIn [] k = form k statement unnamed unnamed unnamed unnamed zeroLiteral
+formIn [] k = form k statement unnamed [] zeroLiteral
 formIn (f ∷ fs) k = elim (eqb k (f .kind)) [ true ↦ f | false ↦ formIn fs k ]
 
 abbrev pub formAt : Language → ℕ → Form

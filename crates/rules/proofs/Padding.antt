@@ -13,7 +13,7 @@ use lib.ListN.{length, take, drop, getD, length-append, List·getD-append}
 use Rattle.rules.specs.Words.{part, little, wordAt, integerAt}
 use Rattle.rules.specs.Records.{Record, recordCount, start, kindOf, markOf, childA, childB, childC, literalOf}
 use Rattle.rules.specs.Records.{recordAt}
-use Rattle.rules.specs.Kinds.{Language, sortNumber, Field, unnamed, child, number, Form, formOf}
+use Rattle.rules.specs.Kinds.{Language, sortNumber, Field, unnamed, child, number, Form, fieldOf, formOf}
 use Rattle.rules.specs.Checker.{fieldsFit, sortOf, childFits, childrenFit, faultOf, recordFault}
 use Rattle.rules.specs.Nodes.{NodeOf, buildNode, nodesFit, guarded, nodeIn, makeNode, withNext, nodes, nodeAt}
 
@@ -70,7 +70,7 @@ module _ (t z : List ℕ) where
   children-padded : (l : Language) (n : ℕ) (f : Form) (r : Record) → n ≤ recordCount t
       → childrenFit l (t ++ z) n f r ≡ childrenFit l t n f r
   children-padded l n f r q =
-      λ i. child-padded l n (f .a) (r .a) q i && child-padded l n (f .b) (r .b) q i && child-padded l n (f .c) (r .c) q i
+      λ i. child-padded l n (fieldOf f 0) (r .a) q i && child-padded l n (fieldOf f 1) (r .b) q i && child-padded l n (fieldOf f 2) (r .c) q i
 
   fault-padded : (l : Language) (n : ℕ) → 1 ≤ n → n ≤ recordCount t → recordFault l (t ++ z) n ≡ recordFault l t n
   unfolding recordFault

@@ -2,14 +2,14 @@
 use Prim.Native.Nat.{ℕ, zero, suc, _+_, _≤_, _<_}
 use native.Mathlib.Omega.{arith}
 use native.Mathlib.Decide.{decLt}
-use mathlib.Core.Path.{_≡_, refl, ap, subst}
+use mathlib.Core.Path.{_≡_, refl, ap, subst, _∙_}
 use mathlib.Core.Bool.{Bool, true, false, cond, _&&_, false≢true}
 use mathlib.Core.List.{List}
 use mathlib.Core.Option.{Option, none, some}
 use lib.Dec.{ltb, eqb}
 use borrow.Author.Tests.{ltb-true, ltb-false, lt-ltb, le-ltb, eq-eqb, eqb-true, ne-eqb, not-false}
 use Rattle.rules.specs.Records.{Record, recordCount, kindOf, childA, childB, childC, recordAt}
-use Rattle.rules.specs.Kinds.{Language, Sort, sortNumber, Field, unnamed, child, number, Form, formOf}
+use Rattle.rules.specs.Kinds.{Language, Sort, sortNumber, Field, unnamed, child, number, Form, fieldOf, formOf}
 use Rattle.rules.specs.Checker.{fieldFits, literalFits, fieldsFit, sortOf, childFits, childrenFit, faultOf}
 use Rattle.rules.specs.Checker.{recordFault, timesIn, timesOf, timesChildOf, timesChild, shapeFault, parentOf}
 use Rattle.rules.specs.declared.Search.{Search}
@@ -51,18 +51,18 @@ module _ (l : Language) (t : List ℕ) (m : ℕ) where
   in-fields : (f : Form) (r : Record) (c : ℕ) → fieldsFit f r ≡ true → childrenFit l t m f r ≡ true
       → 0 < timesOf (some f) r c → (0 < c) × (c < m)
   in-fields f r c p q h =
-      let ps = five-pass (fieldFits (f .mark) (r .mark)) (fieldFits (f .a) (r .a)) (fieldFits (f .b) (r .b))
-      (fieldFits (f .c) (r .c)) (literalFits (f .literal) (r .literal)) p in
-      let qs = three-pass (childFits l t m (f .a) (r .a)) (childFits l t m (f .b) (r .b))
-      (childFits l t m (f .c) (r .c)) q in
-      go (decLt 0 (timesIn (f .a) (r .a) c)) (decLt 0 (timesIn (f .b) (r .b) c))
-      (in-field (f .a) (r .a) c (ps .1) (qs .0))
-      (in-field (f .b) (r .b) c (ps .2) (qs .1))
-      (in-field (f .c) (r .c) c (ps .3) (qs .2))
+      let ps = five-pass (fieldFits (f .mark) (r .mark)) (fieldFits (fieldOf f 0) (r .a)) (fieldFits (fieldOf f 1) (r .b))
+      (fieldFits (fieldOf f 2) (r .c)) (literalFits (f .literal) (r .literal)) p in
+      let qs = three-pass (childFits l t m (fieldOf f 0) (r .a)) (childFits l t m (fieldOf f 1) (r .b))
+      (childFits l t m (fieldOf f 2) (r .c)) q in
+      go (decLt 0 (timesIn (fieldOf f 0) (r .a) c)) (decLt 0 (timesIn (fieldOf f 1) (r .b) c))
+      (in-field (fieldOf f 0) (r .a) c (ps .1) (qs .0))
+      (in-field (fieldOf f 1) (r .b) c (ps .2) (qs .1))
+      (in-field (fieldOf f 2) (r .c) c (ps .3) (qs .2))
     where
-      go : Dec (0 < timesIn (f .a) (r .a) c) → Dec (0 < timesIn (f .b) (r .b) c)
-          → (0 < timesIn (f .a) (r .a) c → (0 < c) × (c < m)) → (0 < timesIn (f .b) (r .b) c → (0 < c) × (c < m))
-          → (0 < timesIn (f .c) (r .c) c → (0 < c) × (c < m)) → (0 < c) × (c < m)
+      go : Dec (0 < timesIn (fieldOf f 0) (r .a) c) → Dec (0 < timesIn (fieldOf f 1) (r .b) c)
+          → (0 < timesIn (fieldOf f 0) (r .a) c → (0 < c) × (c < m)) → (0 < timesIn (fieldOf f 1) (r .b) c → (0 < c) × (c < m))
+          → (0 < timesIn (fieldOf f 2) (r .c) c → (0 < c) × (c < m)) → (0 < c) × (c < m)
       go (yes u) v a b d = a u
       go (no u) (yes v) a b d = b v
       go (no u) (no v) a b d = d (omega arith)
@@ -154,12 +154,17 @@ parent-is l t m c e =
     subst (Outcome (λ m. ltb 0 (timesChildOf l t m c)) 1 (recordCount t)) e (parent-outcome l t c) in
     record { in-table = omega arith; has-child = ltb-true 0 (timesChildOf l t m c) (h .2) }
 
--- how often c is a child of n, by the fields
+-- how often c is a child, by the fields
+pub times-in-all : (f : Form) (r : Record) (c : ℕ) → timesOf (some f) r c
+    ≡ timesIn (fieldOf f 0) (r .a) c + timesIn (fieldOf f 1) (r .b) c + timesIn (fieldOf f 2) (r .c) c
+times-in-all f r c = omega arith
+
 pub times-by-fields : (l : Language) (t : List ℕ) (n c : ℕ) (f : Form) → formOf l (kindOf t n) ≡ some f
     → timesChildOf l t n c
-    ≡ timesIn (f .a) (childA t n) c + timesIn (f .b) (childB t n) c + timesIn (f .c) (childC t n) c
+    ≡ timesIn (fieldOf f 0) (childA t n) c + timesIn (fieldOf f 1) (childB t n) c + timesIn (fieldOf f 2) (childC t n) c
 unfolding timesChildOf
-times-by-fields l t n c f e = ap (λ (o : Option Form). timesOf o (recordAt t n) c) e
+times-by-fields l t n c f e =
+    ap (λ (o : Option Form). timesOf o (recordAt t n) c) e ∙ times-in-all f (recordAt t n) c
 
 -- 1 if the numbers are the same
 abbrev pub same : ℕ → ℕ → ℕ
@@ -172,28 +177,28 @@ same-yes j = ap (λ (b : Bool). cond b 1 0) (eq-eqb j j refl)
 module _ (l : Language) (t : List ℕ) (n : ℕ) (f : Form) (s : Sort) (is-form : formOf l (kindOf t n) ≡ some f)
     (in-table : (1 ≤ n) × (n ≤ recordCount t)) where
   times-of : (c : ℕ) → timesChildOf l t n c
-      ≡ timesIn (f .a) (childA t n) c + timesIn (f .b) (childB t n) c + timesIn (f .c) (childC t n) c
+      ≡ timesIn (fieldOf f 0) (childA t n) c + timesIn (fieldOf f 1) (childB t n) c + timesIn (fieldOf f 2) (childC t n) c
   times-of c = times-by-fields l t n c f is-form
 
   times-self : (F : Field) (c : ℕ) → F ≡ child s → timesIn F c c ≡ 1
   times-self F c e = rw e (same-yes c)
 
-  pub parent-a : f .a ≡ child s → IsParent l t n (childA t n)
+  pub parent-a : fieldOf f 0 ≡ child s → IsParent l t n (childA t n)
   parent-a e = record {
     in-table = in-table;
-    has-child = omega (arith, times-of (childA t n), times-self (f .a) (childA t n) e);
+    has-child = omega (arith, times-of (childA t n), times-self (fieldOf f 0) (childA t n) e);
   }
 
-  pub parent-b : f .b ≡ child s → IsParent l t n (childB t n)
+  pub parent-b : fieldOf f 1 ≡ child s → IsParent l t n (childB t n)
   parent-b e = record {
     in-table = in-table;
-    has-child = omega (arith, times-of (childB t n), times-self (f .b) (childB t n) e);
+    has-child = omega (arith, times-of (childB t n), times-self (fieldOf f 1) (childB t n) e);
   }
 
-  pub parent-c : f .c ≡ child s → IsParent l t n (childC t n)
+  pub parent-c : fieldOf f 2 ≡ child s → IsParent l t n (childC t n)
   parent-c e = record {
     in-table = in-table;
-    has-child = omega (arith, times-of (childC t n), times-self (f .c) (childC t n) e);
+    has-child = omega (arith, times-of (childC t n), times-self (fieldOf f 2) (childC t n) e);
   }
 
 module _ (l : Language) (t : List ℕ) (keeps : Passed l t) where

@@ -10,7 +10,7 @@ use lib.Dec.{eqb}
 use Rattle.rules.specs.Words.{wordAt}
 use Rattle.rules.specs.Records.{recordCount, kindOf, markOf, childA, childB, childC, literalOf, start}
 use Rattle.rules.specs.Kinds.{Language, source, target, Sort, expression, place, term, predicate, statement}
-use Rattle.rules.specs.Kinds.{Field, unnamed, child, number, Form, formOf, recordLimit}
+use Rattle.rules.specs.Kinds.{Field, unnamed, child, number, Form, fieldOf, formOf, recordLimit}
 use Rattle.rules.specs.Checker.{timesIn, timesChildOf, scopeFault, levelBelow, highestNamed, isTermOrPredicate}
 use Rattle.rules.specs.Checker.{levelFault}
 use Rattle.rules.specs.Numbers.{inRange}
@@ -74,12 +74,12 @@ pub record Ready (l : Language) (t : List ℕ) (n : ℕ) (f : Form) : Type 0 whe
   pub uses : f .kind ≡ 10 → scopeAt l t n (markOf t n) ≡ true
   pub lets : f .kind ≡ 47 → scopeAt l t n (markOf t n) ≡ false
   pub names : NamesBelow l (f .kind) (levelAt l t n)
-  pub apart : Apart (f .a) (f .b) (childA t n) (childB t n)
-  pub a : ChildSound l t (f .a) (childA t n) (scopeBelow (f .kind) (markOf t n) (scopeAt l t n))
+  pub apart : Apart (fieldOf f 0) (fieldOf f 1) (childA t n) (childB t n)
+  pub a : ChildSound l t (fieldOf f 0) (childA t n) (scopeBelow (f .kind) (markOf t n) (scopeAt l t n))
       (levelUnder l (f .kind) (eqb (childB t n) (childA t n)) (levelAt l t n))
-  pub b : ChildSound l t (f .b) (childB t n) (scopeBelow (f .kind) (markOf t n) (scopeAt l t n))
+  pub b : ChildSound l t (fieldOf f 1) (childB t n) (scopeBelow (f .kind) (markOf t n) (scopeAt l t n))
       (levelUnder l (f .kind) (eqb (childB t n) (childB t n)) (levelAt l t n))
-  pub c : ChildSound l t (f .c) (childC t n) (scopeBelow (f .kind) (markOf t n) (scopeAt l t n))
+  pub c : ChildSound l t (fieldOf f 2) (childC t n) (scopeBelow (f .kind) (markOf t n) (scopeAt l t n))
       (levelUnder l (f .kind) (eqb (childB t n) (childC t n)) (levelAt l t n))
 
 -- the record's own rules
@@ -137,15 +137,15 @@ module _ (l : Language) (t : List ℕ) (a : Accepted l t) (n : ℕ) (p : 1 ≤ n
       (sound x (h .1) s (stands l t x s (h .2)))
   child-sound (number g) x h w = tt
 
-  apart-here : (g : Field) → g ≡ f .a → FieldHolds l t n g (childA t n) → Apart g (f .b) (childA t n) (childB t n)
+  apart-here : (g : Field) → g ≡ fieldOf f 0 → FieldHolds l t n g (childA t n) → Apart g (fieldOf f 1) (childA t n) (childB t n)
   apart-here unnamed e h = tt
   apart-here (child s) e h =
       let x = childA t n in
-      let rest = timesIn (f .c) (childC t n) x in
-      let w : timesIn (child s) x x + timesIn (f .b) (childB t n) x + rest ≡ timesChildOf l t n x =
-      ap (λ (g : Field). timesIn g x x + timesIn (f .b) (childB t n) x + rest) e
+      let rest = timesIn (fieldOf f 2) (childC t n) x in
+      let w : timesIn (child s) x x + timesIn (fieldOf f 1) (childB t n) x + rest ≡ timesChildOf l t n x =
+      ap (λ (g : Field). timesIn g x x + timesIn (fieldOf f 1) (childB t n) x + rest) e
       ∙ sym (times-by-fields l t n x f o) in
-      are-apart (child s) (f .b) x (childB t n) rest
+      are-apart (child s) (fieldOf f 1) x (childB t n) rest
       (w ∙ child-single l t (passed-of l t a) n x
       (record { in-table = (p, q); has-child = omega (arith, same-yes x, w) }))
   apart-here (number g) e h = tt
@@ -161,10 +161,10 @@ module _ (l : Language) (t : List ℕ) (a : Accepted l t) (n : ℕ) (p : 1 ≤ n
         uses = λ e. scope-used l t n (a .scopes n p q) (k ∙ e);
         lets = λ e. scope-let l t n (a .scopes n p q) (k ∙ e);
         names = subst (λ (j : ℕ). NamesBelow l j (levelAt l t n)) k (names-below l t a n p q);
-        apart = apart-here (f .a) refl (holds .a);
-        a = child-sound (f .a) (childA t n) (holds .a) (omega (arith, times-by-fields l t n (childA t n) f o));
-        b = child-sound (f .b) (childB t n) (holds .b) (omega (arith, times-by-fields l t n (childB t n) f o));
-        c = child-sound (f .c) (childC t n) (holds .c) (omega (arith, times-by-fields l t n (childC t n) f o));
+        apart = apart-here (fieldOf f 0) refl (holds .a);
+        a = child-sound (fieldOf f 0) (childA t n) (holds .a) (omega (arith, times-by-fields l t n (childA t n) f o));
+        b = child-sound (fieldOf f 1) (childB t n) (holds .b) (omega (arith, times-by-fields l t n (childB t n) f o));
+        c = child-sound (fieldOf f 2) (childC t n) (holds .c) (omega (arith, times-by-fields l t n (childC t n) f o));
       }
 
 pub node-as : (l : Language) (t : List ℕ) (n : ℕ) (s : Sort) → Stands l t n s

@@ -10,7 +10,7 @@ use mathlib.Core.Path.{_≡_, refl, sym, ap, _∙_}
 use borrow.Author.Tests.{leb-true, eqb-true, eq-eqb, ne-eqb}
 use lib.Dec.{leb, eqb}
 use Rattle.rules.specs.Records.{recordCount, kindOf, childA, childB, childC}
-use Rattle.rules.specs.Kinds.{source, sortNumber, Field, unnamed, child, number, Form, forms}
+use Rattle.rules.specs.Kinds.{source, sortNumber, Field, unnamed, child, number, Form, fieldOf, forms}
 use Rattle.rules.specs.Checker.{timesIn, timesChildOf}
 use Rattle.rules.specs.Nodes.{nodeSort, nodeAt}
 use Rattle.rules.specs.Origins.{ownRecords, copiesOfA, copiesOfB, copiesIn, copiesOf, targetRecords, sum}
@@ -53,7 +53,7 @@ fieldKept c r (number p) = true
 copiesKept : Form → Bool
 copiesKept f =
     let r = mostCopies (sortNumber (f .sort)) in
-    fieldKept (copiesOfA (f .kind)) r (f .a) && fieldKept (copiesOfB (f .kind)) r (f .b) && fieldKept 1 r (f .c)
+    fieldKept (copiesOfA (f .kind)) r (fieldOf f 0) && fieldKept (copiesOfB (f .kind)) r (fieldOf f 1) && fieldKept 1 r (fieldOf f 2)
 
 all-kept : every copiesKept (forms source) ≡ true
 unfolding copiesKept
@@ -102,9 +102,9 @@ module _ (t : List ℕ) (a : Accepted source t) where
       omega (
         arith,
         times-by-fields source t m j f (w .found),
-        times-field t m (f .a) (childA t m) j (k .0) (w .holds .a) u,
-        times-field t m (f .b) (childB t m) j (k .1) (w .holds .b) u,
-        times-field t m (f .c) (childC t m) j (k .2) (w .holds .c) u,
+        times-field t m (fieldOf f 0) (childA t m) j (k .0) (w .holds .a) u,
+        times-field t m (fieldOf f 1) (childB t m) j (k .1) (w .holds .b) u,
+        times-field t m (fieldOf f 2) (childC t m) j (k .2) (w .holds .c) u,
       )
 
   no-copies : (m : ℕ) → 1 ≤ m → m ≤ recordCount t → (j : ℕ) → 1 ≤ j → timesChildOf source t m j ≡ 0
@@ -179,17 +179,17 @@ module _ (t : List ℕ) (a : Accepted source t) where
       let k = kindOf t m in
       let r = mostCopies (sortNumber (f .sort)) in
       let n = children-only k f (w .found) in
-      let v : (fieldKept (copiesOfA k) r (f .a) ≡ true) × (fieldKept (copiesOfB k) r (f .b) ≡ true)
-      × (fieldKept 1 r (f .c) ≡ true) =
+      let v : (fieldKept (copiesOfA k) r (fieldOf f 0) ≡ true) × (fieldKept (copiesOfB k) r (fieldOf f 1) ≡ true)
+      × (fieldKept 1 r (fieldOf f 2) ≡ true) =
       rw (found-kind source k f (w .found))
       (three-pass _ _ _ (found-passes copiesKept source k f all-kept (w .found))) in
       let most = mostCopies (nodeSort (nodeAt source t c)) in
       let field : r * copiesIn t m c ≤ most =
       one-field r (copiesOfA k) (copiesOfB k) most (eqb (childA t m) c) (eqb (childB t m) c) (eqb (childC t m) c)
       (sym (times-are m p q c (below .0)) ∙ child-single source t keeps m c h)
-      (λ e. kept-field t m (f .a) (childA t m) c _ r (n .0) (w .holds .a) (eqb-true _ c e) (below .0) (v .0))
-      (λ e. kept-field t m (f .b) (childB t m) c _ r (n .1) (w .holds .b) (eqb-true _ c e) (below .0) (v .1))
-      (λ e. kept-field t m (f .c) (childC t m) c _ r (n .2) (w .holds .c) (eqb-true _ c e) (below .0) (v .2)) in
+      (λ e. kept-field t m (fieldOf f 0) (childA t m) c _ r (n .0) (w .holds .a) (eqb-true _ c e) (below .0) (v .0))
+      (λ e. kept-field t m (fieldOf f 1) (childB t m) c _ r (n .1) (w .holds .b) (eqb-true _ c e) (below .0) (v .1))
+      (λ e. kept-field t m (fieldOf f 2) (childC t m) c _ r (n .2) (w .holds .c) (eqb-true _ c e) (below .0) (v .2)) in
       let at-most : copiesOf t (recordCount t) m ≤ r =
       rw (form-sort source t m f (w .found) (w .holds)) at few in
       omega (arith, field, mul-le-mul-right (copiesIn t m c) at-most, copies-child t keeps m c h)

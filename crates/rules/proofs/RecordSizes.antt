@@ -9,7 +9,7 @@ use mathlib.Core.Option.{some}
 use Rattle.rules.specs.Records.{recordCount, kindOf, childA, childB, childC}
 use Rattle.rules.specs.Kinds.{source, Sort, sortNumber, expression, place, term, predicate, statement, Field}
 use Rattle.rules.specs.Kinds.{unnamed}
-use Rattle.rules.specs.Kinds.{child, number, Form, forms, formOf}
+use Rattle.rules.specs.Kinds.{child, number, Form, fieldOf, forms, formOf}
 use Rattle.rules.specs.Nodes.{SourceNode, expressionNode, placeNode, termNode, predicateNode, statementNode, junk}
 use Rattle.rules.specs.Nodes.{nodeSort, asExpression, asPlace, asTerm, asPredicate, sourceStatement, nodeAt}
 use Rattle.rules.specs.Trees.{Term, Predicate}
@@ -101,8 +101,8 @@ fieldSize (number p) y = 0
 abbrev Sized : List ℕ → ℕ → ℕ → ℕ → ℕ → Form → Type 0
 Sized t n i v k f =
     treeSize (targetTree (nodeAs source k t n) i v)
-    ≡ sizeFrom k (fieldSize (f .a) (nodeAt source t (childA t n))) (fieldSize (f .b) (nodeAt source t (childB t n)))
-    (fieldSize (f .c) (nodeAt source t (childC t n)))
+    ≡ sizeFrom k (fieldSize (fieldOf f 0) (nodeAt source t (childA t n))) (fieldSize (fieldOf f 1) (nodeAt source t (childB t n)))
+    (fieldSize (fieldOf f 2) (nodeAt source t (childC t n)))
 
 size-arm : (t : List ℕ) (n i v : ℕ) {s : Sort} {k : ℕ} → SourceKind s k → Sized t n i v k (formAt source k)
 unfolding expressionTree embed translateTerm translatePredicate translate statementTree
@@ -162,14 +162,14 @@ hasNoNumber (child s) = true
 hasNoNumber (number p) = false
 
 hasChildren : Form → Bool
-hasChildren f = hasNoNumber (f .a) && hasNoNumber (f .b) && hasNoNumber (f .c)
+hasChildren f = hasNoNumber (fieldOf f 0) && hasNoNumber (fieldOf f 1) && hasNoNumber (fieldOf f 2)
 
 all-children : every hasChildren (forms source) ≡ true
 unfolding hasChildren
 all-children = refl
 
 pub children-only : (k : ℕ) (f : Form) → formOf source k ≡ some f
-    → (hasNoNumber (f .a) ≡ true) × (hasNoNumber (f .b) ≡ true) × (hasNoNumber (f .c) ≡ true)
+    → (hasNoNumber (fieldOf f 0) ≡ true) × (hasNoNumber (fieldOf f 1) ≡ true) × (hasNoNumber (fieldOf f 2) ≡ true)
 unfolding hasChildren
 children-only k f e = three-pass _ _ _ (found-passes hasChildren source k f all-children e)
 
@@ -210,9 +210,9 @@ size-law t n s w =
     let k = kindOf t n in
     let f = w .form in
     let p = children-only k f (w .found) in
-    let a = field-child t n (f .a) (childA t n) (w .from-one) (p .0) (w .holds .a) in
-    let b = field-child t n (f .b) (childB t n) (w .from-one) (p .1) (w .holds .b) in
-    let c = field-child t n (f .c) (childC t n) (w .from-one) (p .2) (w .holds .c) in
+    let a = field-child t n (fieldOf f 0) (childA t n) (w .from-one) (p .0) (w .holds .a) in
+    let b = field-child t n (fieldOf f 1) (childB t n) (w .from-one) (p .1) (w .holds .b) in
+    let c = field-child t n (fieldOf f 2) (childC t n) (w .from-one) (p .2) (w .holds .c) in
     record {
       within = (w .from-one, w .within);
       a-below = a .below;

@@ -9,14 +9,14 @@ use mathlib.Core.List.{List}
 use lib.IntN.{ℤ}
 use borrow.Author.Tests.{eq-eqb, ne-eqb}
 use Rattle.rules.specs.Records.{Record, recordCount, kindOf, recordAt}
-use Rattle.rules.specs.Kinds.{Language, statement, sortNumber, Field, unnamed, child, number, formOf}
+use Rattle.rules.specs.Kinds.{Language, statement, sortNumber, Field, unnamed, child, number, formOf, fieldOf}
 use Rattle.rules.specs.Checker.{sortOf, timesIn, timesOf, timesChildOf, timesChild, shapeFault}
 use Rattle.rules.specs.Emission.{RecordTree, none, node, treeSize, rootNumber, fieldC}
 use Rattle.rules.proofs.Sound.{Scope}
 use Rattle.rules.proofs.EmissionLaws.{Holds, ownRecord, root-size, field-root}
 use Rattle.rules.proofs.FittingTrees.{rootKind, FieldTree, scopeBelow, Fits, Fitting, no-sort, root-kind, Held}
 use Rattle.rules.proofs.FittingTrees.{records-fit}
-use Rattle.rules.proofs.ParentLaws.{Passed, times-suc, times-zero, same, same-yes}
+use Rattle.rules.proofs.ParentLaws.{Passed, times-in-all, times-suc, times-zero, same, same-yes}
 
 pub same-no : (x j : ℕ) → (x ≡ j → ⊥) → same x j ≡ 0
 same-no x j h = ap (λ (b : Bool). cond b 1 0) (ne-eqb x j h)
@@ -70,11 +70,12 @@ times-own l t k m z x a b c n j ρ p h q =
     let r : Record = ownRecord k m z x a b c n in
     times-record l t (n + suc (treeSize a + treeSize b + treeSize c)) j r (q .3)
     ∙ ap (λ o. timesOf o r j) (h .is-form)
-    ∙ (λ i. (ap (λ (y : ℕ). timesIn (h .form .a) y j) (field-root a n)
-    ∙ times-field l (h .form .a) a 0 n j p (h .field-a)) i
-    + (ap (λ (y : ℕ). timesIn (h .form .b) y j) (field-root b (n + treeSize a))
-    ∙ times-field l (h .form .b) b 0 (n + treeSize a) j p (h .field-b)) i
-    + times-field l (h .form .c) c x (n + treeSize a + treeSize b) j p (h .field-c) i)
+    ∙ times-in-all (h .form) r j
+    ∙ (λ i. (ap (λ (y : ℕ). timesIn (fieldOf (h .form) 0) y j) (field-root a n)
+    ∙ times-field l (fieldOf (h .form) 0) a 0 n j p (h .field-a)) i
+    + (ap (λ (y : ℕ). timesIn (fieldOf (h .form) 1) y j) (field-root b (n + treeSize a))
+    ∙ times-field l (fieldOf (h .form) 1) b 0 (n + treeSize a) j p (h .field-b)) i
+    + times-field l (fieldOf (h .form) 2) c x (n + treeSize a + treeSize b) j p (h .field-c) i)
 
 -- each of a tree's records is a child once, but for its root
 once : (l : Language) (t : List ℕ) (w : RecordTree) (n j : ℕ) (ρ : Scope) → 1 ≤ j → Holds (recordAt t) w n

@@ -11,7 +11,7 @@ use lib.IntN.{ℤ, pos}
 use Rattle.rules.specs.Records.{recordCount, kindOf, markOf, childA, childB, childC, literalOf, recordAt}
 use Rattle.rules.specs.Kinds.{Language, source, target, Sort, sortNumber, expression, place, term, predicate}
 use Rattle.rules.specs.Kinds.{statement, Field, unnamed, child, number, Literal, zeroLiteral, anyLiteral}
-use Rattle.rules.specs.Kinds.{statementLiteral, Form, lookUp, formOf}
+use Rattle.rules.specs.Kinds.{statementLiteral, Form, fieldOf, lookUp, formOf}
 use Rattle.rules.specs.Checker.{fieldFits, literalFits, fieldsFit, formSort, sortOf, childFits, childrenFit}
 use Rattle.rules.specs.Checker.{faultOf, recordFault}
 use Rattle.rules.specs.Trees.{Expression, Place}
@@ -63,23 +63,23 @@ node-passes l t n (number p) x h = refl
 -- a record whose fields hold keeps its form
 pub form-made : (l : Language) (t : List ℕ) (n : ℕ) (f : Form) → 1 ≤ n → n ≤ recordCount t
     → formOf l (kindOf t n) ≡ some f
-    → fieldFits (f .mark) (markOf t n) ≡ true → FieldHolds l t n (f .a) (childA t n)
-    → FieldHolds l t n (f .b) (childB t n) → FieldHolds l t n (f .c) (childC t n)
+    → fieldFits (f .mark) (markOf t n) ≡ true → FieldHolds l t n (fieldOf f 0) (childA t n)
+    → FieldHolds l t n (fieldOf f 1) (childB t n) → FieldHolds l t n (fieldOf f 2) (childC t n)
     → LiteralHolds (f .literal) (literalOf t n) → FormHolds l t n f
 unfolding recordFault
 form-made l t n f p q o m a b c z =
-    let x = field-passes l t n (f .a) (childA t n) a in
-    let y = field-passes l t n (f .b) (childB t n) b in
-    let w = field-passes l t n (f .c) (childC t n) c in
+    let x = field-passes l t n (fieldOf f 0) (childA t n) a in
+    let y = field-passes l t n (fieldOf f 1) (childB t n) b in
+    let w = field-passes l t n (fieldOf f 2) (childC t n) c in
     let v = literal-passes (f .literal) (literalOf t n) z in
     let h : fieldsFit f (recordAt t n) ≡ true =
     and-join _ _ (and-join _ _ (and-join _ _ (and-join _ _ m x) y) w) v in
     let g : childrenFit l t n f (recordAt t n) ≡ true =
-    and-join _ _ (and-join _ _ (child-passes l t n (f .a) (childA t n) a) (child-passes l t n (f .b) (childB t n) b))
-    (child-passes l t n (f .c) (childC t n) c) in
+    and-join _ _ (and-join _ _ (child-passes l t n (fieldOf f 0) (childA t n) a) (child-passes l t n (fieldOf f 1) (childB t n) b))
+    (child-passes l t n (fieldOf f 2) (childC t n) c) in
     let k : nodesUnder l t n (some f) ≡ true =
-    and-join _ _ (and-join _ _ (node-passes l t n (f .a) (childA t n) a) (node-passes l t n (f .b) (childB t n) b))
-    (node-passes l t n (f .c) (childC t n) c) in
+    and-join _ _ (and-join _ _ (node-passes l t n (fieldOf f 0) (childA t n) a) (node-passes l t n (fieldOf f 1) (childB t n) b))
+    (node-passes l t n (fieldOf f 2) (childC t n) c) in
     let e : recordFault l t n ≡ 0 =
     ap (faultOf l t n) o
     ∙ ap₂ (λ (u v : Bool). cond u (cond v 0 5) 4) h g in

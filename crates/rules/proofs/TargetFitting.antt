@@ -8,7 +8,7 @@ use lib.Dec.{leb}
 use lib.IntN.{ℤ, pos}
 use borrow.Author.Tests.{lt-ltb, le-leb}
 use Rattle.rules.specs.Kinds.{Language, target, expression, place, statement, sortNumber, statementLiteral}
-use Rattle.rules.specs.Kinds.{Form, between, lookUp, formOf}
+use Rattle.rules.specs.Kinds.{Form, between, fieldOf, lookUp, formOf}
 use Rattle.rules.specs.Checker.{sortOf, literalFits, fieldFits}
 use Rattle.rules.specs.Numbers.{inRange}
 use Rattle.rules.specs.Trees.{Operator, add, subtract, multiply, divide, nearest, atMost, equal, shift, Query}
@@ -99,7 +99,7 @@ below-let ρ m = λ i x. adding-is ρ m x i
 pub fits : {l : Language} {k m : ℕ} {z : ℤ} {x : ℕ} {a b c : RecordTree} {ρ : Scope} {f : Form}
     → formOf l k ≡ some f → (k < 256) × (m < 256) × (x < 65536) → inRange z ≡ true
     → literalFits (f .literal) z ≡ true → fieldFits (f .mark) m ≡ true
-    → FieldTree l (f .a) a 0 → FieldTree l (f .b) b 0 → FieldTree l (f .c) c x
+    → FieldTree l (fieldOf f 0) a 0 → FieldTree l (fieldOf f 1) b 0 → FieldTree l (fieldOf f 2) c x
     → OwnScope k m ρ → Fits l k m z x a b c ρ
 fits {f} e s r l m fa fb fc q = record {
   form = f;
@@ -117,7 +117,7 @@ fits {f} e s r l m fa fb fc q = record {
 -- one with a statement's number for its literal
 numbered : {k m s x : ℕ} {a b c : RecordTree} {ρ : Scope} {f : Form} → Numbered s → formOf target k ≡ some f
     → f .literal ≡ statementLiteral → (k < 256) × (m < 256) × (x < 65536) → fieldFits (f .mark) m ≡ true
-    → FieldTree target (f .a) a 0 → FieldTree target (f .b) b 0 → FieldTree target (f .c) c x
+    → FieldTree target (fieldOf f 0) a 0 → FieldTree target (fieldOf f 1) b 0 → FieldTree target (fieldOf f 2) c x
     → OwnScope k m ρ → Fits target k m (pos s) x a b c ρ
 numbered {s} d e l h m fa fb fc q =
     fits e h (lt-ltb s (2 ^ 63) (omega arith))

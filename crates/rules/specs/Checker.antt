@@ -1,17 +1,17 @@
 -- "Turned away because of the input": the numbered rules as tests of a record, each giving the lowest.
 use Prim.Native.Nat.{ℕ, zero, suc, _+_, _/_, _%_}
 use mathlib.Core.Bool.{Bool, true, false, not, cond, _&&_, _||_}
-use mathlib.Core.List.{List}
+use mathlib.Core.List.{List, _∷_, foldl}
 use mathlib.Core.Option.{Option, none, some}
 use lib.Dec.{ltb, leb, eqb}
 use lib.IntN.{ℤ, pos}
 use lib.ListN.{length}
 use lib.Signed.{leZ}
 use Rattle.rules.specs.Sizes.{inputLimit, temporaryCount, memoryLength, observationLength}
-use Rattle.rules.specs.Records.{Record, recordCount, kindOf, markOf, childB, recordAt}
+use Rattle.rules.specs.Records.{Record, fieldsOf, recordCount, kindOf, markOf, childB, recordAt}
 use Rattle.rules.specs.Kinds.{Language, source, target, Sort, statement, sortNumber, Field, unnamed, child}
 use Rattle.rules.specs.Kinds.{number, Literal, zeroLiteral, anyLiteral, statementLiteral, Form, formOf}
-use Rattle.rules.specs.Kinds.{recordLimit}
+use Rattle.rules.specs.Kinds.{beside, recordLimit}
 use Rattle.rules.specs.declared.Search.{Search}
 use Rattle.rules.specs.declared.Search.the-variants as search
 use Rattle.rules.specs.declared.Checked.{Checked}
@@ -25,6 +25,13 @@ lowest p j (suc k) = elim (p j) [ true ↦ search.At j | false ↦ lowest p (suc
 -- "within one number the lowest record is named"
 abbrev pub lowestRecord : List ℕ → (ℕ → Bool) → Search
 lowestRecord t p = lowest p 1 (recordCount t)
+
+-- every test passes; numbers added up
+abbrev pub all : List Bool → Bool
+all ps = foldl _&&_ true ps
+
+abbrev pub total : List ℕ → ℕ
+total ns = foldl _+_ 0 ns
 
 -- "1 length 0 or no multiple of 16. 2 too many records."
 abbrev pub lengthFault : List ℕ → Bool
@@ -46,8 +53,7 @@ literalFits statementLiteral z = leZ (pos 1) z && leZ z (pos 256)
 
 abbrev pub fieldsFit : Form → Record → Bool
 fieldsFit f r =
-    fieldFits (f .mark) (r .mark) && fieldFits (f .a) (r .a) && fieldFits (f .b) (r .b) && fieldFits (f .c) (r .c)
-    && literalFits (f .literal) (r .literal)
+    all (fieldFits (f .mark) (r .mark) ∷ beside fieldFits f 0 (fieldsOf r)) && literalFits (f .literal) (r .literal)
 
 -- "5 child not smaller or of the wrong sort"
 abbrev pub formSort : Option Form → ℕ
@@ -63,7 +69,7 @@ childFits l t n (child s) x = ltb x n && eqb (sortOf l (kindOf t x)) (sortNumber
 childFits l t n (number p) x = true
 
 abbrev pub childrenFit : Language → List ℕ → ℕ → Form → Record → Bool
-childrenFit l t n f r = childFits l t n (f .a) (r .a) && childFits l t n (f .b) (r .b) && childFits l t n (f .c) (r .c)
+childrenFit l t n f r = all (beside (childFits l t n) f 0 (fieldsOf r))
 
 -- 3, 4 or 5 at record n, or 0. "3 kind not in the language."
 abbrev pub faultOf : Language → List ℕ → ℕ → Option Form → ℕ
@@ -82,7 +88,7 @@ timesIn (number p) x n = 0
 
 abbrev pub timesOf : Option Form → Record → ℕ → ℕ
 timesOf none r n = 0
-timesOf (some f) r n = timesIn (f .a) (r .a) n + timesIn (f .b) (r .b) n + timesIn (f .c) (r .c) n
+timesOf (some f) r n = total (beside (λ g x. timesIn g x n) f 0 (fieldsOf r))
 
 unfoldable pub timesChildOf : Language → List ℕ → ℕ → ℕ → ℕ
 timesChildOf l t m n = timesOf (formOf l (kindOf t m)) (recordAt t m) n

@@ -1,9 +1,10 @@
 -- The kinds of records and what each asks of its fields.
-use Prim.Native.Nat.{ℕ}
+use Prim.Native.Nat.{ℕ, suc}
 use mathlib.Core.Bool.{Bool, true, false, _&&_, _||_}
 use mathlib.Core.List.{List, [], _∷_, _++_}
 use mathlib.Core.Option.{Option, none, some}
 use lib.Dec.{leb, eqb}
+use lib.ListN.{getD}
 use Rattle.rules.specs.Sizes.{sourceLimit, targetLimit}
 
 pub data Language : Type 0 where
@@ -30,17 +31,25 @@ pub data Field : Type 0 where
 pub data Literal : Type 0 where
   zeroLiteral anyLiteral statementLiteral : Literal
 
+-- what a kind asks of a record: of A, B, .. in order it lists those that it names, to the last
 pub record Form : Type 0 where
   pub kind : ℕ
   pub sort : Sort
   pub mark : Field
-  pub a : Field
-  pub b : Field
-  pub c : Field
+  pub fields : List Field
   pub literal : Literal
 
-abbrev pub form : ℕ → Sort → Field → Field → Field → Field → Literal → Form
-form k s m a b c l = record { kind = k; sort = s; mark = m; a = a; b = b; c = c; literal = l }
+abbrev pub form : ℕ → Sort → Field → List Field → Literal → Form
+form k s m fs l = record { kind = k; sort = s; mark = m; fields = fs; literal = l }
+
+-- what a kind has in A, B, .., by their positions 0, 1, ..
+abbrev pub fieldOf : Form → ℕ → Field
+fieldOf f i = getD (f .fields) i unnamed
+
+-- a kind's fields beside a list in that order, from position i on
+abbrev pub beside : {A B : Type 0} → (Field → A → B) → Form → ℕ → List A → List B
+beside h f i [] = []
+beside h f i (x ∷ xs) = h (fieldOf f i) x ∷ beside h f (suc i) xs
 
 abbrev pub between : ℕ → ℕ → ℕ → Bool
 between low high x = leb low x && leb x high
@@ -52,78 +61,78 @@ upTo high = number (between 0 high)
 -- "1 literal; 2 read place A; 3 address of place A; 4 operator 1–7 in the mark, A, B; 5 pointer A shifted by integer B"
 abbrev pub expressions : List Form
 expressions =
-    form 1 expression unnamed unnamed unnamed unnamed anyLiteral
-    ∷ form 2 expression unnamed (child place) unnamed unnamed zeroLiteral
-    ∷ form 3 expression unnamed (child place) unnamed unnamed zeroLiteral
-    ∷ form 4 expression (number (between 1 7)) (child expression) (child expression) unnamed zeroLiteral
-    ∷ form 5 expression unnamed (child expression) (child expression) unnamed zeroLiteral
+    form 1 expression unnamed [] anyLiteral
+    ∷ form 2 expression unnamed (child place ∷ []) zeroLiteral
+    ∷ form 3 expression unnamed (child place ∷ []) zeroLiteral
+    ∷ form 4 expression (number (between 1 7)) (child expression ∷ child expression ∷ []) zeroLiteral
+    ∷ form 5 expression unnamed (child expression ∷ child expression ∷ []) zeroLiteral
     ∷ []
 
 -- "10 variable 0–63 in the mark; 11 what expression A points to"
 abbrev pub places : List Form
 places =
-    form 10 place (upTo 63) unnamed unnamed unnamed zeroLiteral
-    ∷ form 11 place unnamed (child expression) unnamed unnamed zeroLiteral
+    form 10 place (upTo 63) [] zeroLiteral
+    ∷ form 11 place unnamed (child expression ∷ []) zeroLiteral
     ∷ []
 
 -- "20 expression A; 21 base address, 22 offset, 23 block length of term A; 24 operator 1–5 or 8 in the mark, terms A, B"
 abbrev pub terms : List Form
 terms =
-    form 20 term unnamed (child expression) unnamed unnamed zeroLiteral
-    ∷ form 21 term unnamed (child term) unnamed unnamed zeroLiteral
-    ∷ form 22 term unnamed (child term) unnamed unnamed zeroLiteral
-    ∷ form 23 term unnamed (child term) unnamed unnamed zeroLiteral
-    ∷ form 24 term (number (λ o. between 1 5 o || eqb o 8)) (child term) (child term) unnamed zeroLiteral
+    form 20 term unnamed (child expression ∷ []) zeroLiteral
+    ∷ form 21 term unnamed (child term ∷ []) zeroLiteral
+    ∷ form 22 term unnamed (child term ∷ []) zeroLiteral
+    ∷ form 23 term unnamed (child term ∷ []) zeroLiteral
+    ∷ form 24 term (number (λ o. between 1 5 o || eqb o 8)) (child term ∷ child term ∷ []) zeroLiteral
     ∷ []
 
 -- "30 valid, 31 initialised, of term A; 32 operator 6 or 7, terms A, B; 33 not A; 34 A and B; 35 A or B"
 abbrev pub predicates : List Form
 predicates =
-    form 30 predicate unnamed (child term) unnamed unnamed zeroLiteral
-    ∷ form 31 predicate unnamed (child term) unnamed unnamed zeroLiteral
-    ∷ form 32 predicate (number (between 6 7)) (child term) (child term) unnamed zeroLiteral
-    ∷ form 33 predicate unnamed (child predicate) unnamed unnamed zeroLiteral
-    ∷ form 34 predicate unnamed (child predicate) (child predicate) unnamed zeroLiteral
-    ∷ form 35 predicate unnamed (child predicate) (child predicate) unnamed zeroLiteral
+    form 30 predicate unnamed (child term ∷ []) zeroLiteral
+    ∷ form 31 predicate unnamed (child term ∷ []) zeroLiteral
+    ∷ form 32 predicate (number (between 6 7)) (child term ∷ child term ∷ []) zeroLiteral
+    ∷ form 33 predicate unnamed (child predicate ∷ []) zeroLiteral
+    ∷ form 34 predicate unnamed (child predicate ∷ child predicate ∷ []) zeroLiteral
+    ∷ form 35 predicate unnamed (child predicate ∷ child predicate ∷ []) zeroLiteral
     ∷ []
 
 -- "40 skip; 41 place A takes expression B; 42 place A takes a new block of B cells; 43 free A; 44 A then B;
 -- 45 if A then B else C; 46 while A do B; 47 let variable (mark) in A"
 abbrev pub statements : Literal → List Form
 statements l =
-    form 40 statement unnamed unnamed unnamed unnamed l
-    ∷ form 41 statement unnamed (child place) (child expression) unnamed l
-    ∷ form 42 statement unnamed (child place) (child expression) unnamed l
-    ∷ form 43 statement unnamed (child expression) unnamed unnamed l
-    ∷ form 44 statement unnamed (child statement) (child statement) unnamed l
-    ∷ form 45 statement unnamed (child expression) (child statement) (child statement) l
-    ∷ form 46 statement unnamed (child expression) (child statement) unnamed l
-    ∷ form 47 statement (upTo 63) (child statement) unnamed unnamed l
+    form 40 statement unnamed [] l
+    ∷ form 41 statement unnamed (child place ∷ child expression ∷ []) l
+    ∷ form 42 statement unnamed (child place ∷ child expression ∷ []) l
+    ∷ form 43 statement unnamed (child expression ∷ []) l
+    ∷ form 44 statement unnamed (child statement ∷ child statement ∷ []) l
+    ∷ form 45 statement unnamed (child expression ∷ child statement ∷ child statement ∷ []) l
+    ∷ form 46 statement unnamed (child expression ∷ child statement ∷ []) l
+    ∷ form 47 statement (upTo 63) (child statement ∷ []) l
     ∷ []
 
 -- "48 assert predicate A"
 abbrev pub assertion : Form
-assertion = form 48 statement unnamed (child predicate) unnamed unnamed zeroLiteral
+assertion = form 48 statement unnamed (child predicate ∷ []) zeroLiteral
 
 -- "place 12, what tn points to"
 abbrev pub temporaryPlace : Form
-temporaryPlace = form 12 place (upTo 63) unnamed unnamed unnamed zeroLiteral
+temporaryPlace = form 12 place (upTo 63) [] zeroLiteral
 
 -- "60 tn takes the address of place A; 61 tn takes expression A; 63 tn takes t(n+1) operator t(n+2), operator 1–8 in
 -- field C; 64 tn takes a query of t(n+1), field C being 1 valid, .. 5 length; 65 tn takes 1 if t(n+1) is 0, else 0; 66
 -- if tn then B else C; 67 assert tn; 68 store block, pointer tn, length t(n+1); 69 delete block tn; 70 initialise tn"
 abbrev pub temporaryStatements : Literal → List Form
 temporaryStatements l =
-    form 60 statement (upTo 63) (child place) unnamed unnamed l
-    ∷ form 61 statement (upTo 63) (child expression) unnamed unnamed l
-    ∷ form 63 statement (upTo 61) unnamed unnamed (number (between 1 8)) l
-    ∷ form 64 statement (upTo 62) unnamed unnamed (number (between 1 5)) l
-    ∷ form 65 statement (upTo 62) unnamed unnamed unnamed l
-    ∷ form 66 statement (upTo 63) unnamed (child statement) (child statement) l
-    ∷ form 67 statement (upTo 63) unnamed unnamed unnamed l
-    ∷ form 68 statement (upTo 62) unnamed unnamed unnamed l
-    ∷ form 69 statement (upTo 63) unnamed unnamed unnamed l
-    ∷ form 70 statement (upTo 63) unnamed unnamed unnamed l
+    form 60 statement (upTo 63) (child place ∷ []) l
+    ∷ form 61 statement (upTo 63) (child expression ∷ []) l
+    ∷ form 63 statement (upTo 61) (unnamed ∷ unnamed ∷ number (between 1 8) ∷ []) l
+    ∷ form 64 statement (upTo 62) (unnamed ∷ unnamed ∷ number (between 1 5) ∷ []) l
+    ∷ form 65 statement (upTo 62) [] l
+    ∷ form 66 statement (upTo 63) (unnamed ∷ child statement ∷ child statement ∷ []) l
+    ∷ form 67 statement (upTo 63) [] l
+    ∷ form 68 statement (upTo 62) [] l
+    ∷ form 69 statement (upTo 63) [] l
+    ∷ form 70 statement (upTo 63) [] l
     ∷ []
 
 -- "A target table has no kind 20–35 or 48." "From kind 40 on, a target literal is the number of the source statement"

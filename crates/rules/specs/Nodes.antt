@@ -9,8 +9,8 @@ use lib.IntN.{ℤ, pos, natAbs}
 use lib.ListN.{getD}
 use Rattle.rules.specs.Records.{Record, recordCount, kindOf, recordAt}
 use Rattle.rules.specs.Kinds.{Language, source, target, sortNumber, Field, unnamed, child, number, Form, formOf}
-use Rattle.rules.specs.Kinds.{expression, place, term, predicate, statement}
-use Rattle.rules.specs.Checker.{recordFault}
+use Rattle.rules.specs.Kinds.{beside, expression, place, term, predicate, statement}
+use Rattle.rules.specs.Checker.{all, recordFault}
 use Rattle.rules.specs.Trees.{Operator, add, subtract, multiply, divide, nearest, atMost, equal, shift, Query}
 use Rattle.rules.specs.Trees.{valid, initialised, base, offset, blockLength, Expression, literal, read, address}
 use Rattle.rules.specs.Trees.{operation, shifted, Place, variable, pointed, temporary, Term, value, asked}
@@ -208,7 +208,7 @@ nodeFits l (number p) x = true
 
 abbrev pub nodesFit : (l : Language) → Option Form → NodeOf l → NodeOf l → NodeOf l → Bool
 nodesFit l none a b c = false
-nodesFit l (some f) a b c = nodeFits l (f .a) a && nodeFits l (f .b) b && nodeFits l (f .c) c
+nodesFit l (some f) a b c = all (beside (nodeFits l) f 0 (a ∷ b ∷ c ∷ []))
 
 abbrev pub guarded : (l : Language) → Bool → NodeOf l → NodeOf l
 guarded l true x = x

@@ -14,6 +14,10 @@ pub record Record : Type 0 where
   pub c : ℕ
   pub literal : ℤ
 
+-- A, B, C: those of its fields that can be children
+abbrev pub fieldsOf : Record → List ℕ
+fieldsOf r = r .a ∷ r .b ∷ r .c ∷ []
+
 abbrev pub recordCount : List ℕ → ℕ
 recordCount t = length t / 16
 

@@ -1,8 +1,7 @@
 -- `forms::are_there` meets its contract. Assumes nothing.
 use borrow.Author.Needs.{needs}
 use mathlib.Core.Path.{sym, _∙_}
-use Rattle.forms.specs.Codes.{fieldsThere}
-use Rattle.forms.proofs.FaultLaws.{third, second-fails, first-fails}
+use Rattle.forms.proofs.FaultLaws.{third, second-fails, first-fails, there-as}
 use Rattle.forms.proofs.are_there.Statement.{statement}
 use Rattle.forms.proofs.are_there.Tie as tie
 
@@ -16,22 +15,25 @@ field-fits-requires-3 : tie.Need-field-fits-requires-3
 field-fits-requires-3 c κs = search needs
 
 returns : tie.Need-returns
-unfolding fieldsThere
 returns c =
+    let a = c .before .before .before .before .before .args in
     c .field-fits3 .ensures
     ∙ third _ _ _ (sym (c .before .before .before .before .field-fits .ensures) ∙ c .before .before .before .if1 .taken)
     (sym (c .before .before .field-fits2 .ensures) ∙ c .before .if2 .taken)
+    ∙ sym (there-as (a .form) (a .a) (a .b) (a .c))
 
 returns-2 : tie.Need-returns-2
-unfolding fieldsThere
 returns-2 c =
+    let a = c .before .before .before .before .args in
     second-fails _ _ _ (sym (c .before .before .before .field-fits .ensures) ∙ c .before .before .if1 .taken)
     (sym (c .before .field-fits2 .ensures) ∙ c .if2 .left)
+    ∙ sym (there-as (a .form) (a .a) (a .b) (a .c))
 
 returns-3 : tie.Need-returns-3
-unfolding fieldsThere
 returns-3 c =
+    let a = c .before .before .args in
     first-fails _ _ _ (sym (c .before .field-fits .ensures) ∙ c .if1 .left)
+    ∙ sym (there-as (a .form) (a .a) (a .b) (a .c))
 
 pub are-there-spec : {M : Type 1} → statement M
 are-there-spec =

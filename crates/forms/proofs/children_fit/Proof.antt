@@ -4,7 +4,7 @@ use Prim.Native.Nat.{ℕ, _/_, _%_}
 use mathlib.Core.Path.{sym, _∙_}
 use Rattle.rules.specs.Records.{childA, childB, childC}
 use Rattle.forms.specs.Codes.{languageOf}
-use Rattle.forms.proofs.FaultLaws.{third, second-fails, first-fails, at-child, there}
+use Rattle.forms.proofs.FaultLaws.{third, second-fails, first-fails, children-as, at-child, there}
 use Rattle.forms.proofs.children_fit.Statement.{statement}
 use Rattle.forms.proofs.children_fit.Tie as tie
 
@@ -43,6 +43,7 @@ returns c =
     (sym (at-child l t (a .n) (a .form / 256 % 16) _ (childB t (a .n)) _
     (c .before .before .before .before .child-b .ensures)
     (c .before .before .before .child-fits2 .ensures) (p .1)) ∙ c .before .before .if2 .taken)
+    ∙ sym (children-as l t (a .n) (a .form))
 
 returns-2 : tie.Need-returns-2
 returns-2 c =
@@ -57,6 +58,7 @@ returns-2 c =
     (c .before .before .before .before .child-fits .ensures) (p .0)) ∙ c .before .before .before .if1 .taken)
     (sym (at-child l t (a .n) (a .form / 256 % 16) _ (childB t (a .n)) _ (c .before .before .child-b .ensures)
     (c .before .child-fits2 .ensures) (p .1)) ∙ c .if2 .left)
+    ∙ sym (children-as l t (a .n) (a .form))
 
 returns-3 : tie.Need-returns-3
 returns-3 c =
@@ -68,6 +70,7 @@ returns-3 c =
     first-fails _ _ _
     (sym (at-child l t (a .n) (a .form / 4096 % 16) _ (childA t (a .n)) _ (c .before .before .child-a .ensures)
     (c .before .child-fits .ensures) (p .0)) ∙ c .if1 .left)
+    ∙ sym (children-as l t (a .n) (a .form))
 
 pub children-fit-spec : {M : Type 1} → statement M
 children-fit-spec =

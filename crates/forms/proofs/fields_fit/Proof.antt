@@ -1,6 +1,7 @@
 -- `forms::fields_fit` meets its contract. Assumes nothing.
 use borrow.Author.Needs.{needs}
 use Prim.Native.Nat.{ℕ, _/_, _%_}
+use mathlib.Core.List.{[], _∷_}
 use mathlib.Core.Path.{sym, ap, _∙_}
 use mir.Syntax.{w64}
 use mir.ValLaws.{toZ-ofZ}
@@ -46,9 +47,9 @@ returns c =
     let literal = ap (literalFits (literalFrom (a .form % 16)))
     (toZ-ofZ w64 (z .result) (record { sfits = z .ok }) ∙ z .ensures) in
     c .are-there .ensures
-    ∙ (λ i. fieldsThere (a .form) (c .before .before .before .child-a .ensures i)
-    (c .before .before .child-b .ensures i)
-    (c .before .child-c .ensures i))
+    ∙ (λ i. fieldsThere (a .form) (c .before .before .before .child-a .ensures i
+    ∷ c .before .before .child-b .ensures i
+    ∷ c .before .child-c .ensures i ∷ []))
     ∙ third _ _ _ (sym (c .before .before .before .before .before .before .before .before .field-fits .ensures ∙ mark)
     ∙ c .before .before .before .before .before .before .before .if1 .taken)
     (sym (c .before .before .before .before .before .literal-fits .ensures ∙ literal)
