@@ -7,7 +7,8 @@ use mathlib.Core.Path.{_≡_, refl, sym, ap, _∙_}
 use borrow.Author.Tests.{ltb-true, eqb-true, eq-eqb, not-false}
 use lib.Dec.{ltb, eqb}
 use Rattle.rules.specs.Records.{recordCount, kindOf, childA, childB, childC, recordAt}
-use Rattle.rules.specs.Kinds.{Language, Sort, sortNumber, statement, Field, unnamed, child, number, formOf, fieldOf}
+use Rattle.rules.specs.Kinds.{Language, Sort, sortNumber, statement, Field, unnamed, child, number, fieldOf}
+use Rattle.rules.specs.Kinds.{formOf}
 use Rattle.rules.specs.Checker.{fieldFits, formSort, sortOf, childFits, recordFault, shapeFault}
 use Rattle.rules.specs.Nodes.{sortOfNode, nodeFits, nodeIn, nodes, nodeAt}
 use Rattle.rules.proofs.Acceptance.{Accepted}

@@ -3,14 +3,15 @@ use Prim.Native.Nat.{ℕ, _≤_, _<_}
 use native.Mathlib.Decide.{decLt}
 use native.Mathlib.Omega.{arith}
 use mathlib.Core.Bool.{Bool, true, false, cond, _&&_, _||_, false≢true}
-use mathlib.Core.List.{List}
+use mathlib.Core.List.{List, [], _∷_, map}
 use mathlib.Core.Option.{Option, none, some}
 use mathlib.Core.Path.{_≡_, refl, sym, ap, _∙_, subst}
 use borrow.Author.Tests.{ltb-true, leb-true, lt-ltb, le-leb, eqb-true, eq-eqb}
 use lib.Dec.{ltb, leb, eqb}
 use lib.IntN.{ℤ, pos, negsuc, natAbs}
 use lib.Signed.{leZ}
-use Rattle.rules.specs.Records.{Record, recordCount, kindOf, markOf, childA, childB, childC, literalOf, recordAt}
+use Rattle.rules.specs.Records.{Record, fieldsOf, recordCount, kindOf, markOf, childA, childB, childC, literalOf}
+use Rattle.rules.specs.Records.{recordAt}
 use Rattle.rules.specs.Kinds.{Language, source, target, Sort, sortNumber, expression, place, term, predicate}
 use Rattle.rules.specs.Kinds.{statement, Field, unnamed, child, number, Literal, zeroLiteral, anyLiteral}
 use Rattle.rules.specs.Kinds.{statementLiteral, Form, fieldOf, forms, formOf}
@@ -51,7 +52,7 @@ recordAs k t n = record {
 -- the node that record n is, as a record of kind k, its children's being what they are by themselves
 abbrev pub nodeAs : (l : Language) → ℕ → List ℕ → ℕ → NodeOf l
 nodeAs l k t n =
-    buildNode l n (recordAs k t n) (nodeAt l t (childA t n)) (nodeAt l t (childB t n)) (nodeAt l t (childC t n))
+    buildNode l n (recordAs k t n) (map (nodeAt l t) (fieldsOf (recordAt t n)))
 
 -- record n keeps its form, and its node is what the fields say
 pub record FormHolds (l : Language) (t : List ℕ) (n : ℕ) (f : Form) : Type 0 where
@@ -106,8 +107,9 @@ field-holds l t n (child s) x h q = go (decLt x n)
 field-holds l t n (number p) x h q = h
 
 pub fields-split : (f : Form) (r : Record) → fieldsFit f r ≡ true
-    → (fieldFits (f .mark) (r .mark) ≡ true) × (fieldFits (fieldOf f 0) (r .a) ≡ true) × (fieldFits (fieldOf f 1) (r .b) ≡ true)
-    × (fieldFits (fieldOf f 2) (r .c) ≡ true) × (literalFits (f .literal) (r .literal) ≡ true)
+    → (fieldFits (f .mark) (r .mark) ≡ true) × (fieldFits (fieldOf f 0) (r .a) ≡ true)
+    × (fieldFits (fieldOf f 1) (r .b) ≡ true) × (fieldFits (fieldOf f 2) (r .c) ≡ true)
+    × (literalFits (f .literal) (r .literal) ≡ true)
 fields-split f r h = five-pass _ _ _ _ (literalFits (f .literal) (r .literal)) h
 
 -- a record without fault has a form, and its fields and children fit it
@@ -138,7 +140,9 @@ isPlain (child s) = true
 isPlain (number p) = false
 
 readsChildren : Form → Bool
-readsChildren f = isPlain (fieldOf f 0) && isPlain (fieldOf f 1) && (isPlain (fieldOf f 2) || eqb (f .kind) 63 || eqb (f .kind) 64)
+readsChildren f =
+    isPlain (fieldOf f 0) && isPlain (fieldOf f 1)
+    && (isPlain (fieldOf f 2) || eqb (f .kind) 63 || eqb (f .kind) 64)
 
 each-reads : (l : Language) → every readsChildren (forms l) ≡ true
 unfolding readsChildren isPlain
@@ -147,12 +151,13 @@ each-reads target = refl
 
 -- kinds 63 and 64 alone have a number in field C
 ignores-c : (l : Language) (k : ℕ) (p : Bool) (t : List ℕ) (n : ℕ) (a b c d : NodeOf l) → (p ≡ true → c ≡ d)
-    → (p || eqb k 63 || eqb k 64) ≡ true → buildNode l n (recordAs k t n) a b c ≡ buildNode l n (recordAs k t n) a b d
-ignores-c l k true t n a b c d e h = ap (λ z. buildNode l n (recordAs k t n) a b z) (e refl)
+    → (p || eqb k 63 || eqb k 64) ≡ true
+    → buildNode l n (recordAs k t n) (a ∷ b ∷ c ∷ []) ≡ buildNode l n (recordAs k t n) (a ∷ b ∷ d ∷ [])
+ignores-c l k true t n a b c d e h = ap (λ z. buildNode l n (recordAs k t n) (a ∷ b ∷ z ∷ [])) (e refl)
 ignores-c l k false t n a b c d e h = go (eqb k 63) refl h
   where
     Same : (l : Language) → NodeOf l → NodeOf l → NodeOf l → NodeOf l → ℕ → Type 0
-    Same l a b c d j = buildNode l n (recordAs j t n) a b c ≡ buildNode l n (recordAs j t n) a b d
+    Same l a b c d j = buildNode l n (recordAs j t n) (a ∷ b ∷ c ∷ []) ≡ buildNode l n (recordAs j t n) (a ∷ b ∷ d ∷ [])
 
     as-number : (l : Language) (a b c d : NodeOf l) → Same l a b c d 63 × Same l a b c d 64
     as-number source a b c d = (refl, refl)
@@ -170,28 +175,26 @@ plain-node l t n (child s) x p h q = node-earlier l t n x (h .1)
 plain-node l t n (number g) x p h q = absurd (false≢true q)
 
 abbrev pub nodeUnder : (l : Language) → List ℕ → ℕ → NodeOf l
-nodeUnder l t n =
-    buildNode l n (recordAt t n)
-    (nodeBefore l t n (childA t n)) (nodeBefore l t n (childB t n)) (nodeBefore l t n (childC t n))
+nodeUnder l t n = buildNode l n (recordAt t n) (map (nodeBefore l t n) (fieldsOf (recordAt t n)))
 
 built-as : (l : Language) (t : List ℕ) (n : ℕ) (f : Form) → 1 ≤ n → kindOf t n ≡ f .kind → readsChildren f ≡ true
     → FieldHolds l t n (fieldOf f 0) (childA t n) → FieldHolds l t n (fieldOf f 1) (childB t n)
     → FieldHolds l t n (fieldOf f 2) (childC t n) → nodeUnder l t n ≡ nodeAs l (f .kind) t n
 unfolding readsChildren
 built-as l t n f p k h a b c =
-    let r = and-split (isPlain (fieldOf f 0) && isPlain (fieldOf f 1)) (isPlain (fieldOf f 2) || eqb (f .kind) 63 || eqb (f .kind) 64) h in
+    let r = and-split (isPlain (fieldOf f 0) && isPlain (fieldOf f 1))
+    (isPlain (fieldOf f 2) || eqb (f .kind) 63 || eqb (f .kind) 64) h in
     let q = and-split (isPlain (fieldOf f 0)) (isPlain (fieldOf f 1)) (r .0) in
     let C = nodeBefore l t n (childC t n) in
     let a = plain-node l t n (fieldOf f 0) (childA t n) p a (q .0) in
     let b = plain-node l t n (fieldOf f 1) (childB t n) p b (q .1) in
-    (λ i. buildNode l n (recordAs (k i) t n) (a i) (b i) C)
+    (λ i. buildNode l n (recordAs (k i) t n) (a i ∷ b i ∷ C ∷ []))
     ∙ ignores-c l (f .kind) (isPlain (fieldOf f 2)) t n (nodeAt l t (childA t n)) (nodeAt l t (childB t n)) C
     (nodeAt l t (childC t n)) (plain-node l t n (fieldOf f 2) (childC t n) p c) (r .1)
 
 -- the nodes that record n has for children
 abbrev pub nodesUnder : (l : Language) → List ℕ → ℕ → Option Form → Bool
-nodesUnder l t n o =
-    nodesFit l o (nodeBefore l t n (childA t n)) (nodeBefore l t n (childB t n)) (nodeBefore l t n (childC t n))
+nodesUnder l t n o = nodesFit l o (map (nodeBefore l t n) (fieldsOf (recordAt t n)))
 
 -- a record without fault whose children's nodes fit
 kept : (l : Language) (t : List ℕ) (n : ℕ) (f : Form) → 1 ≤ n → formOf l (kindOf t n) ≡ some f

@@ -3,12 +3,12 @@ use Prim.Native.Nat.{ℕ, zero, suc, _≤_, _<_}
 use native.Mathlib.Nat.{eq-or-lt-of-le}
 use native.Mathlib.Numerals.{add-one}
 use native.Mathlib.Omega.{arith}
-use mathlib.Core.List.{List, [], _∷_}
+use mathlib.Core.List.{List, [], _∷_, map}
 use mathlib.Core.Logic.{⊎-elim}
 use mathlib.Core.Path.{_≡_, refl, ap, _∙_}
 use lib.ListN.{length, length-append, List·getD-append, List·getD-eq-default}
 use lib.Seq.{getD-at}
-use Rattle.rules.specs.Records.{childA, childB, childC}
+use Rattle.rules.specs.Records.{fieldsOf, childA, childB, childC, recordAt}
 use Rattle.rules.specs.Kinds.{Language, source, target}
 use Rattle.rules.specs.Nodes.{NodeOf, junkNode, sortOfNode, nodeFrom, nodeIn, makeNode, nodes, nodeAt}
 
@@ -42,17 +42,19 @@ nodeBefore l t n x = nodeIn l (nodes l t n) x
 
 -- node n of record n and of the nodes before it
 pub node-law : (l : Language) (t : List ℕ) (n : ℕ) → nodeAt l t n
-    ≡ nodeFrom l t n (nodeBefore l t n (childA t n)) (nodeBefore l t n (childB t n)) (nodeBefore l t n (childC t n))
+    ≡ nodeFrom l t n (map (nodeBefore l t n) (fieldsOf (recordAt t n)))
 unfolding nodeAt makeNode
 node-law l t n = refl
 
 pub node-law-below : (l : Language) (t : List ℕ) (n : ℕ) → childA t n < n → childB t n < n → childC t n < n
-    → nodeAt l t n ≡ nodeFrom l t n (nodeAt l t (childA t n)) (nodeAt l t (childB t n)) (nodeAt l t (childC t n))
+    → nodeAt l t n ≡ nodeFrom l t n (map (nodeAt l t) (fieldsOf (recordAt t n)))
 node-law-below l t n p q r =
     node-law l t n
     ∙ (λ i.
     nodeFrom l t n
-    (node-earlier l t n (childA t n) p i) (node-earlier l t n (childB t n) q i) (node-earlier l t n (childC t n) r i))
+    (node-earlier l t n (childA t n) p i
+    ∷ node-earlier l t n (childB t n) q i
+    ∷ node-earlier l t n (childC t n) r i ∷ []))
 
 -- there is no node 0
 pub node-zero : (l : Language) (t : List ℕ) → nodeAt l t 0 ≡ junkNode l

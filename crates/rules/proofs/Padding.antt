@@ -2,7 +2,7 @@
 use Prim.Native.Nat.{ℕ, zero, suc, _+_, _≤_, _<_}
 use native.Mathlib.Omega.{arith}
 use mathlib.Core.Bool.{Bool, true, false, cond, _&&_}
-use mathlib.Core.List.{List, [], _∷_, _++_}
+use mathlib.Core.List.{List, [], _∷_, _++_, map}
 use mathlib.Core.Option.{Option, none, some}
 use mathlib.Core.Path.{_≡_, refl, sym, ap, ap₂, _∙_}
 use borrow.Author.Tests.{ltb-true, le-leb}
@@ -12,7 +12,7 @@ use mir.Val.{toZ}
 use lib.ListN.{length, take, drop, getD, length-append, List·getD-append}
 use Rattle.rules.specs.Words.{part, little, wordAt, integerAt}
 use Rattle.rules.specs.Records.{Record, recordCount, start, kindOf, markOf, childA, childB, childC, literalOf}
-use Rattle.rules.specs.Records.{recordAt}
+use Rattle.rules.specs.Records.{fieldsOf, recordAt}
 use Rattle.rules.specs.Kinds.{Language, sortNumber, Field, unnamed, child, number, Form, fieldOf, formOf}
 use Rattle.rules.specs.Checker.{fieldsFit, sortOf, childFits, childrenFit, faultOf, recordFault}
 use Rattle.rules.specs.Nodes.{NodeOf, buildNode, nodesFit, guarded, nodeIn, makeNode, withNext, nodes, nodeAt}
@@ -70,7 +70,8 @@ module _ (t z : List ℕ) where
   children-padded : (l : Language) (n : ℕ) (f : Form) (r : Record) → n ≤ recordCount t
       → childrenFit l (t ++ z) n f r ≡ childrenFit l t n f r
   children-padded l n f r q =
-      λ i. child-padded l n (fieldOf f 0) (r .a) q i && child-padded l n (fieldOf f 1) (r .b) q i && child-padded l n (fieldOf f 2) (r .c) q i
+      λ i. child-padded l n (fieldOf f 0) (r .a) q i && child-padded l n (fieldOf f 1) (r .b) q i
+      && child-padded l n (fieldOf f 2) (r .c) q i
 
   fault-padded : (l : Language) (n : ℕ) → 1 ≤ n → n ≤ recordCount t → recordFault l (t ++ z) n ≡ recordFault l t n
   unfolding recordFault
@@ -100,10 +101,8 @@ module _ (t z : List ℕ) where
     where
       from : Bool → ℕ → Record → NodeOf l
       from u v r =
-          let a = nodeIn l ns (r .a) in
-          let b = nodeIn l ns (r .b) in
-          let c = nodeIn l ns (r .c) in
-          guarded l (ltb 0 (suc n) && u && eqb v 0 && nodesFit l (formOf l (r .kind)) a b c) (buildNode l (suc n) r a b c)
+          let cs = map (nodeIn l ns) (fieldsOf r) in
+          guarded l (ltb 0 (suc n) && u && eqb v 0 && nodesFit l (formOf l (r .kind)) cs) (buildNode l (suc n) r cs)
 
   nodes-padded : (l : Language) (n : ℕ) → n ≤ suc (recordCount t) → nodes l (t ++ z) n ≡ nodes l t n
   unfolding nodes

@@ -51,8 +51,8 @@ module _ (l : Language) (t : List ℕ) (m : ℕ) where
   in-fields : (f : Form) (r : Record) (c : ℕ) → fieldsFit f r ≡ true → childrenFit l t m f r ≡ true
       → 0 < timesOf (some f) r c → (0 < c) × (c < m)
   in-fields f r c p q h =
-      let ps = five-pass (fieldFits (f .mark) (r .mark)) (fieldFits (fieldOf f 0) (r .a)) (fieldFits (fieldOf f 1) (r .b))
-      (fieldFits (fieldOf f 2) (r .c)) (literalFits (f .literal) (r .literal)) p in
+      let ps = five-pass (fieldFits (f .mark) (r .mark)) (fieldFits (fieldOf f 0) (r .a))
+      (fieldFits (fieldOf f 1) (r .b)) (fieldFits (fieldOf f 2) (r .c)) (literalFits (f .literal) (r .literal)) p in
       let qs = three-pass (childFits l t m (fieldOf f 0) (r .a)) (childFits l t m (fieldOf f 1) (r .b))
       (childFits l t m (fieldOf f 2) (r .c)) q in
       go (decLt 0 (timesIn (fieldOf f 0) (r .a) c)) (decLt 0 (timesIn (fieldOf f 1) (r .b) c))
@@ -61,7 +61,8 @@ module _ (l : Language) (t : List ℕ) (m : ℕ) where
       (in-field (fieldOf f 2) (r .c) c (ps .3) (qs .2))
     where
       go : Dec (0 < timesIn (fieldOf f 0) (r .a) c) → Dec (0 < timesIn (fieldOf f 1) (r .b) c)
-          → (0 < timesIn (fieldOf f 0) (r .a) c → (0 < c) × (c < m)) → (0 < timesIn (fieldOf f 1) (r .b) c → (0 < c) × (c < m))
+          → (0 < timesIn (fieldOf f 0) (r .a) c → (0 < c) × (c < m))
+          → (0 < timesIn (fieldOf f 1) (r .b) c → (0 < c) × (c < m))
           → (0 < timesIn (fieldOf f 2) (r .c) c → (0 < c) × (c < m)) → (0 < c) × (c < m)
       go (yes u) v a b d = a u
       go (no u) (yes v) a b d = b v
@@ -177,7 +178,8 @@ same-yes j = ap (λ (b : Bool). cond b 1 0) (eq-eqb j j refl)
 module _ (l : Language) (t : List ℕ) (n : ℕ) (f : Form) (s : Sort) (is-form : formOf l (kindOf t n) ≡ some f)
     (in-table : (1 ≤ n) × (n ≤ recordCount t)) where
   times-of : (c : ℕ) → timesChildOf l t n c
-      ≡ timesIn (fieldOf f 0) (childA t n) c + timesIn (fieldOf f 1) (childB t n) c + timesIn (fieldOf f 2) (childC t n) c
+      ≡ timesIn (fieldOf f 0) (childA t n) c + timesIn (fieldOf f 1) (childB t n) c
+      + timesIn (fieldOf f 2) (childC t n) c
   times-of c = times-by-fields l t n c f is-form
 
   times-self : (F : Field) (c : ℕ) → F ≡ child s → timesIn F c c ≡ 1

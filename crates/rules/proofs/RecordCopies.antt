@@ -13,7 +13,7 @@ use Rattle.rules.specs.Records.{recordCount, kindOf, childA, childB, chi
 use Rattle.rules.specs.Kinds.{source, sortNumber, Field, unnamed, child, number, Form, fieldOf, forms}
 use Rattle.rules.specs.Checker.{timesIn, timesChildOf}
 use Rattle.rules.specs.Nodes.{nodeSort, nodeAt}
-use Rattle.rules.specs.Origins.{ownRecords, copiesOfA, copiesOfB, copiesIn, copiesOf, targetRecords, sum}
+use Rattle.rules.specs.Origins.{ownRecords, copiesOfChild, copiesIn, copiesOf, targetRecords, sum}
 use Rattle.rules.specs.declared.Search.{Search}
 use Rattle.rules.specs.declared.Search.the-variants as search
 use Rattle.rules.proofs.BooleanLaws.{three-pass}
@@ -40,6 +40,12 @@ copies-field : (b : Bool) (c : ℕ) → cond b c 0 ≡ c * cond b 1 0
 copies-field true c = omega arith
 copies-field false c = omega arith
 
+-- the copies in the fields together
+pub copies-in-all : (t : List ℕ) (m j : ℕ) → copiesIn t m j
+    ≡ cond (eqb (childA t m) j) (copiesOfChild (kindOf t m) 0) 0
+    + cond (eqb (childB t m) j) (copiesOfChild (kindOf t m) 1) 0 + cond (eqb (childC t m) j) 1 0
+copies-in-all t m j = omega arith
+
 -- the most copies of a record, by its sort's number: expressions and places have the lowest
 abbrev mostCopies : ℕ → ℕ
 mostCopies s = cond (leb s 2) 2 1
@@ -53,7 +59,8 @@ fieldKept c r (number p) = true
 copiesKept : Form → Bool
 copiesKept f =
     let r = mostCopies (sortNumber (f .sort)) in
-    fieldKept (copiesOfA (f .kind)) r (fieldOf f 0) && fieldKept (copiesOfB (f .kind)) r (fieldOf f 1) && fieldKept 1 r (fieldOf f 2)
+    fieldKept (copiesOfChild (f .kind) 0) r (fieldOf f 0) && fieldKept (copiesOfChild (f .kind) 1) r (fieldOf f 1)
+    && fieldKept 1 r (fieldOf f 2)
 
 all-kept : every copiesKept (forms source) ≡ true
 unfolding copiesKept
@@ -115,10 +122,11 @@ module _ (t : List ℕ) (a : Accepted source t) where
       let y : same (childB t m) j ≡ 0 = omega arith in
       omega (
         arith,
-        copies-field (eqb (childA t m) j) (copiesOfA (kindOf t m)),
-        copies-field (eqb (childB t m) j) (copiesOfB (kindOf t m)),
-        ap (λ (i : ℕ). copiesOfA (kindOf t m) * i) x,
-        ap (λ (i : ℕ). copiesOfB (kindOf t m) * i) y,
+        copies-in-all t m j,
+        copies-field (eqb (childA t m) j) (copiesOfChild (kindOf t m) 0),
+        copies-field (eqb (childB t m) j) (copiesOfChild (kindOf t m) 1),
+        ap (λ (i : ℕ). copiesOfChild (kindOf t m) 0 * i) x,
+        ap (λ (i : ℕ). copiesOfChild (kindOf t m) 1 * i) y,
       )
 
   -- each copy of a record stands in one of its parent
@@ -179,17 +187,20 @@ module _ (t : List ℕ) (a : Accepted source t) where
       let k = kindOf t m in
       let r = mostCopies (sortNumber (f .sort)) in
       let n = children-only k f (w .found) in
-      let v : (fieldKept (copiesOfA k) r (fieldOf f 0) ≡ true) × (fieldKept (copiesOfB k) r (fieldOf f 1) ≡ true)
+      let v : (fieldKept (copiesOfChild k 0) r (fieldOf f 0) ≡ true)
+      × (fieldKept (copiesOfChild k 1) r (fieldOf f 1) ≡ true)
       × (fieldKept 1 r (fieldOf f 2) ≡ true) =
       rw (found-kind source k f (w .found))
       (three-pass _ _ _ (found-passes copiesKept source k f all-kept (w .found))) in
       let most = mostCopies (nodeSort (nodeAt source t c)) in
       let field : r * copiesIn t m c ≤ most =
-      one-field r (copiesOfA k) (copiesOfB k) most (eqb (childA t m) c) (eqb (childB t m) c) (eqb (childC t m) c)
+      rw (copies-in-all t m c)
+      (one-field r (copiesOfChild k 0) (copiesOfChild k 1) most
+      (eqb (childA t m) c) (eqb (childB t m) c) (eqb (childC t m) c)
       (sym (times-are m p q c (below .0)) ∙ child-single source t keeps m c h)
       (λ e. kept-field t m (fieldOf f 0) (childA t m) c _ r (n .0) (w .holds .a) (eqb-true _ c e) (below .0) (v .0))
       (λ e. kept-field t m (fieldOf f 1) (childB t m) c _ r (n .1) (w .holds .b) (eqb-true _ c e) (below .0) (v .1))
-      (λ e. kept-field t m (fieldOf f 2) (childC t m) c _ r (n .2) (w .holds .c) (eqb-true _ c e) (below .0) (v .2)) in
+      (λ e. kept-field t m (fieldOf f 2) (childC t m) c _ r (n .2) (w .holds .c) (eqb-true _ c e) (below .0) (v .2))) in
       let at-most : copiesOf t (recordCount t) m ≤ r =
       rw (form-sort source t m f (w .found) (w .holds)) at few in
       omega (arith, field, mul-le-mul-right (copiesIn t m c) at-most, copies-child t keeps m c h)

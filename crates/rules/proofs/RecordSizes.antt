@@ -101,8 +101,8 @@ fieldSize (number p) y = 0
 abbrev Sized : List ℕ → ℕ → ℕ → ℕ → ℕ → Form → Type 0
 Sized t n i v k f =
     treeSize (targetTree (nodeAs source k t n) i v)
-    ≡ sizeFrom k (fieldSize (fieldOf f 0) (nodeAt source t (childA t n))) (fieldSize (fieldOf f 1) (nodeAt source t (childB t n)))
-    (fieldSize (fieldOf f 2) (nodeAt source t (childC t n)))
+    ≡ sizeFrom k (fieldSize (fieldOf f 0) (nodeAt source t (childA t n)))
+    (fieldSize (fieldOf f 1) (nodeAt source t (childB t n))) (fieldSize (fieldOf f 2) (nodeAt source t (childC t n)))
 
 size-arm : (t : List ℕ) (n i v : ℕ) {s : Sort} {k : ℕ} → SourceKind s k → Sized t n i v k (formAt source k)
 unfolding expressionTree embed translateTerm translatePredicate translate statementTree

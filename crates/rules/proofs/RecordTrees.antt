@@ -8,7 +8,7 @@ use Rattle.rules.specs.Nodes.{SourceNode, expressionNode, placeNode, ter
 use Rattle.rules.specs.Nodes.{junk, nodeSort, nodeAt}
 use Rattle.rules.specs.Emission.{RecordTree, none, expressionTree, placeTree, statementTree}
 use Rattle.rules.specs.Translation.{embed, embedPlace, translateTerm, translatePredicate, translate}
-use Rattle.rules.specs.Origins.{ownRecords, copiesOfA, copiesOfB}
+use Rattle.rules.specs.Origins.{ownRecords, copiesOfChild}
 
 -- the records that a record is translated to: those of a term or predicate under statement s at level v
 abbrev pub targetTree : SourceNode → ℕ → ℕ → RecordTree
@@ -28,4 +28,4 @@ Sorted t n = (n ≡ 0) ⊎ (1 ≤ nodeSort (nodeAt source t n))
 
 -- the size of a translation from the sizes of its children's
 abbrev pub sizeFrom : ℕ → ℕ → ℕ → ℕ → ℕ
-sizeFrom k a b c = ownRecords k + copiesOfA k * a + copiesOfB k * b + c
+sizeFrom k a b c = ownRecords k + copiesOfChild k 0 * a + copiesOfChild k 1 * b + c

@@ -75,10 +75,12 @@ form-made l t n f p q o m a b c z =
     let h : fieldsFit f (recordAt t n) ≡ true =
     and-join _ _ (and-join _ _ (and-join _ _ (and-join _ _ m x) y) w) v in
     let g : childrenFit l t n f (recordAt t n) ≡ true =
-    and-join _ _ (and-join _ _ (child-passes l t n (fieldOf f 0) (childA t n) a) (child-passes l t n (fieldOf f 1) (childB t n) b))
+    and-join _ _ (and-join _ _ (child-passes l t n (fieldOf f 0) (childA t n) a)
+    (child-passes l t n (fieldOf f 1) (childB t n) b))
     (child-passes l t n (fieldOf f 2) (childC t n) c) in
     let k : nodesUnder l t n (some f) ≡ true =
-    and-join _ _ (and-join _ _ (node-passes l t n (fieldOf f 0) (childA t n) a) (node-passes l t n (fieldOf f 1) (childB t n) b))
+    and-join _ _ (and-join _ _ (node-passes l t n (fieldOf f 0) (childA t n) a)
+    (node-passes l t n (fieldOf f 1) (childB t n) b))
     (node-passes l t n (fieldOf f 2) (childC t n) c) in
     let e : recordFault l t n ≡ 0 =
     ap (faultOf l t n) o

@@ -15,7 +15,7 @@ use Rattle.rules.specs.Checker.{scopeFault, levelOf, levelFault, check}
 use Rattle.rules.specs.Nodes.{sourceProgram, nodeAt}
 use Rattle.rules.specs.Emission.{statementTree, treeSize}
 use Rattle.rules.specs.Translation.{translate}
-use Rattle.rules.specs.Origins.{ownRecords, copiesOfA, copiesOfB, copiesIn, copiesOf, targetRecords, sum}
+use Rattle.rules.specs.Origins.{ownRecords, copiesOfChild, copiesIn, copiesOf, targetRecords, sum}
 use Rattle.rules.specs.Cases.{line, of}
 use Rattle.rules.specs.declared.Checked.the-variants as checked
 use Rattle.rules.proofs.Acceptance.{Accepted, accepted-says, passed-of}
@@ -24,7 +24,7 @@ use Rattle.rules.proofs.ScopeLaws.{copies-last}
 use Rattle.rules.proofs.Counting.{sum-equal, sum-plus, sum-child, sum-most, count-all}
 use Rattle.rules.proofs.RecordTrees.{treeAt}
 use Rattle.rules.proofs.RecordSizes.{none-at, tree-as, size-law}
-use Rattle.rules.proofs.RecordCopies.{copies-handed, last-in-none, at-most-14}
+use Rattle.rules.proofs.RecordCopies.{copies-in-all, copies-handed, last-in-none, at-most-14}
 
 -- the size of what record n is translated to
 abbrev sizeOf : List ℕ → ℕ → ℕ
@@ -46,16 +46,20 @@ module _ (t : List ℕ) (a : Accepted source t) where
       let l = size-law t m (r .0) (r .1) in
       let N = recordCount t in
       let k = kindOf t m in
+      let in-fields : ℕ → ℕ = λ j. cond (eqb (childA t m) j) (copiesOfChild k 0) 0
+      + cond (eqb (childB t m) j) (copiesOfChild k 1) 0 + cond (eqb (childC t m) j) 1 0 in
       let none : sizeOf t 0 ≡ 0 = sym (ap treeSize (none-at t 0 0 0 refl)) in
       let of-field : (x c : ℕ) → x ≤ m → sum N (λ j. cond (eqb x j) c 0 * sizeOf t j) ≡ c * sizeOf t x =
       λ x c h. sum-child N x c (sizeOf t) (omega arith) none in
       omega (
         arith,
         l .size 0 0,
-        three-sums N (λ j. cond (eqb (childA t m) j) (copiesOfA k) 0) (λ j. cond (eqb (childB t m) j) (copiesOfB k) 0)
-            (λ j. cond (eqb (childC t m) j) 1 0) (sizeOf t),
-        of-field (childA t m) (copiesOfA k) (omega (arith, l .a-below)),
-        of-field (childB t m) (copiesOfB k) (omega (arith, l .b-below)),
+        sum-equal N (λ j. copiesIn t m j * sizeOf t j) (λ j. in-fields j * sizeOf t j)
+            (λ j u v. ap (λ (z : ℕ). z * sizeOf t j) (copies-in-all t m j)),
+        three-sums N (λ j. cond (eqb (childA t m) j) (copiesOfChild k 0) 0)
+            (λ j. cond (eqb (childB t m) j) (copiesOfChild k 1) 0) (λ j. cond (eqb (childC t m) j) 1 0) (sizeOf t),
+        of-field (childA t m) (copiesOfChild k 0) (omega (arith, l .a-below)),
+        of-field (childB t m) (copiesOfChild k 1) (omega (arith, l .b-below)),
         of-field (childC t m) 1 (omega (arith, l .c-below)),
       )
 

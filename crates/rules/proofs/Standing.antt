@@ -2,7 +2,7 @@
 use Prim.Native.Nat.{ℕ, _≤_}
 use native.Mathlib.Omega.{arith}
 use mathlib.Core.Bool.{Bool, true, false}
-use mathlib.Core.List.{List}
+use mathlib.Core.List.{List, [], _∷_}
 use mathlib.Core.Option.{some}
 use mathlib.Core.Path.{_≡_, refl, sym, ap, _∙_, subst}
 use borrow.Author.Tests.{ltb-true, leb-true, eqb-true}
@@ -32,7 +32,8 @@ pub record Stands (l : Language) (t : List ℕ) (n : ℕ) (s : Sort) : Type 0 wh
   pub kind : KindOf l s (kindOf t n)
 
 abbrev sortFits : (l : Language) → ℕ → List ℕ → NodeOf l → NodeOf l → NodeOf l → Form → Bool
-sortFits l n t a b c f = eqb (sortOfNode l (buildNode l n (recordAs (f .kind) t n) a b c)) (sortNumber (f .sort))
+sortFits l n t a b c f =
+    eqb (sortOfNode l (buildNode l n (recordAs (f .kind) t n) (a ∷ b ∷ c ∷ []))) (sortNumber (f .sort))
 
 each-sort : (l : Language) (n : ℕ) (t : List ℕ) (a b c : NodeOf l) → every (sortFits l n t a b c) (forms l) ≡ true
 each-sort source n t a b c = refl

@@ -1,13 +1,13 @@
 -- The tree that each record of a table is, by a left fold: node n is made of record n and of the nodes before it.
 use Prim.Native.Nat.{ℕ, zero, suc}
 use mathlib.Core.Bool.{Bool, true, false, cond, _&&_}
-use mathlib.Core.List.{List, [], _∷_, _++_}
+use mathlib.Core.List.{List, [], _∷_, _++_, map}
 use mathlib.Core.Option.{Option, none, some}
 use mathlib.Core.Path.{_≡_}
 use lib.Dec.{ltb, leb, eqb}
 use lib.IntN.{ℤ, pos, natAbs}
 use lib.ListN.{getD}
-use Rattle.rules.specs.Records.{Record, recordCount, kindOf, recordAt}
+use Rattle.rules.specs.Records.{Record, fieldsOf, recordCount, kindOf, recordAt}
 use Rattle.rules.specs.Kinds.{Language, source, target, sortNumber, Field, unnamed, child, number, Form, formOf}
 use Rattle.rules.specs.Kinds.{beside, expression, place, term, predicate, statement}
 use Rattle.rules.specs.Checker.{all, recordFault}
@@ -132,9 +132,12 @@ sourceStatement x = asStatement (tree.skip 0) x
 abbrev pub targetStatement : TargetNode → TargetStatement
 targetStatement x = asStatement (target-tree.skip 0) x
 
--- record n of a source table, of its fields and its children's nodes
-abbrev pub sourceOf : ℕ → Record → SourceNode → SourceNode → SourceNode → SourceNode
-sourceOf n r a b c =
+-- record n of a source table, of its fields and of what they name: the nodes of A, B, .. in order
+abbrev pub sourceOf : ℕ → Record → List SourceNode → SourceNode
+sourceOf n r cs =
+    let a = getD cs 0 junk in
+    let b = getD cs 1 junk in
+    let c = getD cs 2 junk in
     byKind (r .kind)
     (20 ⇒ termNode (value (asExpression a))
     ∷ 21 ⇒ termNode (asked base (asTerm a))
@@ -160,8 +163,11 @@ sourceOf n r a b c =
     (expressionOf (λ m. junk) r a b)
 
 -- record of a target table; s is its literal, a statement's number
-abbrev pub targetOf : ℕ → Record → TargetNode → TargetNode → TargetNode → TargetNode
-targetOf s r a b c =
+abbrev pub targetOf : ℕ → Record → List TargetNode → TargetNode
+targetOf s r cs =
+    let a = getD cs 0 junk in
+    let b = getD cs 1 junk in
+    let c = getD cs 2 junk in
     byKind (r .kind)
     (40 ⇒ statementNode (target-tree.skip s)
     ∷ 41 ⇒ statementNode (target-tree.assign s (asPlace a) (asExpression b))
@@ -188,9 +194,9 @@ abbrev pub NodeOf : Language → Type 0
 NodeOf source = SourceNode
 NodeOf target = TargetNode
 
-abbrev pub buildNode : (l : Language) → ℕ → Record → NodeOf l → NodeOf l → NodeOf l → NodeOf l
-buildNode source n r a b c = sourceOf n r a b c
-buildNode target n r a b c = targetOf (natAbs (r .literal)) r a b c
+abbrev pub buildNode : (l : Language) → ℕ → Record → List (NodeOf l) → NodeOf l
+buildNode source n r cs = sourceOf n r cs
+buildNode target n r cs = targetOf (natAbs (r .literal)) r cs
 
 abbrev pub junkNode : (l : Language) → NodeOf l
 junkNode source = junk
@@ -206,9 +212,9 @@ nodeFits l unnamed x = true
 nodeFits l (child s) x = eqb (sortOfNode l x) (sortNumber s)
 nodeFits l (number p) x = true
 
-abbrev pub nodesFit : (l : Language) → Option Form → NodeOf l → NodeOf l → NodeOf l → Bool
-nodesFit l none a b c = false
-nodesFit l (some f) a b c = all (beside (nodeFits l) f 0 (a ∷ b ∷ c ∷ []))
+abbrev pub nodesFit : (l : Language) → Option Form → List (NodeOf l) → Bool
+nodesFit l none cs = false
+nodesFit l (some f) cs = all (beside (nodeFits l) f 0 cs)
 
 abbrev pub guarded : (l : Language) → Bool → NodeOf l → NodeOf l
 guarded l true x = x
@@ -216,19 +222,18 @@ guarded l false x = junkNode l
 
 -- record n with its children's nodes: junk where the table has no record n, where it breaks rules 3–5, or where a
 -- child's node is junk
-abbrev pub nodeFrom : (l : Language) → List ℕ → ℕ → NodeOf l → NodeOf l → NodeOf l → NodeOf l
-nodeFrom l t n a b c =
+abbrev pub nodeFrom : (l : Language) → List ℕ → ℕ → List (NodeOf l) → NodeOf l
+nodeFrom l t n cs =
     guarded l
-    (ltb 0 n && leb n (recordCount t) && eqb (recordFault l t n) 0 && nodesFit l (formOf l (kindOf t n)) a b c)
-    (buildNode l n (recordAt t n) a b c)
+    (ltb 0 n && leb n (recordCount t) && eqb (recordFault l t n) 0 && nodesFit l (formOf l (kindOf t n)) cs)
+    (buildNode l n (recordAt t n) cs)
 
 abbrev pub nodeIn : (l : Language) → List (NodeOf l) → ℕ → NodeOf l
 nodeIn l ns x = getD ns x (junkNode l)
 
 -- node n, given the nodes 0 .. n - 1
 unfoldable pub makeNode : (l : Language) → List ℕ → ℕ → List (NodeOf l) → NodeOf l
-makeNode l t n ns =
-    nodeFrom l t n (nodeIn l ns (recordAt t n .a)) (nodeIn l ns (recordAt t n .b)) (nodeIn l ns (recordAt t n .c))
+makeNode l t n ns = nodeFrom l t n (map (nodeIn l ns) (fieldsOf (recordAt t n)))
 
 abbrev pub withNext : (l : Language) → List ℕ → ℕ → List (NodeOf l) → List (NodeOf l)
 withNext l t n ns = ns ++ (makeNode l t n ns ∷ [])

@@ -3,9 +3,9 @@ use Prim.Native.Nat.{ℕ, zero, suc, _+_, _*_}
 use mathlib.Core.Bool.{cond}
 use mathlib.Core.List.{List, [], _∷_}
 use lib.Dec.{eqb}
-use Rattle.rules.specs.Records.{recordCount, kindOf, childA, childB, childC}
+use Rattle.rules.specs.Records.{fieldsOf, recordCount, kindOf, recordAt}
 use Rattle.rules.specs.Kinds.{source, between}
-use Rattle.rules.specs.Checker.{parentOf}
+use Rattle.rules.specs.Checker.{total, parentOf}
 use Rattle.rules.specs.Nodes.{_⇒_, byKind}
 use Rattle.rules.specs.declared.Search.the-variants as search
 
@@ -47,20 +47,22 @@ ownRecords k =
     -- "20 is 61 tn"; "40, 44, 45, 46 keep their form"; expressions and places are copied
     1
 
--- how often one copy of a record of kind k has child A's records, and child B's; C's it has once. "41, 42 or 43 in a
--- list is the statement itself with its own further copy of its children": the place of 41 and 42, the size of 42 and
--- what 43 frees stand in a part before it too
-abbrev pub copiesOfA : ℕ → ℕ
-copiesOfA k = cond (between 41 43 k) 2 1
+-- how often one copy of a record of kind k has the records of child i, A being 0. "41, 42 or 43 in a list is the
+-- statement itself with its own further copy of its children": the place of 41 and 42, the size of 42 and what 43 frees
+-- stand in a part before it too
+abbrev pub copiesOfChild : ℕ → ℕ → ℕ
+copiesOfChild k zero = cond (between 41 43 k) 2 1
+copiesOfChild k (suc zero) = cond (eqb k 42) 2 1
+copiesOfChild k (suc (suc i)) = 1
 
-abbrev pub copiesOfB : ℕ → ℕ
-copiesOfB k = cond (eqb k 42) 2 1
+-- in each of the fields of a record of kind k, from field i on, the copies that it has of record n
+abbrev pub copiesFrom : ℕ → ℕ → List ℕ → ℕ → List ℕ
+copiesFrom k i [] n = []
+copiesFrom k i (x ∷ xs) n = cond (eqb x n) (copiesOfChild k i) 0 ∷ copiesFrom k (suc i) xs n
 
--- how often one copy of record m has record n's records, n being its A, B or C
+-- how often one copy of record m has record n's records
 abbrev pub copiesIn : List ℕ → ℕ → ℕ → ℕ
-copiesIn t m n =
-    cond (eqb (childA t m) n) (copiesOfA (kindOf t m)) 0 + cond (eqb (childB t m) n) (copiesOfB (kindOf t m)) 0
-    + cond (eqb (childC t m) n) 1 0
+copiesIn t m n = total (copiesFrom (kindOf t m) 0 (fieldsOf (recordAt t m)) n)
 
 -- how many copies of record n the translation has; d bounds the records above
 unfoldable pub copiesOf : List ℕ → ℕ → ℕ → ℕ

@@ -6,7 +6,7 @@ use mathlib.Core.Logic.{_⊎_, inl, inr}
 use mathlib.Core.Path.{_≡_, refl, sym, ap, _∙_}
 use borrow.Author.Tests.{le-leb, lt-leb, eqb-true, eqb-false, ne-eqb}
 use lib.Dec.{eqb}
-use Rattle.rules.specs.Origins.{ownRecords, copiesOfA, copiesOfB}
+use Rattle.rules.specs.Origins.{ownRecords, copiesOfChild}
 
 -- a kind other than those named one by one
 abbrev Unnamed : ℕ → Type 0
@@ -75,17 +75,17 @@ module _ (k : ℕ) where
   own-from-36 h p = own-other h (λ q r. omega arith) (λ q r. omega arith)
 
   -- ---- copies
-  pub copies-a-below : k < 41 → 1 ≡ copiesOfA k
+  pub copies-a-below : k < 41 → 1 ≡ copiesOfChild k 0
   copies-a-below p = rw (lt-leb 41 k p) refl
 
-  pub copies-a-within : 41 ≤ k → k < 44 → 2 ≡ copiesOfA k
+  pub copies-a-within : 41 ≤ k → k < 44 → 2 ≡ copiesOfChild k 0
   copies-a-within p q = rw (le-leb 41 k p, le-leb k 43 (omega arith)) refl
 
-  pub copies-a-above : 44 ≤ k → 1 ≡ copiesOfA k
+  pub copies-a-above : 44 ≤ k → 1 ≡ copiesOfChild k 0
   copies-a-above p = rw (le-leb 41 k (omega arith), lt-leb k 43 p) refl
 
-  pub copies-b-two : k ≡ 42 → 2 ≡ copiesOfB k
-  copies-b-two e = sym (ap copiesOfB e)
+  pub copies-b-two : k ≡ 42 → 2 ≡ copiesOfChild k 1
+  copies-b-two e = sym (ap (λ (j : ℕ). copiesOfChild j 1) e)
 
-  pub copies-b-one : (k ≡ 42 → ⊥) → 1 ≡ copiesOfB k
+  pub copies-b-one : (k ≡ 42 → ⊥) → 1 ≡ copiesOfChild k 1
   copies-b-one h = rw (ne-eqb k 42 h) refl

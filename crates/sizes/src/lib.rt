@@ -2,7 +2,7 @@
 ghost use mathlib.Core.Path.{_≡_};
 ghost use Prim.Native.Nat.{_≤_};
 ghost use Rattle.rules.specs.Emission.{treeSize};
-ghost use Rattle.rules.specs.Origins.{ownRecords, copiesOfA, copiesOfB};
+ghost use Rattle.rules.specs.Origins.{ownRecords, copiesOfChild};
 ghost use Rattle.rules.proofs.RecordTrees.{treeAt, Sorted, sizeFrom};
 
 // How many records are a kind's own, not its children's.
@@ -21,7 +21,7 @@ fn own_records(kind: u8) -> usize
 
 // How often the translation has child A's records.
 fn copies_of_a(kind: u8) -> usize
-    ensures { λ r. ⌜ r ≡ copiesOfA kind ⌝ }
+    ensures { λ r. ⌜ r ≡ copiesOfChild kind 0 ⌝ }
 {
     match kind {
         41..=43 => 2,
@@ -31,7 +31,7 @@ fn copies_of_a(kind: u8) -> usize
 
 // How often it has child B's.
 fn copies_of_b(kind: u8) -> usize
-    ensures { λ r. ⌜ r ≡ copiesOfB kind ⌝ }
+    ensures { λ r. ⌜ r ≡ copiesOfChild kind 1 ⌝ }
 {
     match kind {
         42 => 2,
