@@ -2,10 +2,12 @@
 use Prim.Native.Nat.{ℕ, suc, _+_, _<_, _≤_}
 use native.Mathlib.Omega.{arith}
 use mathlib.Core.Bool.{Bool, true, false, cond, _&&_, _||_}
+use mathlib.Core.List.{List, [], _∷_}
 use mathlib.Core.Path.{_≡_, refl, sym, ap, _∙_}
 use borrow.Author.Tests.{eq-eqb, ne-eqb}
 use lib.Dec.{eqb, leb}
-use Rattle.rules.specs.Checker.{isUnary, isBinary, isJoint, levelBelow, highestNamed}
+use lib.ListN.{length}
+use Rattle.rules.specs.Checker.{isUnary, isBinary, isJoint, levelBelow, positionIn, highestNamed}
 use Rattle.checker.specs.Scopes.{tooDeep}
 
 pub unary-at : (k j : ℕ) → k ≡ j → isUnary j ≡ true → true ≡ isUnary k
@@ -27,37 +29,51 @@ pub first-not : (k i j : ℕ) → (k ≡ i → ⊥) → eqb k j ≡ (eqb k i || 
 first-not k i j e = sym (ap (λ (b : Bool). b || eqb k j) (ne-eqb k i e))
 
 -- ---- the level below
-module _ (k n : ℕ) (b : Bool) where
-  pub below-unary : isUnary k ≡ true → n + 1 ≡ levelBelow k b n
+module _ (k i n : ℕ) where
+  pub below-unary : isUnary k ≡ true → n + 1 ≡ levelBelow k i n
   below-unary u =
       let more : n + 1 ≡ suc n = omega arith in
-      more ∙ sym (λ i. cond (u i) (suc n) (cond (isBinary k) (cond b (suc (suc n)) (suc n)) (cond (isJoint k) n 0)))
+      more ∙ sym (λ j. cond (u j) (suc n) (cond (isBinary k) (n + 1 + i) (cond (isJoint k) n 0)))
 
-  pub below-second : isUnary k ≡ false → isBinary k ≡ true → b ≡ true → n + 2 ≡ levelBelow k b n
-  below-second u v w =
-      let more : n + 2 ≡ suc (suc n) = omega arith in
-      more ∙ sym (λ i. cond (u i) (suc n) (cond (v i) (cond (w i) (suc (suc n)) (suc n)) (cond (isJoint k) n 0)))
+  pub below-binary : isUnary k ≡ false → isBinary k ≡ true → n + 1 + i ≡ levelBelow k i n
+  below-binary u v = sym (λ j. cond (u j) (suc n) (cond (v j) (n + 1 + i) (cond (isJoint k) n 0)))
 
-  pub below-first : isUnary k ≡ false → isBinary k ≡ true → b ≡ false → n + 1 ≡ levelBelow k b n
-  below-first u v w =
-      let more : n + 1 ≡ suc n = omega arith in
-      more ∙ sym (λ i. cond (u i) (suc n) (cond (v i) (cond (w i) (suc (suc n)) (suc n)) (cond (isJoint k) n 0)))
+  pub below-joint : isUnary k ≡ false → isBinary k ≡ false → isJoint k ≡ true → n ≡ levelBelow k i n
+  below-joint u v w = sym (λ j. cond (u j) (suc n) (cond (v j) (n + 1 + i) (cond (w j) n 0)))
 
-  pub below-joint : isUnary k ≡ false → isBinary k ≡ false → isJoint k ≡ true → n ≡ levelBelow k b n
-  below-joint u v w = sym (λ i. cond (u i) (suc n) (cond (v i) (cond b (suc (suc n)) (suc n)) (cond (w i) n 0)))
+  pub below-none : isUnary k ≡ false → isBinary k ≡ false → isJoint k ≡ false → 0 ≡ levelBelow k i n
+  below-none u v w = sym (λ j. cond (u j) (suc n) (cond (v j) (n + 1 + i) (cond (w j) n 0)))
 
-  pub below-none : isUnary k ≡ false → isBinary k ≡ false → isJoint k ≡ false → 0 ≡ levelBelow k b n
-  below-none u v w = sym (λ i. cond (u i) (suc n) (cond (v i) (cond b (suc (suc n)) (suc n)) (cond (w i) n 0)))
-
-  pub below-most : levelBelow k b n ≤ n + 2
-  below-most = go (isUnary k) (isBinary k) (isJoint k) b
+  pub below-most : levelBelow k i n ≤ n + 1 + i
+  below-most = go (isUnary k) (isBinary k) (isJoint k)
     where
-      go : (u v w b : Bool) → cond u (suc n) (cond v (cond b (suc (suc n)) (suc n)) (cond w n 0)) ≤ n + 2
-      go true v w b = omega arith
-      go false true w true = omega arith
-      go false true w false = omega arith
-      go false false true b = omega arith
-      go false false false b = omega arith
+      go : (u v w : Bool) → cond u (suc n) (cond v (n + 1 + i) (cond w n 0)) ≤ n + 1 + i
+      go true v w = omega arith
+      go false true w = omega arith
+      go false false true = omega arith
+      go false false false = omega arith
+
+-- ---- which of three a number is
+module _ (a b c x : ℕ) where
+  pub at-first : a ≡ x → 0 ≡ positionIn (a ∷ b ∷ c ∷ []) x
+  at-first e = rw (eq-eqb a x e)
+
+  pub at-second : (a ≡ x → ⊥) → b ≡ x → 1 ≡ positionIn (a ∷ b ∷ c ∷ []) x
+  at-second d e = rw (ne-eqb a x d, eq-eqb b x e)
+
+  pub at-third : (a ≡ x → ⊥) → (b ≡ x → ⊥) → c ≡ x → 2 ≡ positionIn (a ∷ b ∷ c ∷ []) x
+  at-third d e f = rw (ne-eqb a x d, ne-eqb b x e, eq-eqb c x f)
+
+  pub at-none : (a ≡ x → ⊥) → (b ≡ x → ⊥) → (c ≡ x → ⊥) → 3 ≡ positionIn (a ∷ b ∷ c ∷ []) x
+  at-none d e f = rw (ne-eqb a x d, ne-eqb b x e, ne-eqb c x f)
+
+pub position-most : (xs : List ℕ) (x : ℕ) → positionIn xs x ≤ length xs
+position-most [] x = omega arith
+position-most (y ∷ ys) x = go (eqb y x) (position-most ys x)
+  where
+    go : (b : Bool) → positionIn ys x ≤ length ys → cond b 0 (suc (positionIn ys x)) ≤ suc (length ys)
+    go true h = omega arith
+    go false h = omega arith
 
 -- ---- the highest temporary named
 module _ (k n : ℕ) where

@@ -1,5 +1,5 @@
 -- What is noted of a record going down is its scope, or its level.
-use Prim.Native.Nat.{ℕ, zero, suc, _+_, _<_, _≤_}
+use Prim.Native.Nat.{ℕ, zero, suc, _*_, _<_, _≤_}
 use native.Mathlib.Omega.{arith}
 use mathlib.Core.Bool.{Bool, true, false, not, cond, _&&_, _||_}
 use mathlib.Core.List.{List}
@@ -7,10 +7,11 @@ use mathlib.Core.Option.{Option, none, some}
 use mathlib.Core.Path.{_≡_, refl, sym, ap, _∙_}
 use borrow.Author.Tests.{leb-true, eqb-true}
 use lib.Dec.{eqb, leb, eqb·suc-zero}
-use Rattle.rules.specs.Records.{recordCount, kindOf, markOf, childB, recordAt}
+use Rattle.rules.specs.Records.{fieldsOf, recordCount, kindOf, markOf, recordAt}
 use Rattle.rules.specs.Kinds.{Language, source, target, Field, upTo, Form, lookUp, formOf}
 use Rattle.rules.specs.Checker.{fieldFits, fieldsFit, childrenFit, faultOf, recordFault, parentOf}
-use Rattle.rules.specs.Checker.{isLetOf, inScope, markInScope, scopeFault, levelBelow, levelOf, levelFault}
+use Rattle.rules.specs.Checker.{isLetOf, inScope, markInScope, scopeFault, levelBelow, positionIn, levelOf}
+use Rattle.rules.specs.Checker.{levelFault}
 use Rattle.rules.specs.declared.Search.{Search}
 use Rattle.rules.specs.declared.Search.the-variants as search
 use Rattle.rules.proofs.KindViews.{formAt}
@@ -18,7 +19,7 @@ use Rattle.rules.proofs.ParentLaws.{Passed, IsParent, two-pass}
 use Rattle.rules.proofs.FormLaws.{fields-split}
 use Rattle.rules.proofs.ScopeLaws.{scope-child, scope-last, level-child, level-last}
 use Rattle.checker.specs.Scopes.{bit, outOfScope, tooDeep}
-use Rattle.checker.proofs.LevelLaws.{below-most}
+use Rattle.checker.proofs.LevelLaws.{below-most, position-most}
 
 -- ---- the marks of 10 and 47 are variables
 four-less : (p q : Bool) → _≡_ {A = ℕ} (cond p (cond q 0 5) 4) 0 → p ≡ true
@@ -98,27 +99,33 @@ scoped-fault l t n s e h =
 abbrev pub Levelled : List ℕ → ℕ → ℕ → Type 0
 Levelled t j v = v ≡ levelOf t (recordCount t) j
 
-pub level-most : (t : List ℕ) (d n : ℕ) → levelOf t d n ≤ d + d
+pub level-most : (t : List ℕ) (d n : ℕ) → levelOf t d n ≤ 4 * d
 unfolding levelOf
 level-most t zero n = omega arith
 level-most t (suc d) n = go (parentOf source t n) (λ m. level-most t d m)
   where
-    go : (s : Search) → ((m : ℕ) → levelOf t d m ≤ d + d)
+    go : (s : Search) → ((m : ℕ) → levelOf t d m ≤ 4 * d)
         → elim s as (λ q. ℕ) [
-          | search.At m ↦ levelBelow (kindOf t m) (eqb (childB t m) n) (levelOf t d m)
+          | search.At m ↦ levelBelow (kindOf t m) (positionIn (fieldsOf (recordAt t m)) n) (levelOf t d m)
           | search.Nothing ↦ 0
-        ] ≤ suc d + suc d
+        ] ≤ 4 * suc d
     go search.Nothing f = omega arith
     go (search.At m) f =
-        omega (arith, f m, below-most (kindOf t m) (levelOf t d m) (eqb (childB t m) n))
+        let i = positionIn (fieldsOf (recordAt t m)) n in
+        omega (
+          arith,
+          f m,
+          below-most (kindOf t m) i (levelOf t d m),
+          position-most (fieldsOf (recordAt t m)) n,
+        )
 
 pub levelled-last : (t : List ℕ) → Passed source t → (v : ℕ) → v ≡ 0 → Levelled t (recordCount t) v
 levelled-last t keeps v e = e ∙ sym (level-last t keeps)
 
 pub levelled-child : (t : List ℕ) → Passed source t → (n j v : ℕ) → IsParent source t n j → Levelled t n v
-    → Levelled t j (levelBelow (kindOf t n) (eqb (childB t n) j) v)
+    → Levelled t j (levelBelow (kindOf t n) (positionIn (fieldsOf (recordAt t n)) j) v)
 levelled-child t keeps n j v p h =
-    ap (levelBelow (kindOf t n) (eqb (childB t n) j)) h ∙ sym (level-child t keeps n j p)
+    ap (levelBelow (kindOf t n) (positionIn (fieldsOf (recordAt t n)) j)) h ∙ sym (level-child t keeps n j p)
 
 pub levelled-fault : (t : List ℕ) (n v : ℕ) → Levelled t n v → tooDeep (kindOf t n) v ≡ levelFault t n
 unfolding levelFault

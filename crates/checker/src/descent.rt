@@ -1,15 +1,14 @@
 // What a record gives to its children.
 ghost use mathlib.Core.Path.{_≡_};
 ghost use Prim.Native.Nat.{ℕ, _<_};
-ghost use lib.Dec.{eqb};
 ghost use lib.ListN.{length};
-ghost use Rattle.rules.specs.Records.{kindOf, childB};
+ghost use Rattle.rules.specs.Records.{fieldsOf, kindOf, recordAt};
 ghost use Rattle.rules.specs.Kinds.{source};
-ghost use Rattle.rules.specs.Checker.{levelBelow};
+ghost use Rattle.rules.specs.Checker.{levelBelow, positionIn};
 ghost use Rattle.tables.specs.Within.{Within};
 ghost use Rattle.forms.specs.Codes.{languageOf};
 ghost use Rattle.checker.specs.Scopes.{Given};
-use super::levels::level_below;
+use super::levels::child_level;
 use super::notes::put_children;
 
 // The same number to each.
@@ -29,15 +28,16 @@ pub fn pass_scope(target: bool, table: &[u8], n: usize, scope: u64, notes: &mut 
 pub fn pass_level(table: &[u8], n: usize, level: u64, notes: &mut [u64; 4097])
     requires { ⌜ Within (now table) n × (length (now notes) ≡ 4097) × (level < 65535) ⌝ }
     ensures { λ _. ⌜ Given source (now (table .entry)) n
-        (λ (j : ℕ). levelBelow (kindOf (now (table .entry)) n) (eqb (childB (now (table .entry)) n) j) level)
+        (λ (j : ℕ). levelBelow (kindOf (now (table .entry)) n)
+        (positionIn (fieldsOf (recordAt (now (table .entry)) n)) j) level)
         (now (notes .entry)) (now (notes .exit)) ⌝ }
 {
     let kind = tables::kind(table, n);
     let a = tables::child_a(table, n);
     let b = tables::child_b(table, n);
     let c = tables::child_c(table, n);
-    let u = level_below(kind, b == a, level);
-    let v = level_below(kind, b == b, level);
-    let w = level_below(kind, b == c, level);
+    let u = child_level(kind, a, b, c, a, level);
+    let v = child_level(kind, a, b, c, b, level);
+    let w = child_level(kind, a, b, c, c, level);
     put_children(notes, forms::form_of(false, kind), a, b, c, u, v, w);
 }

@@ -1,7 +1,8 @@
 // The levels of terms and predicates.
 ghost use mathlib.Core.Path.{_≡_};
+ghost use mathlib.Core.List.{[], _∷_};
 ghost use Prim.Native.Nat.{_<_};
-ghost use Rattle.rules.specs.Checker.{isUnary, isBinary, isJoint, levelBelow, highestNamed};
+ghost use Rattle.rules.specs.Checker.{isUnary, isBinary, isJoint, levelBelow, positionIn, highestNamed};
 ghost use Rattle.checker.specs.Scopes.{tooDeep};
 
 fn is_unary(kind: u8) -> bool
@@ -40,23 +41,43 @@ fn is_joint(kind: u8) -> bool
     kind == 35
 }
 
-pub fn level_below(kind: u8, second: bool, level: u64) -> u64
-    requires { ⌜ level < 65535 ⌝ }
-    ensures { λ r. ⌜ r ≡ levelBelow kind second level ⌝ }
+fn level_below(kind: u8, position: u64, level: u64) -> u64
+    requires { ⌜ (level < 65535) × (position < 4) ⌝ }
+    ensures { λ r. ⌜ r ≡ levelBelow kind position level ⌝ }
 {
     if is_unary(kind) {
         return level + 1;
     }
     if is_binary(kind) {
-        if second {
-            return level + 2;
-        }
-        return level + 1;
+        return level + 1 + position;
     }
     if is_joint(kind) {
         return level;
     }
     0
+}
+
+fn position_in(a: usize, b: usize, c: usize, x: usize) -> u64
+    ensures { λ r. ⌜ (r ≡ positionIn (a ∷ b ∷ c ∷ []) x) × (r < 4) ⌝ }
+{
+    if a == x {
+        return 0;
+    }
+    if b == x {
+        return 1;
+    }
+    if c == x {
+        return 2;
+    }
+    3
+}
+
+// The level of child x of a record of this kind, at this level, that has children A, B and C.
+pub fn child_level(kind: u8, a: usize, b: usize, c: usize, x: usize, level: u64) -> u64
+    requires { ⌜ level < 65535 ⌝ }
+    ensures { λ r. ⌜ r ≡ levelBelow kind (positionIn (a ∷ b ∷ c ∷ []) x) level ⌝ }
+{
+    level_below(kind, position_in(a, b, c, x), level)
 }
 
 fn highest_named(kind: u8, level: u64) -> u64

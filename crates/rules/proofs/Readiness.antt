@@ -8,16 +8,18 @@ use mathlib.Core.Path.{_≡_, refl, sym, ap, _∙_, subst, subst₂}
 use borrow.Author.Tests.{leb-false, eq-eqb, ne-eqb, not-false}
 use lib.Dec.{eqb}
 use Rattle.rules.specs.Words.{wordAt}
-use Rattle.rules.specs.Records.{recordCount, kindOf, markOf, childA, childB, childC, literalOf, start}
+use Rattle.rules.specs.Records.{fieldsOf, recordCount, kindOf, markOf, childA, childB, childC, literalOf}
+use Rattle.rules.specs.Records.{recordAt, start}
 use Rattle.rules.specs.Kinds.{Language, source, target, Sort, expression, place, term, predicate, statement}
 use Rattle.rules.specs.Kinds.{Field, unnamed, child, number, Form, fieldOf, formOf, recordLimit}
 use Rattle.rules.specs.Checker.{timesIn, timesChildOf, scopeFault, levelBelow, highestNamed, isTermOrPredicate}
-use Rattle.rules.specs.Checker.{levelFault}
+use Rattle.rules.specs.Checker.{positionIn, levelFault}
 use Rattle.rules.specs.Numbers.{inRange}
 use Rattle.rules.specs.Nodes.{NodeOf, asExpression, asPlace, asTerm, asPredicate, sourceStatement}
 use Rattle.rules.specs.Nodes.{targetStatement, nodeAt}
 use Rattle.rules.proofs.Sound.{Scope, startScope, SoundExpression, SoundPlace, NoName, Named, SoundTerm}
 use Rattle.rules.proofs.Sound.{SoundPredicate, SoundStatement, SoundTarget}
+use Rattle.rules.proofs.BooleanLaws.{eqb-swap}
 use Rattle.rules.proofs.Acceptance.{Accepted, passed-of}
 use Rattle.rules.proofs.KindViews.{formAt, found-at, found-kind, KindOf}
 use Rattle.rules.proofs.FormLaws.{FieldHolds, nodeAs, FormHolds}
@@ -49,9 +51,13 @@ ChildSound l t unnamed x ρ v = Unit {0}
 ChildSound l t (child s) x ρ v = SoundAs l s (nodeAt l t x) ρ v
 ChildSound l t (number p) x ρ v = Unit {0}
 
-abbrev pub levelUnder : Language → ℕ → Bool → ℕ → ℕ
-levelUnder source k isB v = levelBelow k isB v
-levelUnder target k isB v = 0
+abbrev pub levelUnder : Language → ℕ → ℕ → ℕ → ℕ
+levelUnder source k i v = levelBelow k i v
+levelUnder target k i v = 0
+
+-- which of record n's fields x is
+abbrev pub positionOf : List ℕ → ℕ → ℕ → ℕ
+positionOf t n x = positionIn (fieldsOf (recordAt t n)) x
 
 -- rule 8 of a record of kind k at level v
 abbrev pub NamesBelow : Language → ℕ → ℕ → Type 0
@@ -62,7 +68,7 @@ NamesBelow target k v = Unit {0}
 abbrev pub Apart : Field → Field → ℕ → ℕ → Type 0
 Apart unnamed g x y = Unit {0}
 Apart (child r) unnamed x y = Unit {0}
-Apart (child r) (child s) x y = eqb y x ≡ false
+Apart (child r) (child s) x y = eqb x y ≡ false
 Apart (child r) (number p) x y = Unit {0}
 Apart (number p) g x y = Unit {0}
 
@@ -76,11 +82,11 @@ pub record Ready (l : Language) (t : List ℕ) (n : ℕ) (f : Form) : Type 0 whe
   pub names : NamesBelow l (f .kind) (levelAt l t n)
   pub apart : Apart (fieldOf f 0) (fieldOf f 1) (childA t n) (childB t n)
   pub a : ChildSound l t (fieldOf f 0) (childA t n) (scopeBelow (f .kind) (markOf t n) (scopeAt l t n))
-      (levelUnder l (f .kind) (eqb (childB t n) (childA t n)) (levelAt l t n))
+      (levelUnder l (f .kind) (positionOf t n (childA t n)) (levelAt l t n))
   pub b : ChildSound l t (fieldOf f 1) (childB t n) (scopeBelow (f .kind) (markOf t n) (scopeAt l t n))
-      (levelUnder l (f .kind) (eqb (childB t n) (childB t n)) (levelAt l t n))
+      (levelUnder l (f .kind) (positionOf t n (childB t n)) (levelAt l t n))
   pub c : ChildSound l t (fieldOf f 2) (childC t n) (scopeBelow (f .kind) (markOf t n) (scopeAt l t n))
-      (levelUnder l (f .kind) (eqb (childB t n) (childC t n)) (levelAt l t n))
+      (levelUnder l (f .kind) (positionOf t n (childC t n)) (levelAt l t n))
 
 -- the record's own rules
 scope-used : (l : Language) (t : List ℕ) (n : ℕ) → scopeFault l t n ≡ false → kindOf t n ≡ 10
@@ -105,7 +111,7 @@ names-below source t a n p q = level-named t n (a .levels n p q)
 names-below target t a n p q = tt
 
 level-of-child : (l : Language) (t : List ℕ) → Accepted l t → (m n : ℕ) → IsParent l t m n
-    → levelAt l t n ≡ levelUnder l (kindOf t m) (eqb (childB t m) n) (levelAt l t m)
+    → levelAt l t n ≡ levelUnder l (kindOf t m) (positionOf t m n) (levelAt l t m)
 level-of-child source t a m n e = level-child t a m n e
 level-of-child target t a m n e = refl
 
@@ -113,7 +119,7 @@ level-of-child target t a m n e = refl
 are-apart : (g h : Field) (x y z : ℕ) → timesIn g x x + timesIn h y x + z ≡ 1 → Apart g h x y
 are-apart unnamed h x y z e = tt
 are-apart (child r) unnamed x y z e = tt
-are-apart (child r) (child s) x y z e = go (eqb y x) (omega (arith, same-yes x, e))
+are-apart (child r) (child s) x y z e = eqb-swap x y ∙ go (eqb y x) (omega (arith, same-yes x, e))
   where
     go : (b : Bool) → cond b 1 0 ≤ 0 → b ≡ false
     go true q = absurd (omega arith)
@@ -126,18 +132,19 @@ module _ (l : Language) (t : List ℕ) (a : Accepted l t) (n : ℕ) (p : 1 ≤ n
     (sound : (x : ℕ) → x < n → (s : Sort) → Stands l t x s → SoundAt l t x s) where
   child-sound : (g : Field) (x : ℕ) → FieldHolds l t n g x → timesIn g x x ≤ timesChildOf l t n x
       → ChildSound l t g x (scopeBelow (f .kind) (markOf t n) (scopeAt l t n))
-      (levelUnder l (f .kind) (eqb (childB t n) x) (levelAt l t n))
+      (levelUnder l (f .kind) (positionOf t n x) (levelAt l t n))
   child-sound unnamed x h w = tt
   child-sound (child s) x h w =
       let k = found-kind l (kindOf t n) f o in
       let e : IsParent l t n x = record { in-table = (p, q); has-child = omega (arith, same-yes x) } in
       subst₂ (SoundAs l s (nodeAt l t x))
       (scope-child l t a n x e ∙ ap (λ (j : ℕ). scopeBelow j (markOf t n) (scopeAt l t n)) k)
-      (level-of-child l t a n x e ∙ ap (λ (j : ℕ). levelUnder l j (eqb (childB t n) x) (levelAt l t n)) k)
+      (level-of-child l t a n x e ∙ ap (λ (j : ℕ). levelUnder l j (positionOf t n x) (levelAt l t n)) k)
       (sound x (h .1) s (stands l t x s (h .2)))
   child-sound (number g) x h w = tt
 
-  apart-here : (g : Field) → g ≡ fieldOf f 0 → FieldHolds l t n g (childA t n) → Apart g (fieldOf f 1) (childA t n) (childB t n)
+  apart-here : (g : Field) → g ≡ fieldOf f 0 → FieldHolds l t n g (childA t n)
+      → Apart g (fieldOf f 1) (childA t n) (childB t n)
   apart-here unnamed e h = tt
   apart-here (child s) e h =
       let x = childA t n in

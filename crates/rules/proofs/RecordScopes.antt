@@ -4,9 +4,9 @@ use mathlib.Core.Bool.{Bool, true, false, cond, _&&_, _||_}
 use mathlib.Core.List.{List}
 use mathlib.Core.Path.{_≡_, refl, sym, _∙_, fun-ext}
 use lib.Dec.{eqb}
-use Rattle.rules.specs.Records.{recordCount, kindOf, markOf, childB}
+use Rattle.rules.specs.Records.{fieldsOf, recordCount, kindOf, markOf, recordAt}
 use Rattle.rules.specs.Kinds.{Language, source, target}
-use Rattle.rules.specs.Checker.{inScope, levelBelow, levelOf}
+use Rattle.rules.specs.Checker.{inScope, levelBelow, positionIn, levelOf}
 use Rattle.rules.proofs.Sound.{Scope, startScope, adding}
 use Rattle.rules.proofs.Acceptance.{Accepted, passed-of}
 use Rattle.rules.proofs.ParentLaws.{IsParent}
@@ -42,5 +42,5 @@ module _ (l : Language) (t : List ℕ) (a : Accepted l t) where
   scope-last = fun-ext λ x. scopes.scope-last l t (passed-of l t a) x ∙ scopes.start-scope x
 
 pub level-child : (t : List ℕ) → Accepted source t → (m n : ℕ) → IsParent source t m n
-    → levelAt source t n ≡ levelBelow (kindOf t m) (eqb (childB t m) n) (levelAt source t m)
+    → levelAt source t n ≡ levelBelow (kindOf t m) (positionIn (fieldsOf (recordAt t m)) n) (levelAt source t m)
 level-child t a m n h = scopes.level-child t (passed-of source t a) m n h

@@ -5,9 +5,9 @@ use mathlib.Core.Path.{_≡_, refl, sym, ap, _∙_}
 use mathlib.Core.Bool.{Bool, true, false, cond, _||_}
 use mathlib.Core.List.{List}
 use lib.Dec.{eqb, eqb·suc-zero}
-use Rattle.rules.specs.Records.{recordCount, kindOf, childB}
+use Rattle.rules.specs.Records.{fieldsOf, recordCount, kindOf, recordAt}
 use Rattle.rules.specs.Kinds.{Language, source}
-use Rattle.rules.specs.Checker.{parentOf, isLetOf, inScope, levelBelow, levelOf}
+use Rattle.rules.specs.Checker.{parentOf, isLetOf, inScope, levelBelow, positionIn, levelOf}
 use Rattle.rules.specs.Origins.{copiesIn, copiesOf}
 use Rattle.rules.specs.declared.Search.{Search}
 use Rattle.rules.specs.declared.Search.the-variants as search
@@ -140,7 +140,7 @@ by-parent top up f g h search.Nothing = refl
 by-parent top up f g h (search.At m) = ap (up m) (h m)
 
 abbrev levelUp : List ℕ → ℕ → ℕ → ℕ → ℕ
-levelUp t n m k = levelBelow (kindOf t m) (eqb (childB t m) n) k
+levelUp t n m k = levelBelow (kindOf t m) (positionIn (fieldsOf (recordAt t m)) n) k
 
 level-climb : (t : List ℕ) (d n : ℕ) → levelOf t d n ≡ climb source t 0 (levelUp t) d n
 unfolding levelOf climb
@@ -157,7 +157,8 @@ copies-climb t (suc d) n = by-parent 1 (copiesUp t n) _ _ (copies-climb t d) (pa
 
 module _ (t : List ℕ) (keeps : Passed source t) where
   pub level-child : (m c : ℕ) → IsParent source t m c
-      → levelOf t (recordCount t) c ≡ levelBelow (kindOf t m) (eqb (childB t m) c) (levelOf t (recordCount t) m)
+      → levelOf t (recordCount t) c
+      ≡ levelBelow (kindOf t m) (positionIn (fieldsOf (recordAt t m)) c) (levelOf t (recordCount t) m)
   level-child m c h =
       level-climb t (recordCount t) c
       ∙ climb-child source t 0 (levelUp t) keeps m c h

@@ -1,13 +1,14 @@
 -- Each node of an accepted source table is sound by what its record hands on.
-use Prim.Native.Nat.{ℕ, zero, suc, _≤_, _<_}
+use Prim.Native.Nat.{ℕ, zero, suc, _+_, _≤_, _<_}
 use native.Mathlib.Omega.{arith}
-use mathlib.Core.Bool.{true, false, cond}
-use mathlib.Core.List.{List}
-use mathlib.Core.Path.{_≡_, refl}
+use mathlib.Core.Bool.{true, false}
+use mathlib.Core.List.{List, [], _∷_}
+use mathlib.Core.Path.{_≡_, refl, subst}
 use borrow.Author.Tests.{leb-true, eq-eqb}
 use lib.Dec.{leb, eqb}
-use Rattle.rules.specs.Records.{markOf, childA, childB}
+use Rattle.rules.specs.Records.{markOf, childA, childB, childC}
 use Rattle.rules.specs.Kinds.{source, Sort, between}
+use Rattle.rules.specs.Checker.{positionIn}
 use Rattle.rules.specs.Trees.{Term}
 use Rattle.rules.specs.Nodes.{operatorOf, asTerm, nodeAt}
 use Rattle.rules.proofs.Sound.{Scope, isPlainOperator, SoundTerm}
@@ -40,10 +41,13 @@ plain-operator m h =
     go (suc (suc (suc (suc (suc (suc (suc (suc m)))))))) p q = absurd (omega arith)
 
 -- A at the next level, B at the one after it
-two-terms : (x y : Term) (ρ : Scope) (v a b : ℕ) → suc (suc v) < 64 → eqb b a ≡ false
-    → SoundTerm x ρ (cond (eqb b a) (suc (suc v)) (suc v)) → SoundTerm y ρ (cond (eqb b b) (suc (suc v)) (suc v))
+two-terms : (x y : Term) (ρ : Scope) (v a b c : ℕ) → suc (suc v) < 64 → eqb a b ≡ false
+    → SoundTerm x ρ (v + 1 + positionIn (a ∷ b ∷ c ∷ []) a) → SoundTerm y ρ (v + 1 + positionIn (a ∷ b ∷ c ∷ []) b)
     → (suc (suc v) < 64) × SoundTerm x ρ (suc v) × SoundTerm y ρ (suc (suc v))
-two-terms x y ρ v a b h e p q = (h, rw e at p, rw (eq-eqb b b refl) at q)
+two-terms x y ρ v a b c h e p q =
+    let first : v + 1 + positionIn (a ∷ b ∷ c ∷ []) a ≡ suc v = rw (eq-eqb a a refl) (omega arith) in
+    let second : v + 1 + positionIn (a ∷ b ∷ c ∷ []) b ≡ suc (suc v) = rw (e, eq-eqb b b refl) (omega arith) in
+    (h, subst (SoundTerm x ρ) first p, subst (SoundTerm y ρ) second q)
 
 pub source-arm : (t : List ℕ) (n : ℕ) {s : Sort} {k : ℕ} → SourceKind s k → Ready source t n (formAt source k)
     → SoundAs source s (nodeAs source k t n) (scopeAt source t n) (levelAt source t n)
@@ -60,12 +64,12 @@ source-arm t n offset r = (r .names refl, r .a)
 source-arm t n blockLength r = (r .names refl, r .a)
 source-arm t n combined r =
     two-terms (asTerm (nodeAt source t (childA t n))) (asTerm (nodeAt source t (childB t n))) (scopeAt source t n)
-    (levelAt source t n) (childA t n) (childB t n) (r .names refl) (r .apart) (r .a) (r .b)
+    (levelAt source t n) (childA t n) (childB t n) (childC t n) (r .names refl) (r .apart) (r .a) (r .b)
 source-arm t n valid r = (r .names refl, r .a)
 source-arm t n initialised r = (r .names refl, r .a)
 source-arm t n compared r =
     two-terms (asTerm (nodeAt source t (childA t n))) (asTerm (nodeAt source t (childB t n))) (scopeAt source t n)
-    (levelAt source t n) (childA t n) (childB t n) (r .names refl) (r .apart) (r .a) (r .b)
+    (levelAt source t n) (childA t n) (childB t n) (childC t n) (r .names refl) (r .apart) (r .a) (r .b)
 source-arm t n negated r = (r .names refl, r .a)
 source-arm t n both r = (r .names refl, r .a, r .b)
 source-arm t n either r = (r .names refl, r .a, r .b)

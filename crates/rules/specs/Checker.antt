@@ -1,14 +1,14 @@
 -- "Turned away because of the input": the numbered rules as tests of a record, each giving the lowest.
 use Prim.Native.Nat.{ℕ, zero, suc, _+_, _/_, _%_}
 use mathlib.Core.Bool.{Bool, true, false, not, cond, _&&_, _||_}
-use mathlib.Core.List.{List, _∷_, foldl}
+use mathlib.Core.List.{List, [], _∷_, foldl}
 use mathlib.Core.Option.{Option, none, some}
 use lib.Dec.{ltb, leb, eqb}
 use lib.IntN.{ℤ, pos}
 use lib.ListN.{length}
 use lib.Signed.{leZ}
 use Rattle.rules.specs.Sizes.{inputLimit, temporaryCount, memoryLength, observationLength}
-use Rattle.rules.specs.Records.{Record, fieldsOf, recordCount, kindOf, markOf, childB, recordAt}
+use Rattle.rules.specs.Records.{Record, fieldsOf, recordCount, kindOf, markOf, recordAt}
 use Rattle.rules.specs.Kinds.{Language, source, target, Sort, statement, sortNumber, Field, unnamed, child}
 use Rattle.rules.specs.Kinds.{number, Literal, zeroLiteral, anyLiteral, statementLiteral, Form, formOf}
 use Rattle.rules.specs.Kinds.{beside, recordLimit}
@@ -139,7 +139,7 @@ scopeFault l t n =
           elim (eqb (kindOf t n) 47) [ true ↦ markInScope l t n | false ↦ false ]
     ]
 
--- the level of a child, A or B, of a term or predicate of kind k at level n
+-- the kinds of terms and predicates by how their children's levels go
 abbrev pub isUnary : ℕ → Bool
 isUnary k = (leb 21 k && leb k 23) || eqb k 30 || eqb k 31 || eqb k 33
 
@@ -149,16 +149,22 @@ isBinary k = eqb k 24 || eqb k 32
 abbrev pub isJoint : ℕ → Bool
 isJoint k = eqb k 34 || eqb k 35
 
--- "21–23, 30, 31: child at n+1 .. 24, 32: A at n+1; B at n+2 .. 33: child at n+1 .. 34: A at n; .. B at n", 35 too
-abbrev pub levelBelow : ℕ → Bool → ℕ → ℕ
-levelBelow k isB n = cond (isUnary k) (suc n) (cond (isBinary k) (cond isB (suc (suc n)) (suc n)) (cond (isJoint k) n 0))
+-- "21–23, 30, 31: child at n+1 .. 24, 32: A at n+1; B at n+2 .. 33: child at n+1 .. 34: A at n; .. B at n", 35 too:
+-- the level of child i, A being 0, of a term or predicate of kind k at level n
+abbrev pub levelBelow : ℕ → ℕ → ℕ → ℕ
+levelBelow k i n = cond (isUnary k) (suc n) (cond (isBinary k) (n + 1 + i) (cond (isJoint k) n 0))
+
+-- where a number first stands in a list
+abbrev pub positionIn : List ℕ → ℕ → ℕ
+positionIn [] x = 0
+positionIn (y ∷ ys) x = cond (eqb y x) 0 (suc (positionIn ys x))
 
 -- the level of record n
 unfoldable pub levelOf : List ℕ → ℕ → ℕ → ℕ
 levelOf t zero n = 0
 levelOf t (suc d) n =
     elim (parentOf source t n) [
-      | search.At m ↦ levelBelow (kindOf t m) (eqb (childB t m) n) (levelOf t d m)
+      | search.At m ↦ levelBelow (kindOf t m) (positionIn (fieldsOf (recordAt t m)) n) (levelOf t d m)
       | search.Nothing ↦ 0
     ]
 

@@ -1,12 +1,11 @@
 -- `checker::descent::pass_level` meets its contract. Assumes nothing.
 use borrow.Author.Needs.{needs}
 use Prim.Native.Nat.{ℕ}
-use mathlib.Core.List.{List}
+use mathlib.Core.List.{List, [], _∷_}
 use mathlib.Core.Path.{_≡_, sym, subst, _∙_}
-use lib.Dec.{eqb}
-use Rattle.rules.specs.Records.{kindOf, childA, childB, childC}
+use Rattle.rules.specs.Records.{fieldsOf, kindOf, childA, childB, childC, recordAt}
 use Rattle.rules.specs.Kinds.{source}
-use Rattle.rules.specs.Checker.{levelBelow}
+use Rattle.rules.specs.Checker.{levelBelow, positionIn}
 use Rattle.forms.specs.Codes.{Coded}
 use Rattle.checker.specs.Searches.{putThree}
 use Rattle.checker.specs.Scopes.{Given}
@@ -26,14 +25,14 @@ child-b-requires c κs = search needs
 child-c-requires : tie.Need-child-c-requires
 child-c-requires c κs = search needs
 
-level-below-requires : tie.Need-level-below-requires
-level-below-requires c κs = search needs
+child-level-requires : tie.Need-child-level-requires
+child-level-requires c κs = search needs
 
-level-below-requires-2 : tie.Need-level-below-requires-2
-level-below-requires-2 c κs = search needs
+child-level-requires-2 : tie.Need-child-level-requires-2
+child-level-requires-2 c κs = search needs
 
-level-below-requires-3 : tie.Need-level-below-requires-3
-level-below-requires-3 c κs = search needs
+child-level-requires-3 : tie.Need-child-level-requires-3
+child-level-requires-3 c κs = search needs
 
 form-of-requires : tie.Need-form-of-requires
 form-of-requires c κs = search needs
@@ -51,21 +50,22 @@ returns c =
     let ea = c .before .before .before .before .before .before .before .before .child-a .ensures in
     let eb = c .before .before .before .before .before .before .before .child-b .ensures in
     let ec = c .before .before .before .before .before .before .child-c .ensures in
-    let u = c .before .before .before .before .before .level-below .result in
-    let v = c .before .before .before .before .level-below2 .result in
-    let w = c .before .before .before .level-below3 .result in
-    let f : ℕ → ℕ = λ j. levelBelow (kindOf t (a .n)) (eqb (childB t (a .n)) j) (a .level) in
+    let u = c .before .before .before .before .before .child-level .result in
+    let v = c .before .before .before .before .child-level2 .result in
+    let w = c .before .before .before .child-level3 .result in
+    let f : ℕ → ℕ = λ j. levelBelow (kindOf t (a .n)) (positionIn (fieldsOf (recordAt t (a .n))) j) (a .level) in
     let k : Coded source (kindOf t (a .n)) x = subst (λ (k : ℕ). Coded source k x) kind (c .before .form-of .ensures) in
     let put : c .put-children .last .0
     ≡ putThree x (childA t (a .n)) (childB t (a .n)) (childC t (a .n)) u v w (a .notes .now) =
     c .put-children .ensures ∙ (λ i. putThree x (ea i) (eb i) (ec i) u v w (a .notes .now)) in
     subst (λ (m : List ℕ). Given source t (a .n) f (a .notes .now) m) (sym put)
     (given-three source t (a .n) x k u v w f (a .notes .now) (s .pre .1)
-    (c .before .before .before .before .before .level-below .ensures
-    ∙ (λ i. levelBelow (kind i) (eqb (eb i) (ea i)) (a .level)))
-    (c .before .before .before .before .level-below2 .ensures
-    ∙ (λ i. levelBelow (kind i) (eqb (eb i) (eb i)) (a .level)))
-    (c .before .before .before .level-below3 .ensures ∙ (λ i. levelBelow (kind i) (eqb (eb i) (ec i)) (a .level))))
+    (c .before .before .before .before .before .child-level .ensures
+    ∙ (λ i. levelBelow (kind i) (positionIn (ea i ∷ eb i ∷ ec i ∷ []) (ea i)) (a .level)))
+    (c .before .before .before .before .child-level2 .ensures
+    ∙ (λ i. levelBelow (kind i) (positionIn (ea i ∷ eb i ∷ ec i ∷ []) (eb i)) (a .level)))
+    (c .before .before .before .child-level3 .ensures
+    ∙ (λ i. levelBelow (kind i) (positionIn (ea i ∷ eb i ∷ ec i ∷ []) (ec i)) (a .level))))
 
 pub pass-level-spec : {M : Type 1} → statement M
 pass-level-spec =
@@ -75,9 +75,9 @@ pass-level-spec =
     child-a-requires
     child-b-requires
     child-c-requires
-    level-below-requires
-    level-below-requires-2
-    level-below-requires-3
+    child-level-requires
+    child-level-requires-2
+    child-level-requires-3
     form-of-requires
     put-children-requires
     returns)

@@ -8,9 +8,9 @@ use mathlib.Core.Path.{_≡_, refl, sym, ap, subst, _∙_}
 use lib.ListN.{length, getD, set, replicate, length-set, length-replicate, getD-replicate}
 use lib.Dec.{eqb}
 use lib.Seq.{getD-set-same}
-use Rattle.rules.specs.Records.{recordCount, kindOf, markOf, childB}
+use Rattle.rules.specs.Records.{fieldsOf, recordCount, kindOf, markOf, recordAt}
 use Rattle.rules.specs.Kinds.{source}
-use Rattle.rules.specs.Checker.{scopeFault, levelFault, recordFault, levelBelow, levelOf}
+use Rattle.rules.specs.Checker.{scopeFault, levelFault, recordFault, levelBelow, positionIn, levelOf}
 use Rattle.forms.specs.Codes.{languageOf}
 use Rattle.checker.specs.Scopes.{bit, outOfScope, tooDeep, Kept}
 use Rattle.rules.proofs.ParentLaws.{Passed, IsParent}
@@ -98,7 +98,7 @@ loop-again c =
     let ek = c .before .before .before .before .kind .ensures in (
       omega arith,
       known-down (Levelled t) source t passed (s .pre .few) (e .n)
-          (λ j. levelBelow (kindOf t (e .n)) (eqb (childB t (e .n)) j) level) (e .notes)
+          (λ j. levelBelow (kindOf t (e .n)) (positionIn (fieldsOf (recordAt t (e .n))) j) level) (e .notes)
           (c .pass-level .last .1 .1 .1 .0)
           taken (e .inv .0) (c .pass-level .ensures) (λ j p. levelled-child t passed (e .n) j level p here) (e .inv .1),
       lowest-down (levelFault t) (recordCount t) (e .n) (e .found) (c .before .before .lower .result)
