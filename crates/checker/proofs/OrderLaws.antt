@@ -13,8 +13,8 @@ use Rattle.rules.specs.declared.Checked.{Checked}
 use Rattle.rules.specs.declared.Checked.the-variants as checked
 use Rattle.rules.specs.Records.{recordCount}
 use Rattle.rules.specs.Kinds.{Language, source, target, recordLimit}
-use Rattle.rules.specs.Checker.{lowestRecord, lengthFault, countFault, recordFault, shapeFault, scopeFault}
-use Rattle.rules.specs.Checker.{levelFault, refuseAt, lastRule, check}
+use Rattle.rules.specs.Checker.{lowestRecord, lengthFault, countFault}
+use Rattle.rules.specs.Checker.{levelFault, refuseIf, refuseAt, _otherwise_, lastRule, check}
 use Rattle.forms.specs.Codes.{languageOf}
 use Rattle.checker.specs.Searches.{searchOf}
 use Rattle.checker.specs.Order.{orNext, fromScopes, fromShapes, fromRecords}
@@ -46,41 +46,11 @@ last-at b t (suc n) e s h = sym (ap (λ (x : Bool). lastRule (languageOf x) t) e
 
 -- ---- the whole
 abbrev inOrder : Bool → Bool → Checked → Checked
-inOrder p q r = elim p [ true ↦ checked.Refused 1 0 | false ↦ elim q [ true ↦ checked.Refused 2 0 | false ↦ r ] ]
+inOrder p q r = refuseIf 1 p otherwise refuseIf 2 q otherwise r
 
 check-as : (l : Language) (t : List ℕ) → check l t ≡ inOrder (lengthFault t) (countFault l t) (fromRecords l t)
 unfolding check fromRecords fromShapes fromScopes
-check-as l t = go (lengthFault t) (countFault l t) (lowestRecord t (λ n. ltb 0 (recordFault l t n)))
-    (lowestRecord t (shapeFault l t)) (lowestRecord t (scopeFault l t))
-  where
-    go : (p q : Bool) (s u v : Search)
-        → elim p as (λ x. Checked) [
-          | true ↦ checked.Refused 1 0
-          | false ↦
-              elim q as (λ x. Checked) [
-                | true ↦ checked.Refused 2 0
-                | false ↦
-                    elim s as (λ x. Checked) [
-                      | search.At n ↦ checked.Refused (recordFault l t n) n
-                      | search.Nothing ↦
-                          elim u as (λ x. Checked) [
-                            | search.At n ↦ checked.Refused 6 n
-                            | search.Nothing ↦
-                                elim v as (λ x. Checked) [
-                                  | search.At n ↦ checked.Refused 7 n
-                                  | search.Nothing ↦ lastRule l t
-                                ]
-                          ]
-                    ]
-              ]
-        ]
-        ≡ inOrder p q (orNext (recordFault l t) s (orNext (λ n. 6) u (orNext (λ n. 7) v (lastRule l t))))
-    go true q s u v = refl
-    go false true s u v = refl
-    go false false (search.At n) u v = refl
-    go false false search.Nothing (search.At n) v = refl
-    go false false search.Nothing search.Nothing (search.At n) = refl
-    go false false search.Nothing search.Nothing search.Nothing = refl
+check-as l t = refl
 
 pub check-empty : (l : Language) (t : List ℕ) → length t ≡ 0 → checked.Refused 1 0 ≡ check l t
 check-empty l t e =

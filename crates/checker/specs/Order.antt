@@ -3,16 +3,13 @@ use Prim.Native.Nat.{ℕ}
 use mathlib.Core.List.{List}
 use lib.Dec.{ltb}
 use Rattle.rules.specs.declared.Search.{Search}
-use Rattle.rules.specs.declared.Search.the-variants as search
 use Rattle.rules.specs.declared.Checked.{Checked}
-use Rattle.rules.specs.declared.Checked.the-variants as checked
 use Rattle.rules.specs.Kinds.{Language}
-use Rattle.rules.specs.Checker.{lowestRecord, recordFault, shapeFault, scopeFault, lastRule}
+use Rattle.rules.specs.Checker.{lowestRecord, recordFault, shapeFault, scopeFault, refuseBy, _otherwise_, lastRule}
 
 -- the record that breaks a rule, or what the rules after it say
 abbrev pub orNext : (ℕ → ℕ) → Search → Checked → Checked
-orNext rule (search.At n) next = checked.Refused (rule n) n
-orNext rule search.Nothing next = next
+orNext rule s next = refuseBy rule s otherwise next
 
 unfoldable pub fromScopes : Language → List ℕ → Checked
 fromScopes l t = orNext (λ n. 7) (lowestRecord t (scopeFault l t)) (lastRule l t)

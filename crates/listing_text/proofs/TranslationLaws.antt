@@ -17,7 +17,7 @@ use Rattle.rules.specs.Nodes.{sourceProgram}
 use Rattle.rules.specs.Emission.{statementTree, treeSize}
 use Rattle.rules.specs.Translation.{translate, translatedRecords, translation}
 use Rattle.rules.specs.Listing.{recordLines}
-use Rattle.rules.specs.Answers.{translatedInto}
+use Rattle.rules.specs.Answers.{translatedBy}
 use Rattle.rules.specs.declared.Answer.{Answer}
 use Rattle.rules.proofs.WordLaws.{length-put}
 use Rattle.rules.proofs.Sound.{startScope}
@@ -61,7 +61,7 @@ module _ (t : List ℕ) (a : check source t ≡ checked.Accepted) where
 
   -- what the translator hands back, in an output that is long enough
   module _ (o : List ℕ) (room : 57344 ≤ length o) (m : List ℕ) (r : Answer)
-      (e : r ≡ translatedInto (translation t) o .answer) (f : m ≡ translatedInto (translation t) o .out) where
+      (e : r ≡ translatedBy checked.Accepted t o .answer) (f : m ≡ translatedBy checked.Accepted t o .out) where
     size : length (translation t) ≡ 16 * length (translatedRecords t)
     size = table-length (translatedRecords t)
 
@@ -70,12 +70,12 @@ module _ (t : List ℕ) (a : check source t ≡ checked.Accepted) where
 
     pub record-count : r .«record» * 16 ≡ length (translation t)
     record-count =
-        let k : translatedInto (translation t) o .answer .«record» ≡ recordCount (translation t) =
-        rw (enough, translatedInto) in
+        let k : translatedBy checked.Accepted t o .answer .«record» ≡ recordCount (translation t) =
+        rw (enough, translatedBy) in
         omega (arith, ap (λ (x : Answer). x .«record») e, k, table-count (translatedRecords t), size)
 
     bytes-put : m ≡ put o 0 (translation t)
-    bytes-put = f ∙ rw (enough, translatedInto)
+    bytes-put = f ∙ rw (enough, translatedBy)
 
     pub inside : r .«record» * 16 ≤ length m
     inside =

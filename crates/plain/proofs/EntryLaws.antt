@@ -9,13 +9,14 @@ use lib.ListN.{length, drop}
 use Rattle.rules.specs.Words.{put}
 use Rattle.rules.specs.Records.{recordCount}
 use Rattle.rules.specs.Kinds.{source}
-use Rattle.rules.specs.Checker.{check, inputsFault, memoryFault}
+use Rattle.rules.specs.Checker.{refuseIf, _otherwise_, check, inputsFault, memoryFault}
 use Rattle.rules.specs.Nodes.{sourceStatement, sourceProgram}
 use Rattle.rules.specs.Memory.{Memory, countFree, startMemory}
 use Rattle.rules.specs.Flow.{ending}
 use Rattle.rules.specs.Plain.{run, startVariables}
 use Rattle.rules.specs.Layout.{memoryOf, memoryImage}
-use Rattle.rules.specs.Answers.{answer, inputsOf, plainOutcome, plainEnded, plainRefused, plainBy, PlainRun}
+use Rattle.rules.specs.Answers.{answer, inputsOf, plainOutcome, plainEnded, plainRefused}
+use Rattle.rules.specs.Answers.{plainAs, plainBy, PlainRun}
 use Rattle.rules.specs.declared.Answer.{Answer}
 use Rattle.rules.specs.declared.Checked.{Checked}
 use Rattle.rules.specs.declared.Checked.the-variants as checked
@@ -90,18 +91,8 @@ module _ (i : List ℕ) (e : inputsFault i ≡ false) (l : List ℕ) (s : l ≡ 
 -- ---- the rules 9 and 21
 module _ (t i : List ℕ) (f : ℕ) (m : List ℕ) where
   by-faults : (b c : Bool) → inputsFault i ≡ b → memoryFault m ≡ c
-      → plainBy checked.Accepted t i f m
-      ≡ (elim b [
-        | true ↦ plainRefused 9 0 m
-        | false ↦
-            elim c [ true ↦ plainRefused 21 0 m | false ↦ plainEnded (ending (plainOutcome t i f)) ]
-      ])
-  by-faults b c p q =
-      λ j. elim (p j) [
-        | true ↦ plainRefused 9 0 m
-        | false ↦
-            elim (q j) [ true ↦ plainRefused 21 0 m | false ↦ plainEnded (ending (plainOutcome t i f)) ]
-      ]
+      → plainBy checked.Accepted t i f m ≡ plainAs (refuseIf 9 b otherwise refuseIf 21 c) t i f m
+  by-faults b c p q = λ j. plainAs (refuseIf 9 (p j) otherwise refuseIf 21 (q j)) t i f m
 
   pub refuse-inputs : (r : Answer) → inputsFault i ≡ true → r ≡ answer 9 0 0 0
       → AnsweredBy (plainBy checked.Accepted t i f m) r m

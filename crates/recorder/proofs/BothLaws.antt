@@ -12,10 +12,10 @@ use lib.Seq.{take-at}
 use Rattle.rules.specs.Words.{put}
 use Rattle.rules.specs.Records.{recordCount}
 use Rattle.rules.specs.Kinds.{source, target}
-use Rattle.rules.specs.Checker.{check, inputsFault, memoryFault, observationFault}
+use Rattle.rules.specs.Checker.{refuseIf, _otherwise_, check, inputsFault, memoryFault, observationFault}
 use Rattle.rules.specs.Translation.{translation}
 use Rattle.rules.specs.Answers.{answer, checkedAnswer, checkSource, WatchedRun, runPlain, runWatched}
-use Rattle.rules.specs.Answers.{Translated, translatedBy, translateSource}
+use Rattle.rules.specs.Answers.{Translated, translatedAs, translatedBy, translateSource}
 use Rattle.rules.specs.Demand3.{Agreement}
 use Rattle.rules.specs.declared.Answer.{Answer}
 use Rattle.rules.specs.declared.Checked.{Checked}
@@ -23,7 +23,7 @@ use Rattle.rules.specs.declared.Checked.the-variants as checked
 use Rattle.rules.proofs.AcceptedPrograms.{accepted-program}
 use Rattle.rules.proofs.Claim.{demand-3}
 use Rattle.recorder.specs.declared.Both.{Both}
-use Rattle.recorder.specs.BothRuns.{Lent, lent, both, BothRuns, bothRefused, bothRan, bothTested, bothBy, runBoth}
+use Rattle.recorder.specs.BothRuns.{Lent, lent, both, BothRuns, bothRefused, bothRan, bothAs, bothBy, runBoth}
 use Rattle.recorder.specs.BothRuns.{Ready, plainShown, watchedShown, AnsweredBoth}
 
 -- a buffer of the right length is not refused, and one of another is
@@ -36,6 +36,11 @@ wrong-length l n d = ap not (ne-eqb (length l) n d)
 -- the runs that answers and buffers show agree
 abbrev Agreed : List ℕ → List ℕ → ℕ → BothRuns → Type 0
 Agreed t i f y = Agreement t i f (plainShown (y .plain) (y .buffers)) (watchedShown (y .watched) (y .buffers))
+
+-- an accepted table, by whether each test is to be refused
+abbrev bothTested : Bool → Bool → Bool → Bool → List ℕ → List ℕ → ℕ → Lent → BothRuns
+bothTested p q r s t i f x =
+    bothAs (refuseIf 9 p otherwise refuseIf 21 q otherwise refuseIf 22 r otherwise refuseIf 20 s) t i f x
 
 module _ (t i : List ℕ) (f : ℕ) (x : Lent) where
   -- what an accepted table comes to, by the tests of the inputs and the buffers
@@ -95,12 +100,7 @@ module _ (t i : List ℕ) (f : ℕ) (x : Lent) (h : Ready t i x) (a : Answer) (y
 
   -- with its test apart
   abbrev into : Bool → Translated
-  into b =
-      elim b as (λ z. Translated) [
-        | true ↦ record { answer = answer 20 0 0 0; out = x .out }
-        | false ↦
-            record { answer = answer 0 (recordCount (translation t)) 0 0; out = put (x .out) 0 (translation t) }
-      ]
+  into b = translatedAs (refuseIf 20 b) (translation t) (x .out)
 
   translated : (b : Bool) → tooShort ≡ b → translateSource t (x .out) ≡ into b
   translated b s = ap (λ (k : Checked). translatedBy k t (x .out)) (h .accepted) ∙ (λ j. into (s j))

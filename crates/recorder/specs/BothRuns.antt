@@ -1,14 +1,14 @@
 -- One table, inputs and fuel, checked, translated, and run both ways: what it answers, and what the lent buffers hold.
 use Prim.Native.Nat.{ℕ, _≤_}
-use mathlib.Core.Bool.{Bool, true, false, _||_}
+use mathlib.Core.Bool.{false, _||_}
 use mathlib.Core.List.{List}
 use mathlib.Core.Path.{_≡_}
-use lib.Dec.{ltb}
 use lib.ListN.{length}
 use Rattle.rules.specs.Sizes.{memoryLength, observationLength}
 use Rattle.rules.specs.Words.{put}
 use Rattle.rules.specs.Kinds.{source}
-use Rattle.rules.specs.Checker.{check, inputsFault, memoryFault, observationFault}
+use Rattle.rules.specs.Checker.{refuseIf, _otherwise_, check, inputsFault, outputFault, memoryFault}
+use Rattle.rules.specs.Checker.{observationFault}
 use Rattle.rules.specs.Translation.{translation}
 use Rattle.rules.specs.Answers.{answer, PlainRun, WatchedRun, runPlain, runWatched}
 use Rattle.rules.specs.Demand3.{Agreement}
@@ -52,19 +52,18 @@ bothRan t i f x =
       buffers = lent (put (x .out) 0 (translation t)) (p .memory) (w .memory) (w .observation);
     }
 
--- 9, 21 for either memory, 22 and 20 in this order, by whether each is to be refused
-abbrev pub bothTested : Bool → Bool → Bool → Bool → List ℕ → List ℕ → ℕ → Lent → BothRuns
-bothTested true q r s t i f x = bothRefused 9 0 x
-bothTested false true r s t i f x = bothRefused 21 0 x
-bothTested false false true s t i f x = bothRefused 22 0 x
-bothTested false false false true t i f x = bothRefused 20 0 x
-bothTested false false false false t i f x = bothRan t i f x
+abbrev pub bothAs : Checked → List ℕ → List ℕ → ℕ → Lent → BothRuns
+bothAs (checked.Refused k n) t i f x = bothRefused k n x
+bothAs checked.Accepted t i f x = bothRan t i f x
 
+-- 9, 21 for either memory, 22 and 20, in this order, where the checker refuses nothing
 abbrev pub bothBy : Checked → List ℕ → List ℕ → ℕ → Lent → BothRuns
-bothBy (checked.Refused k n) t i f x = bothRefused k n x
-bothBy checked.Accepted t i f x =
-    bothTested (inputsFault i) (memoryFault (x .memory) || memoryFault (x .second)) (observationFault (x .observation))
-    (ltb (length (x .out)) (length (translation t))) t i f x
+bothBy c t i f x =
+    bothAs
+    (c otherwise refuseIf 9 (inputsFault i) otherwise refuseIf 21 (memoryFault (x .memory) || memoryFault (x .second))
+    otherwise refuseIf 22 (observationFault (x .observation))
+    otherwise refuseIf 20 (outputFault (translation t) (x .out)))
+    t i f x
 
 abbrev pub runBoth : List ℕ → List ℕ → ℕ → Lent → BothRuns
 runBoth t i f x = bothBy (check source t) t i f x

@@ -10,7 +10,8 @@ use borrow.Author.Tests.{ltb-true, ltb-false, le-ltb}
 use Rattle.rules.specs.Records.{recordCount, kindOf, recordAt}
 use Rattle.rules.specs.Kinds.{Language, source, target, Form, formOf}
 use Rattle.rules.specs.Checker.{lengthFault, countFault, recordFault, shapeFault, scopeFault, levelFault}
-use Rattle.rules.specs.Checker.{lowestRecord, refuseAt, lastRule, check, fieldsFit, childrenFit, faultOf}
+use Rattle.rules.specs.Checker.{lowestRecord, refuseIf, refuseBy, refuseAt, _otherwise_, lastRule, check}
+use Rattle.rules.specs.Checker.{fieldsFit, childrenFit, faultOf}
 use Rattle.rules.specs.Answers.{refusals, checkedAnswer}
 use Rattle.rules.specs.declared.Search.{Search}
 use Rattle.rules.specs.declared.Search.the-variants as search
@@ -40,23 +41,7 @@ pub record Keeps (l : Language) (t : List ℕ) : Type 0 where
 -- the rules in their order
 abbrev inOrder : Bool → Bool → Search → (ℕ → ℕ) → Search → Search → Checked → Checked
 inOrder p q s f u v r =
-    elim p [
-      | true ↦ checked.Refused 1 0
-      | false ↦
-          elim q [
-            | true ↦ checked.Refused 2 0
-            | false ↦
-                elim s [
-                  | search.At n ↦ checked.Refused (f n) n
-                  | search.Nothing ↦
-                      elim u [
-                        | search.At n ↦ checked.Refused 6 n
-                        | search.Nothing ↦
-                            elim v [ search.At n ↦ checked.Refused 7 n | search.Nothing ↦ r ]
-                      ]
-                ]
-          ]
-    ]
+    refuseIf 1 p otherwise refuseIf 2 q otherwise refuseBy f s otherwise refuseAt 6 u otherwise refuseAt 7 v otherwise r
 
 abbrev recordSearch : Language → List ℕ → Search
 recordSearch l t = lowestRecord t (λ n. ltb 0 (recordFault l t n))

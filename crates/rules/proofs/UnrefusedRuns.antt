@@ -9,11 +9,11 @@ use lib.Dec.{eqb}
 use lib.ListN.{length}
 use Rattle.rules.specs.Sizes.{memoryLength, observationLength}
 use Rattle.rules.specs.Kinds.{source, target}
-use Rattle.rules.specs.Checker.{check, inputsFault, memoryFault, observationFault}
+use Rattle.rules.specs.Checker.{refuseIf, _otherwise_, check, inputsFault, memoryFault, observationFault}
 use Rattle.rules.specs.Flow.{ending}
-use Rattle.rules.specs.Answers.{refusals}
-use Rattle.rules.specs.Answers.{PlainRun, WatchedRun, plainOutcome, plainRefused, plainEnded, plainBy, runPlain}
-use Rattle.rules.specs.Answers.{watchedOutcome, watchedRefused, watchedEnded, watchedBy, runWatched}
+use Rattle.rules.specs.Answers.{refusals, PlainRun, WatchedRun, plainOutcome, plainRefused, plainEnded, plainAs}
+use Rattle.rules.specs.Answers.{plainBy, runPlain, watchedOutcome, watchedRefused, watchedEnded, watchedAs}
+use Rattle.rules.specs.Answers.{watchedBy, runWatched}
 use Rattle.rules.specs.declared.Checked.{Checked}
 use Rattle.rules.specs.declared.Checked.the-variants as checked
 use Rattle.rules.proofs.Among.{Among}
@@ -28,34 +28,17 @@ pub plain-runs : (t i : List ℕ) (f : ℕ) (memory : List ℕ) → check source
     → length memory ≡ memoryLength → runPlain t i f memory ≡ plainEnded (ending (plainOutcome t i f))
 plain-runs t i f memory c e h =
     ap (λ x. plainBy x t i f memory) c
-    ∙ (λ k.
-    elim (e k) as (λ q. PlainRun) [
-      | true ↦ plainRefused 9 0 memory
-      | false ↦
-          elim (right-length memory memoryLength h k) as (λ q. PlainRun) [
-            | true ↦ plainRefused 21 0 memory
-            | false ↦ plainEnded (ending (plainOutcome t i f))
-          ]
-    ])
+    ∙ (λ k. plainAs (refuseIf 9 (e k) otherwise refuseIf 21 (right-length memory memoryLength h k)) t i f memory)
 
 pub watched-runs : (t i : List ℕ) (f : ℕ) (memory observation : List ℕ) → check target t ≡ checked.Accepted
     → inputsFault i ≡ false → length memory ≡ memoryLength → length observation ≡ observationLength
     → runWatched t i f memory observation ≡ watchedEnded (ending (watchedOutcome t i f))
 watched-runs t i f memory observation c e h k =
     ap (λ x. watchedBy x t i f memory observation) c
-    ∙ (λ j.
-    elim (e j) as (λ q. WatchedRun) [
-      | true ↦ watchedRefused 9 0 memory observation
-      | false ↦
-          elim (right-length memory memoryLength h j) as (λ q. WatchedRun) [
-            | true ↦ watchedRefused 21 0 memory observation
-            | false ↦
-                elim (right-length observation observationLength k j) as (λ q. WatchedRun) [
-                  | true ↦ watchedRefused 22 0 memory observation
-                  | false ↦ watchedEnded (ending (watchedOutcome t i f))
-                ]
-          ]
-    ])
+    ∙ (λ j. watchedAs
+    (refuseIf 9 (e j) otherwise refuseIf 21 (right-length memory memoryLength h j)
+    otherwise refuseIf 22 (right-length observation observationLength k j))
+    t i f memory observation)
 
 -- "Numbers 1–22 return the number and record (0 where none) and write no lent byte."
 pub data PlainAnswered (t i : List ℕ) (f : ℕ) (memory : List ℕ) : PlainRun → Type 0 where
@@ -66,12 +49,7 @@ pub plain-answered : (t i : List ℕ) (f : ℕ) (memory : List ℕ) → PlainAns
 plain-answered t i f memory = by-check (check source t) (check-numbered source t)
   where
     by-tests : (p q : Bool)
-        → PlainAnswered t i f memory
-        (elim p as (λ b. PlainRun) [
-          | true ↦ plainRefused 9 0 memory
-          | false ↦
-              elim q as (λ b. PlainRun) [ true ↦ plainRefused 21 0 memory | false ↦ plainEnded (ending (plainOutcome t i f)) ]
-        ])
+        → PlainAnswered t i f memory (plainAs (refuseIf 9 p otherwise refuseIf 21 q) t i f memory)
     by-tests true q = refused refl
     by-tests false true = refused refl
     by-tests false false = ran
@@ -91,18 +69,7 @@ watched-answered t i f memory observation = by-check (check target t) (check-num
   where
     by-tests : (p q r : Bool)
         → WatchedAnswered t i f memory observation
-        (elim p as (λ b. WatchedRun) [
-          | true ↦ watchedRefused 9 0 memory observation
-          | false ↦
-              elim q as (λ b. WatchedRun) [
-                | true ↦ watchedRefused 21 0 memory observation
-                | false ↦
-                    elim r as (λ b. WatchedRun) [
-                      | true ↦ watchedRefused 22 0 memory observation
-                      | false ↦ watchedEnded (ending (watchedOutcome t i f))
-                    ]
-              ]
-        ])
+        (watchedAs (refuseIf 9 p otherwise refuseIf 21 q otherwise refuseIf 22 r) t i f memory observation)
     by-tests true q r = refused refl
     by-tests false true r = refused refl
     by-tests false false true = refused refl

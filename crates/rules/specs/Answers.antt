@@ -1,14 +1,15 @@
 -- What each entry point answers: number, values and every lent buffer, of what went in.
 use Prim.Native.Nat.{ℕ, zero, suc, _/_}
-use mathlib.Core.Bool.{Bool, true, false, _||_}
+use mathlib.Core.Bool.{Bool, false, _||_}
 use mathlib.Core.List.{List, [], _∷_}
-use lib.Dec.{ltb, eqb}
+use lib.Dec.{eqb}
 use lib.IntN.{ℤ}
 use lib.ListN.{length, drop}
 use Rattle.rules.specs.Words.{put, integerAt}
 use Rattle.rules.specs.Records.{Record, recordCount}
 use Rattle.rules.specs.Kinds.{Language, source, target}
-use Rattle.rules.specs.Checker.{check, inputsFault, memoryFault, observationFault}
+use Rattle.rules.specs.Checker.{refuseIf, _otherwise_, check, inputsFault, outputFault, memoryFault}
+use Rattle.rules.specs.Checker.{observationFault}
 use Rattle.rules.specs.Nodes.{sourceProgram, targetProgram}
 use Rattle.rules.specs.Memory.{Memory, startMemory, countFree}
 use Rattle.rules.specs.Observation.{startObservation}
@@ -70,17 +71,16 @@ pub record Translated : Type 0 where
   pub answer : Answer
   pub out : List ℕ
 
--- "20 output shorter than the translation"; "A translation returns 0 and its record count; bytes past it stay."
-abbrev pub translatedInto : List ℕ → List ℕ → Translated
-translatedInto bytes out =
-    elim (ltb (length out) (length bytes)) [
-      | true ↦ record { answer = answer 20 0 0 0; out = out }
-      | false ↦ record { answer = answer 0 (recordCount bytes) 0 0; out = put out 0 bytes }
-    ]
+-- "A translation returns 0 and its record count; bytes past it stay."
+abbrev pub translatedAs : Checked → List ℕ → List ℕ → Translated
+translatedAs (checked.Refused k n) bytes out = record { answer = answer k n 0 0; out = out }
+translatedAs checked.Accepted bytes out = record { answer = answer 0 (recordCount bytes) 0 0; out = put out 0 bytes }
 
+-- 20 is tried where the checker of the table refuses nothing
 abbrev pub translatedBy : Checked → List ℕ → List ℕ → Translated
-translatedBy checked.Accepted t out = translatedInto (translation t) out
-translatedBy (checked.Refused k n) t out = record { answer = answer k n 0 0; out = out }
+translatedBy c t out =
+    let bytes = translation t in
+    translatedAs (c otherwise refuseIf 20 (outputFault bytes out)) bytes out
 
 abbrev pub translateSource : List ℕ → List ℕ → Translated
 translateSource t out = translatedBy (check source t) t out
@@ -112,14 +112,14 @@ plainOutcome t i f = run (sourceProgram t) startVariables (startMemory (inputsOf
 abbrev pub plainEnded : Ending Memory → PlainRun
 plainEnded e = record { answer = endingAnswer (λ m. m) e; memory = memoryImage (e .state) }
 
+abbrev pub plainAs : Checked → List ℕ → List ℕ → ℕ → List ℕ → PlainRun
+plainAs (checked.Refused k n) t i f memory = plainRefused k n memory
+plainAs checked.Accepted t i f memory = plainEnded (ending (plainOutcome t i f))
+
+-- 9 and 21, in this order, where the checker refuses nothing
 abbrev pub plainBy : Checked → List ℕ → List ℕ → ℕ → List ℕ → PlainRun
-plainBy (checked.Refused k n) t i f memory = plainRefused k n memory
-plainBy checked.Accepted t i f memory =
-    elim (inputsFault i) [
-      | true ↦ plainRefused 9 0 memory
-      | false ↦
-          elim (memoryFault memory) [ true ↦ plainRefused 21 0 memory | false ↦ plainEnded (ending (plainOutcome t i f)) ]
-    ]
+plainBy c t i f memory =
+    plainAs (c otherwise refuseIf 9 (inputsFault i) otherwise refuseIf 21 (memoryFault memory)) t i f memory
 
 abbrev pub runPlain : List ℕ → List ℕ → ℕ → List ℕ → PlainRun
 runPlain t i f memory = plainBy (check source t) t i f memory
@@ -146,22 +146,17 @@ watchedEnded e = record {
   observation = observationImage (e .state .observation);
 }
 
+abbrev pub watchedAs : Checked → List ℕ → List ℕ → ℕ → List ℕ → List ℕ → WatchedRun
+watchedAs (checked.Refused k n) t i f memory observation = watchedRefused k n memory observation
+watchedAs checked.Accepted t i f memory observation = watchedEnded (ending (watchedOutcome t i f))
+
+-- 9, 21 and 22
 abbrev pub watchedBy : Checked → List ℕ → List ℕ → ℕ → List ℕ → List ℕ → WatchedRun
-watchedBy (checked.Refused k n) t i f memory observation = watchedRefused k n memory observation
-watchedBy checked.Accepted t i f memory observation =
-    elim (inputsFault i) [
-      | true ↦ watchedRefused 9 0 memory observation
-      | false ↦
-          elim (memoryFault memory) [
-            | true ↦ watchedRefused 21 0 memory observation
-            | false ↦
-                elim (observationFault observation) [
-                  | true ↦ watchedRefused 22 0 memory observation
-                  | false ↦
-                      watchedEnded (ending (watchedOutcome t i f))
-                ]
-          ]
-    ]
+watchedBy c t i f memory observation =
+    watchedAs
+    (c otherwise refuseIf 9 (inputsFault i) otherwise refuseIf 21 (memoryFault memory)
+    otherwise refuseIf 22 (observationFault observation))
+    t i f memory observation
 
 abbrev pub runWatched : List ℕ → List ℕ → ℕ → List ℕ → List ℕ → WatchedRun
 runWatched t i f memory observation = watchedBy (check target t) t i f memory observation

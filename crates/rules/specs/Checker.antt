@@ -184,9 +184,23 @@ levelFault t n =
       | false ↦ false
     ]
 
+-- what a rule says: it refuses the whole, the record found, or nothing
+abbrev pub refuseIf : ℕ → Bool → Checked
+refuseIf rule true = checked.Refused rule 0
+refuseIf rule false = checked.Accepted
+
+abbrev pub refuseBy : (ℕ → ℕ) → Search → Checked
+refuseBy rule (search.At n) = checked.Refused (rule n) n
+refuseBy rule search.Nothing = checked.Accepted
+
 abbrev pub refuseAt : ℕ → Search → Checked
-refuseAt rule (search.At n) = checked.Refused rule n
-refuseAt rule search.Nothing = checked.Accepted
+refuseAt rule s = refuseBy (λ n. rule) s
+
+-- a rule is tried where the one before it refuses nothing
+infixr 20 _otherwise_
+abbrev pub _otherwise_ : Checked → Checked → Checked
+checked.Accepted otherwise c = c
+(checked.Refused k n) otherwise c = checked.Refused k n
 
 abbrev pub lastRule : Language → List ℕ → Checked
 lastRule source t = refuseAt 8 (lowestRecord t (levelFault t))
@@ -195,33 +209,21 @@ lastRule target t = checked.Accepted
 -- "Checked in this order; .. 3–5 are tried record by record."
 unfoldable pub check : Language → List ℕ → Checked
 check l t =
-    elim (lengthFault t) [
-      | true ↦ checked.Refused 1 0
-      | false ↦
-          elim (countFault l t) [
-            | true ↦ checked.Refused 2 0
-            | false ↦
-                elim (lowestRecord t (λ n. ltb 0 (recordFault l t n))) [
-                  | search.At n ↦ checked.Refused (recordFault l t n) n
-                  | search.Nothing ↦
-                      elim (lowestRecord t (shapeFault l t)) [
-                        | search.At n ↦ checked.Refused 6 n
-                        | search.Nothing ↦
-                            elim (lowestRecord t (scopeFault l t)) [
-                              | search.At n ↦ checked.Refused 7 n
-                              | search.Nothing ↦
-                                  lastRule l t
-                            ]
-                      ]
-                ]
-          ]
-    ]
+    refuseIf 1 (lengthFault t)
+    otherwise refuseIf 2 (countFault l t)
+    otherwise refuseBy (recordFault l t) (lowestRecord t (λ n. ltb 0 (recordFault l t n)))
+    otherwise refuseAt 6 (lowestRecord t (shapeFault l t))
+    otherwise refuseAt 7 (lowestRecord t (scopeFault l t))
+    otherwise lastRule l t
 
 -- "9 inputs no multiple of 8 bytes, none, or over 256"
 abbrev pub inputsFault : List ℕ → Bool
 inputsFault i = not (eqb (length i % 8) 0) || eqb (length i) 0 || ltb inputLimit (length i / 8)
 
--- "21 execution memory not 18,424 bytes; 22 observation memory not 3,064"
+-- "20 output shorter than the translation; 21 execution memory not 18,424 bytes; 22 observation memory not 3,064"
+abbrev pub outputFault : List ℕ → List ℕ → Bool
+outputFault bytes out = ltb (length out) (length bytes)
+
 abbrev pub memoryFault : List ℕ → Bool
 memoryFault m = not (eqb (length m) memoryLength)
 

@@ -10,13 +10,13 @@ use lib.Dec.{ltb}
 use lib.ListN.{length}
 use Rattle.rules.specs.Records.{recordCount, tableBytes}
 use Rattle.rules.specs.Kinds.{source, statement}
-use Rattle.rules.specs.Checker.{check}
+use Rattle.rules.specs.Checker.{refuseIf, check}
 use Rattle.rules.specs.declared.Checked.the-variants as checked
 use Rattle.rules.specs.Nodes.{nodeAt, sourceProgram}
 use Rattle.rules.specs.Trees.{Term, value, asked, combined, Statement}
 use Rattle.rules.specs.Trees.{Predicate, holds, compared, negated, both, either}
 use Rattle.rules.specs.Trees as tree
-use Rattle.rules.specs.Answers.{answer, Translated, translatedInto}
+use Rattle.rules.specs.Answers.{answer, Translated, translatedAs, translatedBy}
 use Rattle.rules.specs.Words.{put}
 use Rattle.rules.specs.Emission.{statementTree, treeSize, emit}
 use Rattle.rules.specs.Translation.{translate, translatedRecords, translation}
@@ -54,13 +54,9 @@ statement-levels (tree.while s e b) ρ h = (h .0 .1, statement-levels b ρ (h .2
 statement-levels (tree.letIn s x b) ρ h = (h .0 .1, statement-levels b (adding ρ x) (h .3))
 statement-levels (tree.assert s p) ρ h = (h .0 .1, predicate-levels p ρ 0 (h .1))
 
--- `translatedInto` with its test apart
+-- the translation with its test apart
 abbrev into : List ℕ → List ℕ → Bool → Translated
-into bytes o b =
-    elim b as (λ x. Translated) [
-      | true ↦ record { answer = answer 20 0 0 0; out = o }
-      | false ↦ record { answer = answer 0 (recordCount bytes) 0 0; out = put o 0 bytes }
-    ]
+into bytes o b = translatedAs (refuseIf 20 b) bytes o
 
 module _ (t : List ℕ) (a : check source t ≡ checked.Accepted) where
   program : AcceptedProgram source t
@@ -90,24 +86,24 @@ module _ (t : List ℕ) (a : check source t ≡ checked.Accepted) where
   translation-length = ap length accepted-bytes ∙ bytes-emit (copyAt t (recordCount t)) 0
 
   pub too-short : (o : List ℕ) → length o < 16 * treeSize (copyAt t (recordCount t))
-      → (answer 20 0 0 0 ≡ translatedInto (translation t) o .answer) × (o ≡ translatedInto (translation t) o .out)
+      → (answer 20 0 0 0 ≡ translatedBy checked.Accepted t o .answer) × (o ≡ translatedBy checked.Accepted t o .out)
   too-short o h =
       let l = translation-length in
       let e : ltb (length o) (length (translation t)) ≡ true = lt-ltb (length o) (length (translation t))
       (omega arith) in
-      let f : into (translation t) o true ≡ translatedInto (translation t) o = ap (into (translation t) o) (sym e) in
+      let f : into (translation t) o true ≡ translatedBy checked.Accepted t o = ap (into (translation t) o) (sym e) in
       (ap (λ (x : Translated). x .answer) f, ap (λ (x : Translated). x .out) f)
 
   pub long-enough : (o o′ : List ℕ) (r : ℕ) → 16 * treeSize (copyAt t (recordCount t)) ≤ length o
       → Emitted o 0 (copyAt t (recordCount t)) o′ r
-      → (answer 0 r 0 0 ≡ translatedInto (translation t) o .answer) × (o′ ≡ translatedInto (translation t) o .out)
+      → (answer 0 r 0 0 ≡ translatedBy checked.Accepted t o .answer) × (o′ ≡ translatedBy checked.Accepted t o .out)
   long-enough o o′ r h w =
       let l = translation-length in
       let c = w .count in
       let e : ltb (length o) (length (translation t)) ≡ false = le-ltb (length o) (length (translation t))
       (omega arith) in
       let k : r ≡ length (translation t) / 16 = omega arith in
-      let f : into (translation t) o false ≡ translatedInto (translation t) o = ap (into (translation t) o) (sym e) in (
+      let f : into (translation t) o false ≡ translatedBy checked.Accepted t o = ap (into (translation t) o) (sym e) in (
         ap (λ (j : ℕ). answer 0 j 0 0) k ∙ ap (λ (x : Translated). x .answer) f,
         w .bytes ∙ ap (put o 0) (sym accepted-bytes) ∙ ap (λ (x : Translated). x .out) f,
       )

@@ -7,7 +7,7 @@ ghost use Rattle.rules.specs.Translation.{translation};
 ghost use Rattle.rules.specs.Kinds.{source};
 ghost use Rattle.rules.specs.Records.{kindOf};
 ghost use Rattle.rules.specs.Checker.{check};
-ghost use Rattle.rules.specs.Answers.{translatedInto};
+ghost use Rattle.rules.specs.Answers.{translatedBy};
 ghost use Rattle.rules.specs.declared.Checked.the-variants as checked;
 ghost use Rattle.emission.specs.Emission.{Room, Emitted};
 ghost use Rattle.sizes.specs.Trees.{copyAt};
@@ -148,9 +148,9 @@ fn emit_inside(table: &[u8], n: usize, out: &mut [u8], at: usize, variable: u8) 
 // An accepted table's translation: 20 where the output does not hold it.
 pub fn translate_accepted(table: &[u8], out: &mut [u8]) -> Answer
     requires { ⌜ check source (now table) ≡ checked.Accepted ⌝ }
-    ensures answer { λ r. ⌜ r ≡ translatedInto (translation (now (table .entry))) (now (out .entry)) .answer ⌝ }
+    ensures answer { λ r. ⌜ r ≡ translatedBy checked.Accepted (now (table .entry)) (now (out .entry)) .answer ⌝ }
     ensures bytes { λ _. ⌜ now (out .exit)
-        ≡ translatedInto (translation (now (table .entry))) (now (out .entry)) .out ⌝ }
+        ≡ translatedBy checked.Accepted (now (table .entry)) (now (out .entry)) .out ⌝ }
 {
     let n = table.len() / 16;
     let size = sizes::tree_size(table, n);

@@ -12,7 +12,7 @@ use lib.ListN.{length, drop, replicate}
 use Rattle.rules.specs.Words.{wordAt, integerAt, put}
 use Rattle.rules.specs.Records.{recordCount}
 use Rattle.rules.specs.Kinds.{target}
-use Rattle.rules.specs.Checker.{check, inputsFault, memoryFault, observationFault}
+use Rattle.rules.specs.Checker.{refuseIf, _otherwise_, check, inputsFault, memoryFault, observationFault}
 use Rattle.rules.specs.Nodes.{targetStatement, targetProgram}
 use Rattle.rules.specs.TargetTrees.{TargetStatement}
 use Rattle.rules.specs.Memory.{Memory, countFree, startMemory}
@@ -22,7 +22,7 @@ use Rattle.rules.specs.Plain.{startVariables}
 use Rattle.rules.specs.Watched.{Temporaries, startTemporaries, WatchedState, watching, watch}
 use Rattle.rules.specs.Layout.{cellFrom, memoryOf, memoryImage, observationOf, observationImage}
 use Rattle.rules.specs.Answers.{answer, inputsOf, watchedOutcome, watchedEnded}
-use Rattle.rules.specs.Answers.{watchedRefused, watchedBy, WatchedRun}
+use Rattle.rules.specs.Answers.{watchedRefused, watchedAs, watchedBy, WatchedRun}
 use Rattle.rules.specs.declared.Answer.{Answer}
 use Rattle.rules.specs.declared.Checked.{Checked}
 use Rattle.rules.specs.declared.Checked.the-variants as checked
@@ -158,25 +158,9 @@ observation-whole o h = eqb-true (length o) 3064 (go (eqb (length o) 3064) h)
 module _ (t i : List ℕ) (f : ℕ) (m o : List ℕ) where
   by-faults : (b c d : Bool) → inputsFault i ≡ b → memoryFault m ≡ c → observationFault o ≡ d
       → watchedBy checked.Accepted t i f m o
-      ≡ (elim b [
-        | true ↦ watchedRefused 9 0 m o
-        | false ↦
-            elim c [
-              | true ↦ watchedRefused 21 0 m o
-              | false ↦
-                  elim d [ true ↦ watchedRefused 22 0 m o | false ↦ watchedEnded (ending (watchedOutcome t i f)) ]
-            ]
-      ])
+      ≡ watchedAs (refuseIf 9 b otherwise refuseIf 21 c otherwise refuseIf 22 d) t i f m o
   by-faults b c d p q r =
-      λ j. elim (p j) [
-        | true ↦ watchedRefused 9 0 m o
-        | false ↦
-            elim (q j) [
-              | true ↦ watchedRefused 21 0 m o
-              | false ↦
-                  elim (r j) [ true ↦ watchedRefused 22 0 m o | false ↦ watchedEnded (ending (watchedOutcome t i f)) ]
-            ]
-      ]
+      λ j. watchedAs (refuseIf 9 (p j) otherwise refuseIf 21 (q j) otherwise refuseIf 22 (r j)) t i f m o
 
   -- a refusal writes nothing
   refused-as : (k : ℕ) (r : Answer) → watchedBy checked.Accepted t i f m o ≡ watchedRefused k 0 m o
