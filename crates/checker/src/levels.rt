@@ -41,22 +41,6 @@ fn is_joint(kind: u8) -> bool
     kind == 35
 }
 
-fn level_below(kind: u8, position: u64, level: u64) -> u64
-    requires { ⌜ (level < 65535) × (position < 4) ⌝ }
-    ensures { λ r. ⌜ r ≡ levelBelow kind position level ⌝ }
-{
-    if is_unary(kind) {
-        return level + 1;
-    }
-    if is_binary(kind) {
-        return level + 1 + position;
-    }
-    if is_joint(kind) {
-        return level;
-    }
-    0
-}
-
 fn position_in(a: usize, b: usize, c: usize, x: usize) -> u64
     ensures { λ r. ⌜ (r ≡ positionIn (a ∷ b ∷ c ∷ []) x) × (r < 4) ⌝ }
 {
@@ -77,7 +61,16 @@ pub fn child_level(kind: u8, a: usize, b: usize, c: usize, x: usize, level: u64)
     requires { ⌜ level < 65535 ⌝ }
     ensures { λ r. ⌜ r ≡ levelBelow kind (positionIn (a ∷ b ∷ c ∷ []) x) level ⌝ }
 {
-    level_below(kind, position_in(a, b, c, x), level)
+    if is_unary(kind) {
+        return level + 1;
+    }
+    if is_binary(kind) {
+        return level + 1 + position_in(a, b, c, x);
+    }
+    if is_joint(kind) {
+        return level;
+    }
+    0
 }
 
 fn highest_named(kind: u8, level: u64) -> u64
