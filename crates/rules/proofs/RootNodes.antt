@@ -3,7 +3,7 @@ use Prim.Native.Nat.{ℕ, _+_, _≤_, _<_}
 use native.Mathlib.Omega.{arith}
 use mathlib.Core.Path.{_≡_, refl, sym, ap, _∙_}
 use mathlib.Core.Bool.{true}
-use mathlib.Core.List.{List}
+use mathlib.Core.List.{List, [], _∷_}
 use lib.IntN.{ℤ}
 use Rattle.rules.specs.Records.{recordCount, recordAt, tableBytes}
 use Rattle.rules.specs.Kinds.{Language, formOf}
@@ -42,9 +42,9 @@ module _ {l : Language} {t : List ℕ} (clean : FaultFree l t) where
       → Holds (recordAt t) (node k m z x a b c) n → n + treeSize (node k m z x a b c) ≤ recordCount t
       → IsNode l t a n A → IsNode l t b (n + treeSize a) B
       → nodeIn l (nodes l t (n + treeSize (node k m z x a b c))) (fieldC c x (n + treeSize a + treeSize b)) ≡ C
-      → nodesFit l (formOf l k) A B C ≡ true
+      → nodesFit l (formOf l k) (A ∷ B ∷ C ∷ []) ≡ true
       → IsNode l t (node k m z x a b c) n
-      (buildNode l (n + treeSize (node k m z x a b c)) (ownRecord k m z x a b c n) A B C)
+      (buildNode l (n + treeSize (node k m z x a b c)) (ownRecord k m z x a b c n) (A ∷ B ∷ C ∷ []))
   root-node k m z x a b c n A B C h s ea eb ec f =
       let j : ℕ = n + treeSize (node k m z x a b c) in
       built l t j (ownRecord k m z x a b c n) (h .3) (omega arith) s (clean .no-fault j (omega arith) s) A B C
@@ -54,8 +54,9 @@ module _ {l : Language} {t : List ℕ} (clean : FaultFree l t) where
   pub two-node : (k m : ℕ) (z : ℤ) (x : ℕ) (a b : RecordTree) (n : ℕ) {A B y : NodeOf l}
       → Holds (recordAt t) (node k m z x a b none) n → n + treeSize (node k m z x a b none) ≤ recordCount t
       → IsNode l t a n A → IsNode l t b (n + treeSize a) B
-      → ((C : NodeOf l) → nodesFit l (formOf l k) A B C ≡ true)
-      → ((C : NodeOf l) → buildNode l (n + treeSize (node k m z x a b none)) (ownRecord k m z x a b none n) A B C ≡ y)
+      → ((C : NodeOf l) → nodesFit l (formOf l k) (A ∷ B ∷ C ∷ []) ≡ true)
+      → ((C : NodeOf l) → buildNode l (n + treeSize (node k m z x a b none)) (ownRecord k m z x a b none n)
+      (A ∷ B ∷ C ∷ []) ≡ y)
       → IsNode l t (node k m z x a b none) n y
   two-node k m z x a b n {A} {B} h s ea eb f g =
       let C : NodeOf l = nodeIn l (nodes l t (n + treeSize (node k m z x a b none))) x in
@@ -63,9 +64,9 @@ module _ {l : Language} {t : List ℕ} (clean : FaultFree l t) where
 
   pub leaf-node : (k m : ℕ) (z : ℤ) (x n : ℕ) {y : NodeOf l}
       → Holds (recordAt t) (node k m z x none none none) n → n + 1 ≤ recordCount t
-      → ((C : NodeOf l) → nodesFit l (formOf l k) (junkNode l) (junkNode l) C ≡ true)
+      → ((C : NodeOf l) → nodesFit l (formOf l k) (junkNode l ∷ junkNode l ∷ C ∷ []) ≡ true)
       → ((C : NodeOf l)
-      → buildNode l (n + 1) (ownRecord k m z x none none none n) (junkNode l) (junkNode l) C ≡ y)
+      → buildNode l (n + 1) (ownRecord k m z x none none none n) (junkNode l ∷ junkNode l ∷ C ∷ []) ≡ y)
       → IsNode l t (node k m z x none none none) n y
   leaf-node k m z x n h s f g = two-node k m z x none none n h s (no-node l t n) (no-node l t (n + 0)) f g
 

@@ -3,7 +3,7 @@ use Prim.Native.Nat.{ℕ, suc, _≤_}
 use native.Mathlib.Omega.{arith}
 use mathlib.Core.Bool.{true, false, false≢true}
 use mathlib.Core.List.{List}
-use mathlib.Core.Path.{_≡_, _∙_}
+use mathlib.Core.Path.{_≡_, _∙_, subst}
 use Rattle.rules.specs.Records.{tableBytes}
 use Rattle.rules.specs.Kinds.{source}
 use Rattle.rules.specs.Checker.{levelFault, check}
@@ -51,8 +51,12 @@ term-levels (asked initialised u) ρ v h w = absurd (false≢true (w .0))
 term-levels (asked base u) ρ v h w = (λ p. h .0, term-levels u ρ (suc v) (h .1) (w .1), tt, tt)
 term-levels (asked offset u) ρ v h w = (λ p. h .0, term-levels u ρ (suc v) (h .1) (w .1), tt, tt)
 term-levels (asked blockLength u) ρ v h w = (λ p. h .0, term-levels u ρ (suc v) (h .1) (w .1), tt, tt)
-term-levels (combined o a b) ρ v h w =
-    (λ p. h .0, term-levels a ρ (suc v) (h .1) (w .1), term-levels b ρ (suc (suc v)) (h .2) (w .2), tt)
+term-levels (combined o a b) ρ v h w = (
+  λ p. h .0,
+  subst (Levels (termTree a)) (omega arith) (term-levels a ρ (suc v) (h .1) (w .1)),
+  subst (Levels (termTree b)) (omega arith) (term-levels b ρ (suc (suc v)) (h .2) (w .2)),
+  tt,
+)
 
 predicate-levels : (p : Predicate) (ρ : Scope) (v : ℕ) → SoundPredicate p ρ v → WritablePredicate p
     → Levels (predicateTree p) v
@@ -62,8 +66,12 @@ predicate-levels (holds initialised u) ρ v h w = (λ p. h .0, term-levels u ρ 
 predicate-levels (holds base u) ρ v h w = absurd (false≢true (w .0))
 predicate-levels (holds offset u) ρ v h w = absurd (false≢true (w .0))
 predicate-levels (holds blockLength u) ρ v h w = absurd (false≢true (w .0))
-predicate-levels (compared o a b) ρ v h w =
-    (λ p. h .0, term-levels a ρ (suc v) (h .1) (w .1), term-levels b ρ (suc (suc v)) (h .2) (w .2), tt)
+predicate-levels (compared o a b) ρ v h w = (
+  λ p. h .0,
+  subst (Levels (termTree a)) (omega arith) (term-levels a ρ (suc v) (h .1) (w .1)),
+  subst (Levels (termTree b)) (omega arith) (term-levels b ρ (suc (suc v)) (h .2) (w .2)),
+  tt,
+)
 predicate-levels (negated a) ρ v h w = (λ p. h .0, predicate-levels a ρ (suc v) (h .1) w, tt, tt)
 predicate-levels (both a b) ρ v h w =
     (λ p. h .0, predicate-levels a ρ v (h .1) (w .0), predicate-levels b ρ v (h .2) (w .1), tt)
