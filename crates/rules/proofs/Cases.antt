@@ -6,6 +6,7 @@ use mathlib.Core.List.{List, [], _∷_, _++_, map}
 use mathlib.Core.Path.{_≡_, refl, ap, _∙_}
 use lib.IntN.{pos}
 use lib.ListN.{getD-replicate}
+use Rattle.rules.specs.Sizes.{cellCount}
 use Rattle.rules.specs.Words.{little, digits, part, wordAt, flat}
 use Rattle.rules.specs.Records.{Record, tableBytes}
 use Rattle.rules.specs.Kinds.{source, lookUp, formOf}
@@ -71,14 +72,14 @@ start = startMemory (pos 7 ∷ pos 9 ∷ [])
 inLetFive : Memory
 inLetFive = withBlock start fixed 3 3 1
 
-free-at-start : (i : ℕ) → 3 ≤ i → i < 1024 → cellOf start i ≡ cell.Free
+free-at-start : (i : ℕ) → 3 ≤ i → i < cellCount → cellOf start i ≡ cell.Free
 unfolding start startMemory
 free-at-start zero h b = absurd (omega arith)
 free-at-start (suc zero) h b = absurd (omega arith)
 free-at-start (suc (suc zero)) h b = absurd (omega arith)
-free-at-start (suc (suc (suc i))) h b = getD-replicate 1021 i cell.Free cell.Free (omega arith)
+free-at-start (suc (suc (suc i))) h b = getD-replicate (cellCount - 3) i cell.Free cell.Free (omega arith)
 
-free-from-four : (i : ℕ) → 4 ≤ i → i < 1024 → isFree (cellOf inLetFive i) ≡ true
+free-from-four : (i : ℕ) → 4 ≤ i → i < cellCount → isFree (cellOf inLetFive i) ≡ true
 unfolding inLetFive
 free-from-four i h b =
     ap isFree (fill-above (start .cells) 3 1 (cell.Holds 3 value.Undefined) i cell.Free h

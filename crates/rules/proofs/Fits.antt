@@ -4,6 +4,7 @@ use mathlib.Core.Bool.{true}
 use mathlib.Core.Path.{_≡_}
 use lib.ListN.{length}
 use Rattle.rules.specs.Sizes.{nameCount, cellCount}
+use Rattle.rules.specs.Layout.{nameLimit}
 use Rattle.rules.specs.Numbers.{inRange}
 use Rattle.rules.specs.Memory.{Memory, recordedOf}
 use Rattle.rules.specs.Observation.{Observation}
@@ -20,9 +21,9 @@ use Rattle.rules.specs.declared.Cell.the-variants as cell
 use Rattle.rules.specs.declared.Temporary.{Temporary}
 use Rattle.rules.specs.declared.Temporary.the-variants as temporary
 
--- a name in one byte, a first cell or a length in two
+-- a name that a cell holds, a first cell or a length in two bytes
 abbrev pub FitsName : ℕ → Type 0
-FitsName k = k < 256
+FitsName k = k < nameLimit
 
 abbrev pub FitsPlaces : ℕ → ℕ → Type 0
 FitsPlaces first n = (first < 65536) × (n < 65536)

@@ -8,7 +8,7 @@ use lib.Dec.{ltb}
 use lib.IntN.{ℤ, pos, negsuc}
 use borrow.Author.Tests.{ltb-true}
 use lib.ListN.{length, set, replicate, length-append, length-map, length-replicate, length-set}
-use Rattle.rules.specs.Sizes.{nameCount, cellCount}
+use Rattle.rules.specs.Sizes.{nameCount, cellCount, inputLimit}
 use Rattle.rules.specs.Numbers.{inRange}
 use Rattle.rules.specs.Memory.{Memory, recordedOf, blockOf, locate, locatedIn, setCell}
 use Rattle.rules.specs.Memory.{isUnused, nextName, Use, fixed, freeable, blockFor, withBlock, withoutCells}
@@ -98,7 +98,8 @@ endBlock-inside m k h =
 abbrev pub InRange : ℤ → Type 0
 InRange z = inRange z ≡ true
 
-pub startMemory-fits : (inputs : List ℤ) → All InRange inputs → length inputs ≤ 256 → FitsMemory (startMemory inputs)
+pub startMemory-fits : (inputs : List ℤ) → All InRange inputs → length inputs ≤ inputLimit
+    → FitsMemory (startMemory inputs)
 unfolding startMemory
 startMemory-fits inputs h l = record {
   block-count = ap (λ (n : ℕ). suc (suc n)) (length-replicate (nameCount - 2) block.Unused);
@@ -124,7 +125,7 @@ startMemory-fits inputs h l = record {
           length-replicate (cellCount - 1 - length inputs) cell.Free,
         )
 
-pub startMemory-inside : (inputs : List ℤ) → All InRange inputs → length inputs ≤ 256
+pub startMemory-inside : (inputs : List ℤ) → All InRange inputs → length inputs ≤ inputLimit
     → InsideMemory (startMemory inputs)
 unfolding startMemory
 startMemory-inside inputs h l = record {

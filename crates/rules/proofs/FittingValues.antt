@@ -1,4 +1,4 @@
--- Evaluating on a memory that fits gives values that fit: integers and offsets in 64 bits, names below 256.
+-- Evaluating on a memory that fits gives values that fit: integers and offsets in 64 bits, names that a cell holds.
 use Prim.Native.Nat.{ℕ, _^_, _<_}
 use native.Mathlib.Omega.{arith}
 use mathlib.Core.Bool.{Bool, true}

@@ -34,7 +34,7 @@ use Rattle.rules.specs.declared.Cell.the-variants as cell
 use Rattle.rules.specs.declared.Temporary.{Temporary}
 use Rattle.rules.specs.declared.Temporary.the-variants as temporary
 
--- a name from 1 to 255 that was given
+-- a name that was given
 abbrev pub IsGiven : Memory → ℕ → Type 0
 IsGiven m k = (1 ≤ k) × (k ≤ nameCount) × (isUnused (blockOf m k) ≡ false)
 

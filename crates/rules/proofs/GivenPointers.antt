@@ -6,7 +6,7 @@ use mathlib.Core.Bool.{true, false, false≢true}
 use mathlib.Core.List.{List, [], _∷_, map}
 use lib.IntN.{ℤ, pos}
 use lib.ListN.{length}
-use Rattle.rules.specs.Sizes.{temporaryCount, inputLimit}
+use Rattle.rules.specs.Sizes.{cellCount, temporaryCount, inputLimit}
 use Rattle.rules.specs.Kinds.{source, target}
 use Rattle.rules.specs.Checker.{check, inputsFault}
 use Rattle.rules.specs.Nodes.{sourceProgram, targetProgram}
@@ -42,7 +42,7 @@ start-given is le = record {
   invariant = start-invariant is le;
   cells =
       also {x = cell.Holds 1 (value.Pointer (record { name = 2; offset = pos 0 }))} (omega arith, omega arith, refl)
-      (all-append (integers is) (all-replicate (1023 - length is) cell.Free tt));
+      (all-append (integers is) (all-replicate (cellCount - 1 - length is) cell.Free tt));
   temporaries = all-replicate temporaryCount temporary.Empty tt;
   variables = λ x e. first x e;
 }

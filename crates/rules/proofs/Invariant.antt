@@ -38,8 +38,8 @@ abbrev pub Owned : List Block → ℕ → Cell → Type 0
 Owned l i cell.Free = Unit {0}
 Owned l i (cell.Holds o v) = covers (recordedOf (named l o block.Dead)) i ≡ true
 
--- 255 names, given in rising order, and 1,024 cells; live blocks lie within the cells; a cell is occupied where one
--- live block covers it, whose name is its owner, and free where none does
+-- all the names, given in rising order, and all the cells; live blocks lie within the cells; a cell is occupied where
+-- one live block covers it, whose name is its owner, and free where none does
 pub record Invariant (m : Memory) : Type 0 where
   pub names : length (m .blocks) ≡ nameCount
   pub size : length (m .cells) ≡ cellCount

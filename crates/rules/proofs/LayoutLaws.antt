@@ -9,7 +9,7 @@ use lib.IntN.{ℤ, pos}
 use lib.ListN.{length, getD, length-append}
 use mir.Syntax.{w64}
 use mir.Val.{ofZ}
-use Rattle.rules.specs.Sizes.{nameCount, cellCount, memoryLength, observationLength}
+use Rattle.rules.specs.Sizes.{nameCount, cellCount, memoryLength, observationLength, blocksLength}
 use Rattle.rules.specs.Words.{digits, wordAt, integerAt, flat}
 use Rattle.rules.specs.Memory.{Memory, one}
 use Rattle.rules.specs.Observation.{Observation}
@@ -211,7 +211,8 @@ module _ (m : Memory) (fits : FitsMemory m) where
   image-cell i h =
       let front : List ℕ = flat blockBytes (m .blocks) in
       let l : i < length (m .cells) = omega (arith, fits .cell-count) in
-      let s : length front ≡ 2040 = records-length blockBytes (m .blocks) length-blockBytes (fits .block-count) in
+      let s : length front ≡ blocksLength =
+      records-length blockBytes (m .blocks) length-blockBytes (fits .block-count) in
       let e = append-nil (flat cellBytes (m .cells)) in
       let byte = row-byte cellBytes 16 length-cellBytes front (m .cells) [] i cell.Free l in
       let x = byte (cellPlace i) 0 (omega arith) (omega arith) in
@@ -241,7 +242,7 @@ module _ (o : Observation) (fits : FitsObservation o) where
   image-mark-byte i h =
       let front : List ℕ = flat recordedBytes (o .blocks) in
       let l : i < length (o .marks) = omega (arith, fits .mark-count) in
-      let s : length front ≡ 2040 =
+      let s : length front ≡ blocksLength =
       records-length recordedBytes (o .blocks) length-recordedBytes (fits .record-count) in
       let e = append-nil (flat markBytes (o .marks)) in
       let x = row-byte markBytes 1 length-markBytes front (o .marks) [] i false l

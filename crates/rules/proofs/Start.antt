@@ -44,7 +44,7 @@ input-free (z ∷ is) r (suc i) h = input-free is r i (omega arith)
 
 start-names : (is : List ℤ) → length (startMemory is .blocks) ≡ nameCount
 unfolding startMemory
-start-names is = ap (λ n. suc (suc n)) (length-replicate 253 block.Unused)
+start-names is = ap (λ n. suc (suc n)) (length-replicate (nameCount - 2) block.Unused)
 
 start-size : (is : List ℤ) → length is ≤ inputLimit → length (startMemory is .cells) ≡ cellCount
 unfolding startMemory
@@ -56,11 +56,11 @@ unfolding startMemory
 start-within is h zero a n e = absurd (dead-is-not-live a n e)
 start-within is h (suc zero) a n e = omega (arith, live-parts 0 1 a n e)
 start-within is h (suc (suc zero)) a n e = omega (arith, live-parts 1 (length is) a n e)
-start-within is h (suc (suc (suc k))) a n e = absurd (unused-is-not-live 253 k a n e)
+start-within is h (suc (suc (suc k))) a n e = absurd (unused-is-not-live (nameCount - 2) k a n e)
 
 start-cover : (is : List ℤ) (i : ℕ) → coverage (recordsOf (startMemory is)) i ≡ occupied (cellOf (startMemory is) i)
 unfolding startMemory
-start-cover is zero = omega (arith, unused-coverage 253 0)
+start-cover is zero = omega (arith, unused-coverage (nameCount - 2) 0)
 start-cover is (suc i) =
     go (covers (recorded.Live 0 1) (suc i)) refl (covering 0 1 (suc i))
     (covers (recorded.Live 1 (length is)) (suc i)) refl (covering 1 (length is) (suc i))
@@ -69,8 +69,8 @@ start-cover is (suc i) =
         → (c : Bool) → covers (recorded.Live 1 (length is)) (suc i) ≡ c → Covering 1 (length is) (suc i) c
         → one (covers (recorded.Live 0 1) (suc i))
         + (one (covers (recorded.Live 1 (length is)) (suc i))
-        + coverage (map recordedOf (replicate 253 block.Unused)) (suc i))
-        ≡ occupied (getD (inputCells is (1023 - length is)) i cell.Free)
+        + coverage (map recordedOf (replicate (nameCount - 2) block.Unused)) (suc i))
+        ≡ occupied (getD (inputCells is (cellCount - 1 - length is)) i cell.Free)
     go true e (inside p q) c g w = absurd (omega arith)
     go false e (below p) c g w = absurd (omega arith)
     go false e (above p) true g (inside u v) =
@@ -78,8 +78,8 @@ start-cover is (suc i) =
           arith,
           ap one e,
           ap one g,
-          unused-coverage 253 (suc i),
-          input-occupied is (1023 - length is) i (omega arith),
+          unused-coverage (nameCount - 2) (suc i),
+          input-occupied is (cellCount - 1 - length is) i (omega arith),
         )
     go false e (above p) false g (below u) = absurd (omega arith)
     go false e (above p) false g (above u) =
@@ -87,8 +87,8 @@ start-cover is (suc i) =
           arith,
           ap one e,
           ap one g,
-          unused-coverage 253 (suc i),
-          input-free is (1023 - length is) i (omega arith),
+          unused-coverage (nameCount - 2) (suc i),
+          input-free is (cellCount - 1 - length is) i (omega arith),
         )
 
 unused-at : (r k : ℕ) → k < r → isUnused (getD (replicate r block.Unused) k block.Dead) ≡ true
@@ -102,7 +102,7 @@ start-rising is zero k a b c h = absurd (omega arith)
 start-rising is (suc zero) k a b c h = refl
 start-rising is (suc (suc zero)) k a b c h = refl
 start-rising is (suc (suc (suc j))) (suc (suc (suc k))) a b c h =
-    absurd (true≢false (sym (unused-at 253 k (omega arith)) ∙ h))
+    absurd (true≢false (sym (unused-at (nameCount - 2) k (omega arith)) ∙ h))
 start-rising is (suc (suc (suc j))) zero a b c h = absurd (omega arith)
 start-rising is (suc (suc (suc j))) (suc zero) a b c h = absurd (omega arith)
 start-rising is (suc (suc (suc j))) (suc (suc zero)) a b c h = absurd (omega arith)
@@ -120,7 +120,7 @@ start-owned : (is : List ℤ) (i : ℕ) → Owned (startMemory is .blocks) i (ce
 unfolding startMemory
 start-owned is zero = refl
 start-owned is (suc i) =
-    input-cell (Owned (startMemory is .blocks) (suc i)) tt is (1023 - length is) i
+    input-cell (Owned (startMemory is .blocks) (suc i)) tt is (cellCount - 1 - length is) i
     (λ p z. covers-inside 1 (length is) (suc i) (omega arith) (omega arith))
 
 pub start-invariant : (is : List ℤ) → length is ≤ inputLimit → Invariant (startMemory is)

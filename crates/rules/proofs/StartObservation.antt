@@ -7,7 +7,7 @@ use mathlib.Core.List.{List, [], _∷_, _++_, map}
 use lib.IntN.{ℤ}
 use lib.ListN.{length, set, replicate}
 use borrow.Author.Tests.{lt-ltb}
-use Rattle.rules.specs.Sizes.{cellCount, inputLimit}
+use Rattle.rules.specs.Sizes.{nameCount, cellCount, inputLimit}
 use Rattle.rules.specs.Checker.{lowest}
 use Rattle.rules.specs.Memory.{recordedOf, allFree, lowestRun, fill, startMemory}
 use Rattle.rules.specs.Evaluation.{isInitialised}
@@ -23,7 +23,10 @@ use Rattle.rules.specs.declared.Cell.the-variants as cell
 
 -- block 1 recorded and marked
 abbrev first : Observation
-first = record { blocks = recorded.Live 0 1 ∷ replicate 254 recorded.Unused; marks = true ∷ replicate 1023 false }
+first = record {
+  blocks = recorded.Live 0 1 ∷ replicate (nameCount - 1) recorded.Unused;
+  marks = true ∷ replicate (cellCount - 1) false;
+}
 
 first-is : markAll (recordBlock emptyObservation 1 1) 1 1 ≡ first
 unfolding lowest lowestRun allFree covered markAll
@@ -32,7 +35,7 @@ first-is = refl
 -- block 2 of n cells recorded
 abbrev second : ℕ → List Bool → Observation
 second n marks =
-    record { blocks = recorded.Live 0 1 ∷ recorded.Live 1 n ∷ replicate 253 recorded.Unused; marks = marks }
+    record { blocks = recorded.Live 0 1 ∷ recorded.Live 1 n ∷ replicate (nameCount - 2) recorded.Unused; marks = marks }
 
 unused-covered : (r i : ℕ) → covered (replicate r recorded.Unused) i ≡ false
 unfolding covered
@@ -48,8 +51,9 @@ free-after i h = go (covers (recorded.Live 0 1) i) refl (covering 0 1 i)
     go true e (inside p q) = absurd (omega arith)
     go false e (below p) = absurd (omega arith)
     go false e (above p) =
-        ap (λ (c : Bool). not (elim c [ true ↦ true | false ↦ covered (replicate 254 recorded.Unused) i ])) e
-        ∙ ap not (unused-covered 254 i)
+        ap (λ (c : Bool). not
+        (elim c [ true ↦ true | false ↦ covered (replicate (nameCount - 1) recorded.Unused) i ])) e
+        ∙ ap not (unused-covered (nameCount - 1) i)
 
 allFree-from : (p : ℕ → Bool) (s n : ℕ) → ((i : ℕ) → s ≤ i → p i ≡ true) → allFree p s n ≡ true
 unfolding allFree
@@ -80,10 +84,11 @@ fill-same (suc r) zero zero x = refl
 fill-same (suc r) zero (suc n) x = ap (λ l. x ∷ l) (fill-same r zero n x)
 fill-same (suc r) (suc s) n x = ap (λ l. x ∷ l) (fill-same r s n x)
 
-second-is : (n : ℕ) → suc n ≤ inputLimit → recordBlock first 2 (suc n) ≡ second (suc n) (true ∷ replicate 1023 false)
+second-is : (n : ℕ) → suc n ≤ inputLimit
+    → recordBlock first 2 (suc n) ≡ second (suc n) (true ∷ replicate (cellCount - 1) false)
 second-is n h =
     ap (λ r. kept first (storeAt first 2 (suc n) recorded.Unused r)) (second-run n h)
-    ∙ ap (λ l. second (suc n) (true ∷ l)) (fill-same 1023 0 (suc n) false)
+    ∙ ap (λ l. second (suc n) (true ∷ l)) (fill-same (cellCount - 1) 0 (suc n) false)
 
 -- the marks after j of block 2's cells are marked
 mark-next : (j r : ℕ) → set (replicate j true ++ replicate (suc r) false) j true
@@ -92,24 +97,24 @@ mark-next zero r = refl
 mark-next (suc j) r = ap (λ l. true ∷ l) (mark-next j r)
 
 marked : (n j : ℕ) → j ≤ n → n ≤ inputLimit
-    → markAll (second n (true ∷ replicate 1023 false)) 2 j
-    ≡ second n (true ∷ (replicate j true ++ replicate (1023 - j) false))
+    → markAll (second n (true ∷ replicate (cellCount - 1) false)) 2 j
+    ≡ second n (true ∷ (replicate j true ++ replicate (cellCount - 1 - j) false))
 unfolding markAll
 marked n zero h le = refl
 marked n (suc j) h le =
     ap (λ o. markCell o 2 j) (marked n j (omega arith) le)
     ∙ ap (λ b. kept o₁ (markAt o₁ (cond b (located.At (1 + j)) located.Outside))) (lt-ltb j n (omega arith))
-    ∙ ap (λ i. second n (set (true ∷ (replicate j true ++ replicate (1023 - j) false)) i true)) one-more
+    ∙ ap (λ i. second n (set (true ∷ (replicate j true ++ replicate (cellCount - 1 - j) false)) i true)) one-more
     ∙ ap (λ r. second n (true ∷ set (replicate j true ++ replicate r false) j true)) left
-    ∙ ap (λ l. second n (true ∷ l)) (mark-next j (1023 - suc j))
+    ∙ ap (λ l. second n (true ∷ l)) (mark-next j (cellCount - 1 - suc j))
   where
     o₁ : Observation
-    o₁ = second n (true ∷ (replicate j true ++ replicate (1023 - j) false))
+    o₁ = second n (true ∷ (replicate j true ++ replicate (cellCount - 1 - j) false))
 
     one-more : 1 + j ≡ suc j
     one-more = omega arith
 
-    left : 1023 - j ≡ suc (1023 - suc j)
+    left : cellCount - 1 - j ≡ suc (cellCount - 1 - suc j)
     left = omega arith
 
 map-replicate : {A B : Type 0} (g : A → B) (r : ℕ) (x : A) → map g (replicate r x) ≡ replicate r (g x)
@@ -123,15 +128,15 @@ input-marks (z ∷ is) r = ap (λ l. true ∷ l) (input-marks is r)
 
 mirror-start : (is : List ℤ)
     → mirror (startMemory is)
-    ≡ second (length is) (true ∷ (replicate (length is) true ++ replicate (1023 - length is) false))
+    ≡ second (length is) (true ∷ (replicate (length is) true ++ replicate (cellCount - 1 - length is) false))
 unfolding startMemory
 mirror-start is = λ i. record {
-  blocks = recorded.Live 0 1 ∷ recorded.Live 1 (length is) ∷ map-replicate recordedOf 253 block.Unused i;
-  marks = true ∷ input-marks is (1023 - length is) i;
+  blocks = recorded.Live 0 1 ∷ recorded.Live 1 (length is) ∷ map-replicate recordedOf (nameCount - 2) block.Unused i;
+  marks = true ∷ input-marks is (cellCount - 1 - length is) i;
 }
 
 start-of : (n : ℕ) → 1 ≤ n → n ≤ inputLimit
-    → startObservation n ≡ second n (true ∷ (replicate n true ++ replicate (1023 - n) false))
+    → startObservation n ≡ second n (true ∷ (replicate n true ++ replicate (cellCount - 1 - n) false))
 start-of zero h le = absurd (omega arith)
 start-of (suc n) h le =
     ap (λ o. markAll (recordBlock o 2 (suc n)) 2 (suc n)) first-is

@@ -5,7 +5,7 @@ use mathlib.Core.List.{List, [], _∷_, _++_}
 use lib.Dec.{eqb}
 use lib.IntN.{ℤ, pos}
 use lib.ListN.{getD}
-use Rattle.rules.specs.Sizes.{nameCount, cellCount}
+use Rattle.rules.specs.Sizes.{nameCount, cellCount, blocksLength}
 use Rattle.rules.specs.Words.{digits, wordAt, integerAt, integerBytes, table, flat}
 use Rattle.rules.specs.Memory.{Memory, one}
 use Rattle.rules.specs.Observation.{Observation}
@@ -32,6 +32,10 @@ blockBytes block.Dead = blockRecord 3 0 0
 -- "then 1,024 cells of 16 (kind ..; owner; pointed-to name; five zeros; integer or offset in 8)"
 abbrev pub cellRecord : ℕ → ℕ → ℕ → ℤ → List ℕ
 cellRecord kind owner name z = kind ∷ owner ∷ name ∷ 0 ∷ 0 ∷ 0 ∷ 0 ∷ 0 ∷ integerBytes z
+
+-- an owner and a pointed-to name have one byte each
+abbrev pub nameLimit : ℕ
+nameLimit = 256
 
 -- "0 free, 1 undefined, 2 integer, 3 pointer"; "a free cell is all zero, and so is any part that a cell's kind has no
 -- use for"
@@ -62,10 +66,10 @@ abbrev pub blockPlace : ℕ → ℕ
 blockPlace k = k * 8
 
 abbrev pub cellPlace : ℕ → ℕ
-cellPlace i = nameCount * 8 + i * 16
+cellPlace i = blocksLength + i * 16
 
 abbrev pub markPlace : ℕ → ℕ
-markPlace i = nameCount * 8 + i
+markPlace i = blocksLength + i
 
 -- what bytes stand for
 abbrev pub blockFrom : ℕ → ℕ → ℕ → Block

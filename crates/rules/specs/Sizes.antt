@@ -24,10 +24,14 @@ targetLimit = 4096
 abbrev pub inputLimit : ℕ
 inputLimit = 256
 
--- "255 block records of 8 bytes .., then 1,024 cells of 16": 18,424 bytes
-abbrev pub memoryLength : ℕ
-memoryLength = nameCount * 8 + cellCount * 16
+-- "255 block records of 8 bytes", in front of cells and marks: 2,040 bytes
+abbrev pub blocksLength : ℕ
+blocksLength = nameCount * 8
 
--- "255 block records .., then 1,024 marks of one byte": 3,064 bytes
+-- ".. then 1,024 cells of 16": 18,424 bytes
+abbrev pub memoryLength : ℕ
+memoryLength = blocksLength + cellCount * 16
+
+-- ".. then 1,024 marks of one byte": 3,064 bytes
 abbrev pub observationLength : ℕ
-observationLength = nameCount * 8 + cellCount
+observationLength = blocksLength + cellCount
