@@ -4,12 +4,13 @@ ghost use Rattle.rules.specs.Layout.{memoryOf};
 ghost use Rattle.statements.specs.Changing.{Does};
 use blocks::Making;
 use rules::Evaluated;
+use rules::ExecutionMemory;
 use rules::Found;
 use rules::Pointer;
 use rules::Value;
 
 // A place takes the pointer to a new block of n cells.
-fn store_new(mem: &mut [u8; 18424], p: Pointer, n: usize) -> u32
+fn store_new(mem: &mut ExecutionMemory, p: Pointer, n: usize) -> u32
     ensures { λ r. ⌜ Does (storeNew (memoryOf (now (mem .entry))) p (makeBlock (memoryOf (now (mem .entry)))
         freeable n)) r (now (mem .entry)) (now (mem .exit)) ⌝ }
 {
@@ -20,7 +21,7 @@ fn store_new(mem: &mut [u8; 18424], p: Pointer, n: usize) -> u32
 }
 
 // 45 where the size is below 1.
-fn new_of_size(mem: &mut [u8; 18424], p: Pointer, z: i64) -> u32
+fn new_of_size(mem: &mut ExecutionMemory, p: Pointer, z: i64) -> u32
     ensures { λ r. ⌜ Does (newOfSize (memoryOf (now (mem .entry))) p z) r (now (mem .entry)) (now (mem .exit)) ⌝ }
 {
     if z < 1 {
@@ -30,7 +31,7 @@ fn new_of_size(mem: &mut [u8; 18424], p: Pointer, z: i64) -> u32
 }
 
 // A place takes a new block.
-pub fn new_at(mem: &mut [u8; 18424], f: Found, e: Evaluated) -> u32
+pub fn new_at(mem: &mut ExecutionMemory, f: Found, e: Evaluated) -> u32
     ensures { λ r. ⌜ Does (allocated (memoryOf (now (mem .entry))) f e) r (now (mem .entry)) (now (mem .exit)) ⌝ }
 {
     match f {

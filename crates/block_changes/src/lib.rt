@@ -2,25 +2,28 @@
 ghost use mathlib.Core.Path.{_≡_};
 ghost use Prim.Native.Nat.{_+_, _*_, _<_};
 ghost use lib.ListN.{length};
+ghost use Rattle.rules.specs.Sizes.{nameCount, memoryLength};
 ghost use Rattle.rules.specs.Layout.{memoryOf, blockPlace, blockRecord, blockBytes};
 ghost use Rattle.rules.specs.Words.{put};
 ghost use Rattle.cells.specs.Changes.{Becomes, setBlock, BlockHeld};
 use rules::Block;
+use rules::ExecutionMemory;
+use rules::LAST_NAME;
 
-fn write_record(mem: &mut [u8; 18424], k: usize, state: u8, first: u16, n: u16)
-    requires { ⌜ k < 255 ⌝ }
+fn write_record(mem: &mut ExecutionMemory, k: usize, state: u8, first: u16, n: u16)
+    requires { ⌜ k < nameCount ⌝ }
     ensures bytes { λ _. ⌜ now (mem .exit) ≡ put (now (mem .entry)) (blockPlace k) (blockRecord state first n) ⌝ }
-    ensures length { λ _. ⌜ length (now (mem .entry)) ≡ 18424 ⌝ }
+    ensures length { λ _. ⌜ length (now (mem .entry)) ≡ memoryLength ⌝ }
 {
     let v = state as u64 + first as u64 * 65536 + n as u64 * 4294967296;
     words::write_word(&mut mem[..], k * 8, 8, v);
 }
 
-fn write_block(mem: &mut [u8; 18424], k: usize, b: Block)
-    requires { ⌜ k < 255 ⌝ }
+fn write_block(mem: &mut ExecutionMemory, k: usize, b: Block)
+    requires { ⌜ k < nameCount ⌝ }
     ensures bytes { λ _. ⌜ now (mem .exit) ≡ put (now (mem .entry)) (blockPlace k) (blockBytes b) ⌝ }
     ensures held { λ _. ⌜ BlockHeld b ⌝ }
-    ensures length { λ _. ⌜ length (now (mem .entry)) ≡ 18424 ⌝ }
+    ensures length { λ _. ⌜ length (now (mem .entry)) ≡ memoryLength ⌝ }
 {
     match b {
         Block::Unused => write_record(mem, k, 0, 0, 0),
@@ -31,11 +34,11 @@ fn write_block(mem: &mut [u8; 18424], k: usize, b: Block)
 }
 
 // The block of a name that has a record becomes b.
-pub fn put_block(mem: &mut [u8; 18424], name: u16, b: Block)
+pub fn put_block(mem: &mut ExecutionMemory, name: u16, b: Block)
     ensures { λ _. ⌜ Becomes (now (mem .entry)) (now (mem .exit)) (setBlock (memoryOf (now (mem .entry))) name b) ⌝ }
 {
     if 0 < name {
-        if name < 256 {
+        if name <= LAST_NAME {
             write_block(mem, name as usize - 1, b);
         }
     }

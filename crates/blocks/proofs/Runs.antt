@@ -9,6 +9,7 @@ use mathlib.Core.Logic.{_⊎_, inl, inr, ⊎-elim}
 use mathlib.Core.Bool.{Bool, true, false}
 use mathlib.Core.List.{List}
 use lib.Dec.{T}
+use Rattle.rules.specs.Sizes.{nameCount, cellCount}
 use Rattle.rules.specs.Checker.{lowest}
 use Rattle.rules.specs.Words.{table}
 use Rattle.rules.specs.Memory.{Memory, cellOf, isFree, isUnused, blockOf, allFree, lowestRun, freeRun, nextName, one}
@@ -95,27 +96,30 @@ lowest-within q (suc n) j = pick (q j) (lowest q (suc j) n) (lowest-within q n (
     pick true s h = (omega arith, omega arith)
     pick false s h = further s h
 
-pub name-bound : (m : Memory) (k : ℕ) → nextName m ≡ search.At k → (1 ≤ k) × (k < 256)
-name-bound m k e = subst (Within 1 255) e (lowest-within (λ (j : ℕ). isUnused (blockOf m j)) 255 1)
+pub name-bound : (m : Memory) (k : ℕ) → nextName m ≡ search.At k → k ≤ nameCount
+name-bound m k e =
+    let w : Within 1 nameCount (search.At k) =
+    subst (Within 1 nameCount) e (lowest-within (λ (j : ℕ). isUnused (blockOf m j)) nameCount 1) in
+    omega (arith, w .1)
 
-pub run-bound : (m : Memory) (n s : ℕ) → freeRun m n ≡ search.At s → s + n ≤ 1024
+pub run-bound : (m : Memory) (n s : ℕ) → freeRun m n ≡ search.At s → s + n ≤ cellCount
 unfolding lowestRun
 run-bound m n s e =
     let p : ℕ → Bool = λ (i : ℕ). isFree (cellOf m i) in
-    let w : Within 0 (1025 - n) (search.At s) =
-    subst (Within 0 (1025 - n)) e (lowest-within (λ (j : ℕ). allFree p j n) (1025 - n) 0) in
+    let w : Within 0 (suc cellCount - n) (search.At s) =
+    subst (Within 0 (suc cellCount - n)) e (lowest-within (λ (j : ℕ). allFree p j n) (suc cellCount - n) 0) in
     omega (arith, w .1)
 
 pub run-of-none : (m : Memory) → search.At 0 ≡ freeRun m 0
 unfolding lowestRun allFree
 run-of-none m =
-    sym (lowest-at (λ (j : ℕ). allFree (λ (i : ℕ). isFree (cellOf m i)) j 0) 1025 0 0
+    sym (lowest-at (λ (j : ℕ). allFree (λ (i : ℕ). isFree (cellOf m i)) j 0) (suc cellCount) 0 0
     (λ i a b. absurd (omega arith)) refl
     (omega arith) (omega arith))
 
 -- ---- the loop that looks for a run: of the places below i the last `run` pass, and no run of n starts before those
 pub record Scanned (p : ℕ → Bool) (n i run : ℕ) : Type 0 where
-  pub within : i ≤ 1024
+  pub within : i ≤ cellCount
   pub some : run ≤ i
   pub short : run < n
   pub passed : (j : ℕ) → i - run ≤ j → j < i → p j ≡ true
@@ -137,7 +141,7 @@ module _ (p : ℕ → Bool) (n : ℕ) where
       no′ : (j : ℕ) → j < 0 - 0 → ⊥
       no′ j b = omega arith
 
-  module _ (i run : ℕ) (s : Scanned p n i run) (h : i < 1024) where
+  module _ (i run : ℕ) (s : Scanned p n i run) (h : i < cellCount) where
     pub scan-free : p i ≡ true → (run + 1 ≡ n → ⊥) → Scanned p n (i + 1) (run + 1)
     scan-free t d = record {
       within = omega arith;
@@ -178,7 +182,7 @@ module _ (p : ℕ → Bool) (n : ℕ) where
     unfolding lowestRun
     scan-found t e =
         let m : i + 1 - n ≡ i - run = omega (arith, s .some) in
-        rw m (sym (lowest-at (λ (j : ℕ). allFree p j n) (1025 - n) 0 (i - run) (λ j a b. s .none j b)
+        rw m (sym (lowest-at (λ (j : ℕ). allFree p j n) (suc cellCount - n) 0 (i - run) (λ j a b. s .none j b)
         (all-free p n (i - run) (λ j a b. full j a b)) (omega arith) (omega (arith, s .some))))
       where
         last-of : (j : ℕ) → i - run ≤ j → j < i - run + n → (j ≡ i) ⊎ (j < i)
@@ -187,32 +191,32 @@ module _ (p : ℕ → Bool) (n : ℕ) where
         full : (j : ℕ) → i - run ≤ j → j < i - run + n → p j ≡ true
         full j a b = ⊎-elim (λ q. ap p q ∙ t) (λ l. s .passed j a l) (last-of j a b)
 
-  pub scan-none : (run : ℕ) → Scanned p n 1024 run → search.Nothing ≡ lowestRun p n
+  pub scan-none : (run : ℕ) → Scanned p n cellCount run → search.Nothing ≡ lowestRun p n
   unfolding lowestRun
-  scan-none run s = sym (lowest-none (λ (j : ℕ). allFree p j n) (1025 - n) 0 (λ j a b. s .none j (under j b)))
+  scan-none run s = sym (lowest-none (λ (j : ℕ). allFree p j n) (suc cellCount - n) 0 (λ j a b. s .none j (under j b)))
     where
-      under : (j : ℕ) → j < 0 + (1025 - n) → j < 1024 - run
+      under : (j : ℕ) → j < 0 + (suc cellCount - n) → j < cellCount - run
       under j b = omega (arith, s .some, s .short)
 
 -- ---- the count: of the cells from i on
 abbrev pub freeFrom : List ℕ → ℕ → ℕ
-freeFrom l i = countFree (table i (1024 - i) (cellAt l))
+freeFrom l i = countFree (table i (cellCount - i) (cellAt l))
 
 pub count-start : (l : List ℕ) → 0 + freeFrom l 0 ≡ countFree (memoryOf l .cells)
 unfolding memoryOf
 count-start l = zero-add (freeFrom l 0)
 
-pub count-end : (l : List ℕ) → freeFrom l 1024 ≡ 0
+pub count-end : (l : List ℕ) → freeFrom l cellCount ≡ 0
 unfolding countFree table
 count-end l = refl
 
-count-next : (l : List ℕ) (i : ℕ) → i < 1024 → freeFrom l i ≡ one (isFree (cellAt l i)) + freeFrom l (i + 1)
+count-next : (l : List ℕ) (i : ℕ) → i < cellCount → freeFrom l i ≡ one (isFree (cellAt l i)) + freeFrom l (i + 1)
 unfolding countFree table
 count-next l i h =
-    let k : 1024 - i ≡ suc (1024 - (i + 1)) = omega arith in
+    let k : cellCount - i ≡ suc (cellCount - (i + 1)) = omega arith in
     rw (k, add-one i) refl
 
-pub count-turn : (l : List ℕ) (i n n′ total : ℕ) (b : Bool) → i < 1024 → b ≡ isFree (cellOf (memoryOf l) i)
+pub count-turn : (l : List ℕ) (i n n′ total : ℕ) (b : Bool) → i < cellCount → b ≡ isFree (cellOf (memoryOf l) i)
     → n + freeFrom l i ≡ total → ((b ≡ true) × (n′ ≡ n + 1)) ⊎ ((b ≡ false) × (n′ ≡ n))
     → n′ + freeFrom l (i + 1) ≡ total
 count-turn l i n n′ total b h e f (inl w) =

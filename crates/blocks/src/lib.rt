@@ -1,13 +1,18 @@
 // New blocks of the execution memory, and the count of its free cells.
 ghost use mathlib.Core.Path.{_≡_};
-ghost use Prim.Native.Nat.{_+_, _*_, _<_};
+ghost use Prim.Native.Nat.{_+_, _*_, _<_, _≤_};
+ghost use Rattle.rules.specs.Sizes.{nameCount, cellCount};
 ghost use Rattle.rules.specs.Memory.{blockOf, cellOf, isFree, isUnused, freeRun, nextName, makeBlock, withBlock};
 ghost use Rattle.rules.specs.Memory.{blockFor, countFree};
-ghost use Rattle.rules.specs.Layout.{memoryOf};
+ghost use Rattle.rules.specs.Layout.{memoryOf, nameLimit};
 ghost use Rattle.cells.specs.Changes.{Becomes};
 ghost use Rattle.blocks.specs.Blocks.{makingOf, madeMemory, useOf};
+use rules::BLOCKS_LENGTH;
 use rules::Block;
+use rules::CELL_COUNT;
 use rules::Cell;
+use rules::ExecutionMemory;
+use rules::NAME_COUNT;
 use rules::Search;
 use rules::Value;
 
@@ -17,19 +22,19 @@ pub enum Making {
     Stopped(u32),
 }
 
-fn is_free(mem: &[u8; 18424], i: usize) -> bool
-    requires { ⌜ i < 1024 ⌝ }
+fn is_free(mem: &ExecutionMemory, i: usize) -> bool
+    requires { ⌜ i < cellCount ⌝ }
     ensures { λ r. ⌜ r ≡ isFree (cellOf (memoryOf (now (mem .entry))) i) ⌝ }
 {
-    mem[2040 + i * 16] == 0
+    mem[BLOCKS_LENGTH + i * 16] == 0
 }
 
-pub fn count_free(mem: &[u8; 18424]) -> u32
+pub fn count_free(mem: &ExecutionMemory) -> u32
     ensures { λ r. ⌜ r ≡ countFree (memoryOf (now (mem .entry)) .cells) ⌝ }
 {
     let mut n: u32 = 0;
     let mut i: usize = 0;
-    while i < 1024 {
+    while i < CELL_COUNT {
         if is_free(mem, i) {
             n += 1;
         }
@@ -38,19 +43,19 @@ pub fn count_free(mem: &[u8; 18424]) -> u32
     n
 }
 
-fn is_unused(mem: &[u8; 18424], name: usize) -> bool
-    requires { ⌜ (0 < name) × (name < 256) ⌝ }
+fn is_unused(mem: &ExecutionMemory, name: usize) -> bool
+    requires { ⌜ (0 < name) × (name ≤ nameCount) ⌝ }
     ensures { λ r. ⌜ r ≡ isUnused (blockOf (memoryOf (now (mem .entry))) name) ⌝ }
 {
     mem[(name - 1) * 8] == 0
 }
 
 // The lowest name that was never given.
-fn next_name(mem: &[u8; 18424]) -> Search
+fn next_name(mem: &ExecutionMemory) -> Search
     ensures { λ r. ⌜ r ≡ nextName (memoryOf (now (mem .entry))) ⌝ }
 {
     let mut k: usize = 1;
-    while k < 256 {
+    while k <= NAME_COUNT {
         if is_unused(mem, k) {
             return Search::At(k);
         }
@@ -60,13 +65,13 @@ fn next_name(mem: &[u8; 18424]) -> Search
 }
 
 // The lowest run of n free cells, n from 1 on.
-fn find_run(mem: &[u8; 18424], n: usize) -> Search
+fn find_run(mem: &ExecutionMemory, n: usize) -> Search
     requires { ⌜ 0 < n ⌝ }
     ensures { λ r. ⌜ r ≡ freeRun (memoryOf (now (mem .entry))) n ⌝ }
 {
     let mut run: usize = 0;
     let mut i: usize = 0;
-    while i < 1024 {
+    while i < CELL_COUNT {
         if is_free(mem, i) {
             run += 1;
             if run == n {
@@ -80,7 +85,7 @@ fn find_run(mem: &[u8; 18424], n: usize) -> Search
     Search::Nothing
 }
 
-fn free_run(mem: &[u8; 18424], n: usize) -> Search
+fn free_run(mem: &ExecutionMemory, n: usize) -> Search
     ensures { λ r. ⌜ r ≡ freeRun (memoryOf (now (mem .entry))) n ⌝ }
 {
     if n == 0 {
@@ -100,8 +105,8 @@ fn live(freeable: bool, first: u16, n: u16) -> Block
 }
 
 // Block k has the n cells from first on, undefined.
-fn place(mem: &mut [u8; 18424], freeable: bool, k: u16, first: u16, n: u16)
-    requires { ⌜ k < 256 ⌝ }
+fn place(mem: &mut ExecutionMemory, freeable: bool, k: u16, first: u16, n: u16)
+    requires { ⌜ k < nameLimit ⌝ }
     ensures { λ _. ⌜ Becomes (now (mem .entry)) (now (mem .exit))
         (withBlock (memoryOf (now (mem .entry))) (useOf freeable) k first n) ⌝ }
 {
@@ -110,7 +115,7 @@ fn place(mem: &mut [u8; 18424], freeable: bool, k: u16, first: u16, n: u16)
 }
 
 // A new block of n cells: 31 where all names are given, then 30 where no run of free cells is long enough.
-pub fn make(mem: &mut [u8; 18424], freeable: bool, n: usize) -> Making
+pub fn make(mem: &mut ExecutionMemory, freeable: bool, n: usize) -> Making
     ensures answer { λ r. ⌜ r ≡ makingOf (makeBlock (memoryOf (now (mem .entry))) (useOf freeable) n) ⌝ }
     ensures memory { λ _. ⌜ Becomes (now (mem .entry)) (now (mem .exit))
         (madeMemory (memoryOf (now (mem .entry))) (makeBlock (memoryOf (now (mem .entry))) (useOf freeable) n)) ⌝ }

@@ -1,5 +1,5 @@
 -- The entry: copies, and the rules 9 and 21.
-use Prim.Native.Nat.{ℕ, _+_, _/_, _%_, _≤_}
+use Prim.Native.Nat.{ℕ, _+_, _*_, _/_, _%_, _≤_}
 use native.Mathlib.Omega.{arith}
 use mathlib.Core.Bool.{Bool, true, false, not, _||_, false≢true}
 use mathlib.Core.List.{List, _++_, append-nil}
@@ -9,6 +9,7 @@ use borrow.Author.Tests.{eq-eqb, ne-eqb, eqb-true, ltb-false}
 use lib.Dec.{eqb, ltb}
 use lib.ListN.{length, drop}
 use lib.Seq.{paste, drop-length, take-length}
+use Rattle.rules.specs.Sizes.{inputLimit, memoryLength}
 use Rattle.rules.specs.Words.{put}
 use Rattle.rules.specs.Checker.{inputsFault, memoryFault}
 
@@ -23,37 +24,39 @@ put-all l b e =
 
 -- ---- the inputs' rule
 pub not-eights : (i : List ℕ) → length i % 8 ≢ 0 → true ≡ inputsFault i
-not-eights i d = sym (ap (λ (b : Bool). not b || eqb (length i) 0 || ltb 256 (length i / 8)) (ne-eqb (length i % 8) 0 d))
+not-eights i d =
+    sym (ap (λ (b : Bool). not b || eqb (length i) 0 || ltb inputLimit (length i / 8)) (ne-eqb (length i % 8) 0 d))
 
 pub no-inputs : (i : List ℕ) → length i % 8 ≡ 0 → length i ≡ 0 → true ≡ inputsFault i
 no-inputs i d e =
-    sym (λ j. not (eq-eqb (length i % 8) 0 d j) || eq-eqb (length i) 0 e j || ltb 256 (length i / 8))
+    sym (λ j. not (eq-eqb (length i % 8) 0 d j) || eq-eqb (length i) 0 e j || ltb inputLimit (length i / 8))
 
-pub some-inputs : (i : List ℕ) → length i % 8 ≡ 0 → length i ≢ 0 → ltb 256 (length i / 8) ≡ inputsFault i
+pub some-inputs : (i : List ℕ) → length i % 8 ≡ 0 → length i ≢ 0 → ltb inputLimit (length i / 8) ≡ inputsFault i
 some-inputs i d e =
-    sym (λ j. not (eq-eqb (length i % 8) 0 d j) || ne-eqb (length i) 0 e j || ltb 256 (length i / 8))
+    sym (λ j. not (eq-eqb (length i % 8) 0 d j) || ne-eqb (length i) 0 e j || ltb inputLimit (length i / 8))
 
 -- a memory of another length, and of the right one
-pub memory-refused : (m : List ℕ) → length m ≢ 18424 → memoryFault m ≡ true
-memory-refused m d = ap not (ne-eqb (length m) 18424 d)
+pub memory-refused : (m : List ℕ) → length m ≢ memoryLength → memoryFault m ≡ true
+memory-refused m d = ap not (ne-eqb (length m) memoryLength d)
 
-pub memory-accepted : (m : List ℕ) → length m ≡ 18424 → memoryFault m ≡ false
-memory-accepted m d = ap not (eq-eqb (length m) 18424 d)
+pub memory-accepted : (m : List ℕ) → length m ≡ memoryLength → memoryFault m ≡ false
+memory-accepted m d = ap not (eq-eqb (length m) memoryLength d)
 
-pub memory-whole : (m : List ℕ) → memoryFault m ≡ false → length m ≡ 18424
-memory-whole m h = eqb-true (length m) 18424 (go (eqb (length m) 18424) h)
+pub memory-whole : (m : List ℕ) → memoryFault m ≡ false → length m ≡ memoryLength
+memory-whole m h = eqb-true (length m) memoryLength (go (eqb (length m) memoryLength) h)
   where
     go : (b : Bool) → not b ≡ false → b ≡ true
     go true e = refl
     go false e = absurd (false≢true (sym e))
 
-pub inputs-short : (i : List ℕ) → inputsFault i ≡ false → length i ≤ 2048
+pub inputs-short : (i : List ℕ) → inputsFault i ≡ false → length i ≤ inputLimit * 8
 inputs-short i h =
-    go (eqb (length i % 8) 0) (eqb (length i) 0) (ltb 256 (length i / 8)) refl refl h
+    go (eqb (length i % 8) 0) (eqb (length i) 0) (ltb inputLimit (length i / 8)) refl refl h
   where
-    go : (a b c : Bool) → eqb (length i % 8) 0 ≡ a → ltb 256 (length i / 8) ≡ c → (not a || b || c) ≡ false → length i ≤ 2048
+    go : (a b c : Bool) → eqb (length i % 8) 0 ≡ a → ltb inputLimit (length i / 8) ≡ c
+        → (not a || b || c) ≡ false → length i ≤ inputLimit * 8
     go true b false p q e =
-        omega (arith, eqb-true (length i % 8) 0 p, ltb-false 256 (length i / 8) q)
+        omega (arith, eqb-true (length i % 8) 0 p, ltb-false inputLimit (length i / 8) q)
     go true true true p q e = absurd (false≢true (sym e))
     go true false true p q e = absurd (false≢true (sym e))
     go false b c p q e = absurd (false≢true (sym e))

@@ -4,6 +4,7 @@ ghost use Prim.Native.Nat.{_≤_};
 ghost use lib.ListN.{length};
 ghost use Rattle.rules.specs.Words.{put};
 ghost use Rattle.rules.specs.Checker.{inputsFault};
+use rules::INPUT_LIMIT;
 
 // Whether the inputs are no multiple of 8 bytes, none, or over 256.
 pub fn has_inputs_fault(inputs: &[u8]) -> bool
@@ -15,7 +16,7 @@ pub fn has_inputs_fault(inputs: &[u8]) -> bool
     if inputs.len() == 0 {
         return true;
     }
-    256 < inputs.len() / 8
+    INPUT_LIMIT < inputs.len() / 8
 }
 
 // The bytes of `from` are put over the first ones of `to`.

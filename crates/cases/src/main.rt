@@ -2,7 +2,9 @@
 use blocks::Making;
 use rules::Block;
 use rules::Evaluated;
+use rules::ExecutionMemory;
 use rules::Found;
+use rules::MEMORY_LENGTH;
 use rules::Number;
 use rules::Pointer;
 use rules::Value;
@@ -54,21 +56,21 @@ fn print_p3_p4() {
 }
 
 // The memory with inputs 7 and 9 and one let's block.
-fn begin(mem: &mut [u8; 18424]) {
+fn begin(mem: &mut ExecutionMemory) {
     let inputs = [7u8, 0, 0, 0, 0, 0, 0, 0, 9, 0, 0, 0, 0, 0, 0, 0];
     starting::start(mem, &inputs);
     blocks::make(mem, false, 1);
 }
 
 // Name, first cell and length of a new block, or its ending.
-fn print_new(mem: &mut [u8; 18424], n: usize) {
+fn print_new(mem: &mut ExecutionMemory, n: usize) {
     match blocks::make(mem, true, n) {
         Making::Name(k) => print_block(&*mem, k),
         Making::Stopped(k) => print_natural(k as u64),
     }
 }
 
-fn print_block(mem: &[u8; 18424], name: u16) {
+fn print_block(mem: &ExecutionMemory, name: u16) {
     print_natural(name as u64);
     match cells::block(mem, name) {
         Block::Unused => print_natural(0),
@@ -82,14 +84,14 @@ fn print_block(mem: &[u8; 18424], name: u16) {
 }
 
 // The ending of statement 42 where the let's variable takes a new block of no cells.
-fn print_empty(mem: &mut [u8; 18424]) {
+fn print_empty(mem: &mut ExecutionMemory) {
     let place = Found::Place(Pointer { name: 3, offset: 0 });
     let size = Evaluated::Value(Value::Integer(0));
     print_natural(allocation::new_at(mem, place, size) as u64);
 }
 
 fn print_p8() {
-    let mut mem = [0u8; 18424];
+    let mut mem = [0u8; MEMORY_LENGTH];
     io::write_all(1, b"P8");
     begin(&mut mem);
     print_new(&mut mem, 1020);
@@ -101,7 +103,7 @@ fn print_p8() {
 }
 
 fn print_p9() {
-    let mut mem = [0u8; 18424];
+    let mut mem = [0u8; MEMORY_LENGTH];
     io::write_all(1, b"P9");
     begin(&mut mem);
     print_new(&mut mem, 6);

@@ -1,8 +1,9 @@
 -- Cleared bytes are the image of the empty memory.
-use Prim.Native.Nat.{ℕ}
+use Prim.Native.Nat.{ℕ, _*_}
 use mathlib.Core.Path.{_≡_, refl, sym, ap₂, _∙_}
 use mathlib.Core.List.{List, _++_}
 use lib.ListN.{replicate, length-replicate, replicate-append-replicate}
+use Rattle.rules.specs.Sizes.{nameCount, cellCount, memoryLength, blocksLength}
 use Rattle.rules.specs.Words.{digits}
 use Rattle.rules.specs.Layout.{memoryOf, memoryImage, blockBytes, cellBytes}
 use Rattle.rules.proofs.Rows.{flat-all}
@@ -13,19 +14,19 @@ use Rattle.rules.specs.declared.Block.the-variants as block
 use Rattle.rules.specs.declared.Cell.the-variants as cell
 use Rattle.cells.specs.Changes.{emptyMemory}
 
-pub empty-image : replicate 18424 0 ≡ memoryImage emptyMemory
+pub empty-image : replicate memoryLength 0 ≡ memoryImage emptyMemory
 unfolding memoryImage blockBytes cellBytes digits
 empty-image =
-    sym (ap₂ (λ (x y : List ℕ). x ++ y) (flat-all blockBytes block.Unused 8 255 refl)
-    (flat-all cellBytes cell.Free 16 1024 refl)
-    ∙ replicate-append-replicate 2040 16384 0)
+    sym (ap₂ (λ (x y : List ℕ). x ++ y) (flat-all blockBytes block.Unused 8 nameCount refl)
+    (flat-all cellBytes cell.Free 16 cellCount refl)
+    ∙ replicate-append-replicate blocksLength (cellCount * 16) 0)
 
 empty-fits : FitsMemory emptyMemory
 empty-fits = record {
-  block-count = length-replicate 255 block.Unused;
-  cell-count = length-replicate 1024 cell.Free;
-  blocks-fit = all-replicate 255 block.Unused tt;
-  cells-fit = all-replicate 1024 cell.Free tt;
+  block-count = length-replicate nameCount block.Unused;
+  cell-count = length-replicate cellCount cell.Free;
+  blocks-fit = all-replicate nameCount block.Unused tt;
+  cells-fit = all-replicate cellCount cell.Free tt;
 }
 
 pub empty-view : memoryOf (memoryImage emptyMemory) ≡ emptyMemory

@@ -10,6 +10,7 @@ use lib.ListN.{length, getD, set}
 use lib.Seq.{set-out}
 use mir.Syntax.{w64}
 use mir.Val.{toZ}
+use Rattle.rules.specs.Sizes.{nameCount, cellCount, memoryLength}
 use Rattle.rules.specs.Words.{little, digits, part, put, wordAt, integerAt}
 use Rattle.rules.specs.Memory.{Memory, setCell, rename}
 use Rattle.rules.specs.Layout.{memoryOf, memoryImage, blockRecord, blockBytes, cellBytes, blockPlace, cellPlace}
@@ -93,7 +94,7 @@ cell-back (cell.Holds o (value.Pointer p)) h =
     (integer-value (p .offset) (h .1 .1))
 
 -- ---- what the bytes stand for then
-module _ (l : List ℕ) (e : length l ≡ 18424) (i : ℕ) (c : Cell) (h : i < 1024) where
+module _ (l : List ℕ) (e : length l ≡ memoryLength) (i : ℕ) (c : Cell) (h : i < cellCount) where
   cell-room : cellPlace i + length (cellBytes c) ≤ length l
   cell-room = omega (arith, length-cellBytes c)
 
@@ -118,19 +119,20 @@ module _ (l : List ℕ) (e : length l ≡ 18424) (i : ℕ) (c : Cell) (h : i < 1
       high : i * 16 + 16 ≤ j * 16 → cellPlace i + length (cellBytes c) ≤ cellPlace j
       high b = omega (arith, length-cellBytes c)
 
-  block-put-cell : (k : ℕ) → k < 255 → blockAt (put l (cellPlace i) (cellBytes c)) k ≡ blockAt l k
+  block-put-cell : (k : ℕ) → k < nameCount → blockAt (put l (cellPlace i) (cellBytes c)) k ≡ blockAt l k
   block-put-cell k d =
       block-apart l (cellBytes c) (cellPlace i) cell-room (blockPlace k) 8 (inl (omega arith)) k refl refl
 
   view-cell : FitsCell c → memoryOf (put l (cellPlace i) (cellBytes c)) ≡ setCell (memoryOf l) i c
   unfolding memoryOf
   view-cell f = λ t. record {
-    blocks = table-same 255 (blockAt l) (blockAt (put l (cellPlace i) (cellBytes c))) (λ k b. block-put-cell k b) t;
-    cells = table-set 1024 i (cellAt l) (cellAt (put l (cellPlace i) (cellBytes c))) c h (cell-put-same f)
+    blocks = table-same nameCount (blockAt l) (blockAt (put l (cellPlace i) (cellBytes c)))
+        (λ k b. block-put-cell k b) t;
+    cells = table-set cellCount i (cellAt l) (cellAt (put l (cellPlace i) (cellBytes c))) c h (cell-put-same f)
         (λ j b d. cell-put-other j d) t;
   }
 
-module _ (l : List ℕ) (e : length l ≡ 18424) (k : ℕ) (b : Block) (h : k < 255) where
+module _ (l : List ℕ) (e : length l ≡ memoryLength) (k : ℕ) (b : Block) (h : k < nameCount) where
   block-room : blockPlace k + length (blockBytes b) ≤ length l
   block-room = omega (arith, length-blockBytes b)
 
@@ -159,9 +161,9 @@ module _ (l : List ℕ) (e : length l ≡ 18424) (k : ℕ) (b : Block) (h : k < 
   view-block : FitsBlock b → memoryOf (put l (blockPlace k) (blockBytes b)) ≡ setBlock (memoryOf l) (suc k) b
   unfolding memoryOf
   view-block f = λ t. record {
-    blocks = table-set 255 k (blockAt l) (blockAt (put l (blockPlace k) (blockBytes b))) b h (block-put-same f)
+    blocks = table-set nameCount k (blockAt l) (blockAt (put l (blockPlace k) (blockBytes b))) b h (block-put-same f)
         (λ j x d. block-put-other j d) t;
-    cells = table-same 1024 (cellAt l) (cellAt (put l (blockPlace k) (blockBytes b))) (λ j x. cell-put-block j) t;
+    cells = table-same cellCount (cellAt l) (cellAt (put l (blockPlace k) (blockBytes b))) (λ j x. cell-put-block j) t;
   }
 
 -- ---- changes
@@ -180,7 +182,7 @@ fits-block (block.Fixed first n) h = h
 fits-block (block.Freeable first n) h = h
 fits-block block.Dead h = tt
 
-pub becomes-cell : (l : List ℕ) (i : ℕ) (c : Cell) → length l ≡ 18424 → i < 1024 → CellFits c → CellHeld c
+pub becomes-cell : (l : List ℕ) (i : ℕ) (c : Cell) → length l ≡ memoryLength → i < cellCount → CellFits c → CellHeld c
     → Becomes l (put l (cellPlace i) (cellBytes c)) (setCell (memoryOf l) i c)
 becomes-cell l i c e h n s =
     let v : memoryOf (put l (cellPlace i) (cellBytes c)) ≡ setCell (memoryOf l) i c =
@@ -192,13 +194,13 @@ becomes-cell l i c e h n s =
           ∙ image-put-cell (memoryOf l) i c (count-blocks l) inside ∙ ap memoryImage (sym v);
     }
 
-pub cell-outside : (l : List ℕ) (i : ℕ) (c : Cell) → 1024 ≤ i → Becomes l l (setCell (memoryOf l) i c)
+pub cell-outside : (l : List ℕ) (i : ℕ) (c : Cell) → cellCount ≤ i → Becomes l l (setCell (memoryOf l) i c)
 cell-outside l i c h =
     let e : set (memoryOf l .cells) i c ≡ memoryOf l .cells =
     set-out (memoryOf l .cells) i c (le-trans (le-of-eq (count-cells l)) h) in
     unchanged l (setCell (memoryOf l) i c) (λ t. record { blocks = memoryOf l .blocks; cells = sym e t })
 
-becomes-record : (l : List ℕ) (k : ℕ) (b : Block) → length l ≡ 18424 → k < 255 → BlockHeld b
+becomes-record : (l : List ℕ) (k : ℕ) (b : Block) → length l ≡ memoryLength → k < nameCount → BlockHeld b
     → Becomes l (put l (blockPlace k) (blockBytes b)) (setBlock (memoryOf l) (suc k) b)
 becomes-record l k b e h s =
     let v : memoryOf (put l (blockPlace k) (blockBytes b)) ≡ setBlock (memoryOf l) (suc k) b =
@@ -210,17 +212,17 @@ becomes-record l k b e h s =
           ∙ image-put-block (memoryOf l) k b inside ∙ ap memoryImage (sym v);
     }
 
-pub becomes-block : (l : List ℕ) (k : ℕ) (b : Block) → length l ≡ 18424 → 0 < k → k < 256 → BlockHeld b
+pub becomes-block : (l : List ℕ) (k : ℕ) (b : Block) → length l ≡ memoryLength → 0 < k → k ≤ nameCount → BlockHeld b
     → Becomes l (put l (blockPlace (k - 1)) (blockBytes b)) (setBlock (memoryOf l) k b)
 becomes-block l zero b e p h s = absurd (omega arith)
 becomes-block l (suc k) b e p h s =
     let d : suc k - 1 ≡ k = omega arith in
     rw d (becomes-record l k b e (omega arith) s)
 
-pub block-outside : (l : List ℕ) (k : ℕ) (b : Block) → 256 ≤ k → Becomes l l (setBlock (memoryOf l) k b)
+pub block-outside : (l : List ℕ) (k : ℕ) (b : Block) → nameCount < k → Becomes l l (setBlock (memoryOf l) k b)
 block-outside l zero b h = absurd (omega arith)
 block-outside l (suc k) b h =
-    let p : 255 ≤ k = omega arith in
+    let p : nameCount ≤ k = omega arith in
     let e : set (memoryOf l .blocks) k b ≡ memoryOf l .blocks =
     set-out (memoryOf l .blocks) k b (le-trans (le-of-eq (count-blocks l)) p) in
     unchanged l (setBlock (memoryOf l) (suc k) b) (λ t. record { blocks = sym e t; cells = memoryOf l .cells })

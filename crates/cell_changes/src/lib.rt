@@ -2,30 +2,34 @@
 ghost use mathlib.Core.Path.{_≡_};
 ghost use Prim.Native.Nat.{_+_, _*_, _<_};
 ghost use lib.ListN.{length, replicate};
+ghost use Rattle.rules.specs.Sizes.{cellCount, memoryLength};
 ghost use Rattle.rules.specs.Memory.{setCell};
-ghost use Rattle.rules.specs.Layout.{memoryOf, memoryImage, cellPlace, cellRecord, cellBytes};
+ghost use Rattle.rules.specs.Layout.{memoryOf, memoryImage, cellPlace, cellRecord, cellBytes, nameLimit};
 ghost use Rattle.rules.specs.Words.{put};
 ghost use Rattle.cells.specs.Changes.{Becomes, emptyMemory, CellFits, CellHeld};
+use rules::BLOCKS_LENGTH;
+use rules::CELL_COUNT;
 use rules::Cell;
+use rules::ExecutionMemory;
 use rules::Value;
 
 // Sixteen bytes of cell i: a kind, an owner, a name, five zeros, a number.
-fn write_parts(mem: &mut [u8; 18424], i: usize, kind: u8, owner: u16, name: u16, z: i64)
-    requires { ⌜ (i < 1024) × (owner < 256) × (name < 256) ⌝ }
+fn write_parts(mem: &mut ExecutionMemory, i: usize, kind: u8, owner: u16, name: u16, z: i64)
+    requires { ⌜ (i < cellCount) × (owner < nameLimit) × (name < nameLimit) ⌝ }
     ensures bytes { λ _. ⌜ now (mem .exit) ≡ put (now (mem .entry)) (cellPlace i) (cellRecord kind owner name z) ⌝ }
-    ensures length { λ _. ⌜ length (now (mem .entry)) ≡ 18424 ⌝ }
+    ensures length { λ _. ⌜ length (now (mem .entry)) ≡ memoryLength ⌝ }
 {
-    let at = 2040 + i * 16;
+    let at = BLOCKS_LENGTH + i * 16;
     let head = kind as u64 + owner as u64 * 256 + name as u64 * 65536;
     words::write_word(&mut mem[..], at, 8, head);
     words::write_i64(&mut mem[..], at + 8, z);
 }
 
-fn write_cell(mem: &mut [u8; 18424], i: usize, c: Cell)
-    requires { ⌜ (i < 1024) × CellFits c ⌝ }
+fn write_cell(mem: &mut ExecutionMemory, i: usize, c: Cell)
+    requires { ⌜ (i < cellCount) × CellFits c ⌝ }
     ensures bytes { λ _. ⌜ now (mem .exit) ≡ put (now (mem .entry)) (cellPlace i) (cellBytes c) ⌝ }
     ensures held { λ _. ⌜ CellHeld c ⌝ }
-    ensures length { λ _. ⌜ length (now (mem .entry)) ≡ 18424 ⌝ }
+    ensures length { λ _. ⌜ length (now (mem .entry)) ≡ memoryLength ⌝ }
 {
     match c {
         Cell::Free => write_parts(mem, i, 0, 0, 0, 0),
@@ -38,11 +42,11 @@ fn write_cell(mem: &mut [u8; 18424], i: usize, c: Cell)
 }
 
 // Cell i, where there is one, becomes c.
-pub fn put_cell(mem: &mut [u8; 18424], i: usize, c: Cell)
+pub fn put_cell(mem: &mut ExecutionMemory, i: usize, c: Cell)
     requires { ⌜ CellFits c ⌝ }
     ensures { λ _. ⌜ Becomes (now (mem .entry)) (now (mem .exit)) (setCell (memoryOf (now (mem .entry))) i c) ⌝ }
 {
-    if i < 1024 {
+    if i < CELL_COUNT {
         write_cell(mem, i, c);
     }
 }
@@ -57,7 +61,7 @@ fn clear_bytes(bytes: &mut [u8])
     }
 }
 
-pub fn clear(mem: &mut [u8; 18424])
+pub fn clear(mem: &mut ExecutionMemory)
     ensures { λ _. ⌜ now (mem .exit) ≡ memoryImage emptyMemory ⌝ }
 {
     clear_bytes(&mut mem[..]);

@@ -3,9 +3,10 @@ ghost use Rattle.rules.specs.Layout.{memoryOf};
 ghost use Rattle.cells.specs.Changes.{Becomes, CellFits};
 ghost use Rattle.cell_fills.specs.Filling.{fillCells};
 use rules::Cell;
+use rules::ExecutionMemory;
 
 // The n cells from first on, as far as there are such cells, become c.
-pub fn fill(mem: &mut [u8; 18424], first: u16, n: u16, c: Cell)
+pub fn fill(mem: &mut ExecutionMemory, first: u16, n: u16, c: Cell)
     requires { ⌜ CellFits c ⌝ }
     ensures { λ _. ⌜ Becomes (now (mem .entry)) (now (mem .exit))
         (fillCells (memoryOf (now (mem .entry))) first n c) ⌝ }

@@ -8,6 +8,7 @@ use mathlib.Core.List.{List}
 use lib.Dec.{eqb, eqb·suc-zero}
 use lib.IntN.{ℤ}
 use lib.ListN.{length, getD, List·getD-eq-default}
+use Rattle.rules.specs.Sizes.{nameCount, cellCount}
 use Rattle.rules.specs.Memory.{Memory, blockOf, cellOf, isFree, isUnused}
 use Rattle.rules.specs.Layout.{memoryOf, blockAt, cellAt, blockFrom, cellFrom, blockPlace, cellPlace}
 use Rattle.rules.proofs.Rows.{length-table, getD-table}
@@ -17,35 +18,35 @@ use Rattle.rules.specs.declared.Cell.{Cell}
 use Rattle.rules.specs.declared.Cell.the-variants as cell
 use Rattle.rules.specs.declared.Value.the-variants as value
 
-pub count-blocks : (l : List ℕ) → length (memoryOf l .blocks) ≡ 255
+pub count-blocks : (l : List ℕ) → length (memoryOf l .blocks) ≡ nameCount
 unfolding memoryOf
-count-blocks l = length-table 255 0 (blockAt l)
+count-blocks l = length-table nameCount 0 (blockAt l)
 
-pub count-cells : (l : List ℕ) → length (memoryOf l .cells) ≡ 1024
+pub count-cells : (l : List ℕ) → length (memoryOf l .cells) ≡ cellCount
 unfolding memoryOf
-count-cells l = length-table 1024 0 (cellAt l)
+count-cells l = length-table cellCount 0 (cellAt l)
 
-pub cell-in : (l : List ℕ) (i : ℕ) → i < 1024 → cellAt l i ≡ cellOf (memoryOf l) i
+pub cell-in : (l : List ℕ) (i : ℕ) → i < cellCount → cellAt l i ≡ cellOf (memoryOf l) i
 unfolding memoryOf
-cell-in l i h = sym (getD-table 1024 0 i (cellAt l) cell.Free h ∙ ap (cellAt l) (zero-add i))
+cell-in l i h = sym (getD-table cellCount 0 i (cellAt l) cell.Free h ∙ ap (cellAt l) (zero-add i))
 
-pub cell-past : (l : List ℕ) (i : ℕ) → 1024 ≤ i → cell.Free ≡ cellOf (memoryOf l) i
+pub cell-past : (l : List ℕ) (i : ℕ) → cellCount ≤ i → cell.Free ≡ cellOf (memoryOf l) i
 cell-past l i h = sym (List·getD-eq-default (memoryOf l .cells) cell.Free (le-trans (le-of-eq (count-cells l)) h))
 
-pub block-in : (l : List ℕ) (k : ℕ) → k < 255 → blockAt l k ≡ blockOf (memoryOf l) (suc k)
+pub block-in : (l : List ℕ) (k : ℕ) → k < nameCount → blockAt l k ≡ blockOf (memoryOf l) (suc k)
 unfolding memoryOf
-block-in l k h = sym (getD-table 255 0 k (blockAt l) block.Dead h ∙ ap (blockAt l) (zero-add k))
+block-in l k h = sym (getD-table nameCount 0 k (blockAt l) block.Dead h ∙ ap (blockAt l) (zero-add k))
 
-pub block-named : (l : List ℕ) (k : ℕ) → 0 < k → k < 256 → blockAt l (k - 1) ≡ blockOf (memoryOf l) k
+pub block-named : (l : List ℕ) (k : ℕ) → 0 < k → k ≤ nameCount → blockAt l (k - 1) ≡ blockOf (memoryOf l) k
 block-named l zero a b = absurd (omega arith)
 block-named l (suc k) a b =
     let e : suc k - 1 ≡ k = omega arith in
     rw e (block-in l k (omega arith))
 
-pub block-past : (l : List ℕ) (k : ℕ) → 255 < k → block.Dead ≡ blockOf (memoryOf l) k
+pub block-past : (l : List ℕ) (k : ℕ) → nameCount < k → block.Dead ≡ blockOf (memoryOf l) k
 block-past l zero h = absurd (omega arith)
 block-past l (suc k) h =
-    let p : 255 ≤ k = omega arith in
+    let p : nameCount ≤ k = omega arith in
     sym (List·getD-eq-default (memoryOf l .blocks) block.Dead (le-trans (le-of-eq (count-blocks l)) p))
 
 -- the kinds that no number below tells
@@ -69,7 +70,7 @@ free-kind (suc zero) o n z = refl
 free-kind (suc (suc zero)) o n z = refl
 free-kind (suc (suc (suc k))) o n z = eqb·suc-zero (suc (suc k))
 
-pub free-byte : (l : List ℕ) (i : ℕ) → i < 1024 → eqb (getD l (cellPlace i) 0) 0 ≡ isFree (cellOf (memoryOf l) i)
+pub free-byte : (l : List ℕ) (i : ℕ) → i < cellCount → eqb (getD l (cellPlace i) 0) 0 ≡ isFree (cellOf (memoryOf l) i)
 unfolding cellAt
 free-byte l i h = free-kind (getD l (cellPlace i) 0) _ _ _ ∙ ap isFree (cell-in l i h)
 
@@ -79,7 +80,7 @@ unused-state (suc zero) f n = refl
 unused-state (suc (suc zero)) f n = refl
 unused-state (suc (suc (suc s))) f n = eqb·suc-zero (suc (suc s))
 
-pub unused-byte : (l : List ℕ) (k : ℕ) → 0 < k → k < 256
+pub unused-byte : (l : List ℕ) (k : ℕ) → 0 < k → k ≤ nameCount
     → eqb (getD l (blockPlace (k - 1)) 0) 0 ≡ isUnused (blockOf (memoryOf l) k)
 unfolding blockAt
 unused-byte l k a b = unused-state (getD l (blockPlace (k - 1)) 0) _ _ ∙ ap isUnused (block-named l k a b)

@@ -7,7 +7,7 @@ use mir.Syntax.{w64}
 use mir.Val.{SFits}
 use Rattle.rules.specs.Sizes.{nameCount, cellCount}
 use Rattle.rules.specs.Memory.{Memory, Change, changed, stopped, rename}
-use Rattle.rules.specs.Layout.{memoryOf, memoryImage}
+use Rattle.rules.specs.Layout.{memoryOf, memoryImage, nameLimit}
 use Rattle.rules.specs.declared.Value.{Value}
 use Rattle.rules.specs.declared.Value.the-variants as value
 use Rattle.rules.specs.declared.Evaluated.{Evaluated}
@@ -42,11 +42,11 @@ setBlock m k b = record { blocks = rename (m .blocks) k b; cells = m .cells }
 abbrev pub emptyMemory : Memory
 emptyMemory = record { blocks = replicate nameCount block.Unused; cells = replicate cellCount cell.Free }
 
--- names that one byte holds
+-- names that a cell holds
 abbrev pub NamesFit : Value → Type 0
 NamesFit value.Undefined = Unit {0}
 NamesFit (value.Integer z) = Unit {0}
-NamesFit (value.Pointer p) = p .name < 256
+NamesFit (value.Pointer p) = p .name < nameLimit
 
 abbrev pub EvaluatedFits : Evaluated → Type 0
 EvaluatedFits (evaluated.Value v) = NamesFit v
@@ -54,7 +54,7 @@ EvaluatedFits (evaluated.Stopped k) = Unit {0}
 
 abbrev pub CellFits : Cell → Type 0
 CellFits cell.Free = Unit {0}
-CellFits (cell.Holds o v) = (o < 256) × NamesFit v
+CellFits (cell.Holds o v) = (o < nameLimit) × NamesFit v
 
 -- numbers that the code's types hold
 abbrev pub NumberHeld : Value → Type 0

@@ -1,11 +1,16 @@
-// The bytes of the execution memory, read: 255 block records of 8 bytes, then 1,024 cells of 16.
+// The bytes of the execution memory, read: block records of 8 bytes, then cells of 16.
 ghost use mathlib.Core.Path.{_≡_};
 ghost use Prim.Native.Nat.{_+_, _*_, _<_};
+ghost use Rattle.rules.specs.Sizes.{nameCount, cellCount};
 ghost use Rattle.rules.specs.Memory.{blockOf, cellOf};
 ghost use Rattle.rules.specs.Layout.{memoryOf, blockAt, cellAt};
 ghost use Rattle.cells.specs.Changes.{CellFits};
+use rules::BLOCKS_LENGTH;
 use rules::Block;
+use rules::CELL_COUNT;
 use rules::Cell;
+use rules::ExecutionMemory;
+use rules::LAST_NAME;
 use rules::Pointer;
 use rules::Value;
 
@@ -17,8 +22,8 @@ fn wide(b: u8) -> u16
 }
 
 // Block record k, counted from 0.
-fn read_block(mem: &[u8; 18424], k: usize) -> Block
-    requires { ⌜ k < 255 ⌝ }
+fn read_block(mem: &ExecutionMemory, k: usize) -> Block
+    requires { ⌜ k < nameCount ⌝ }
     ensures { λ r. ⌜ r ≡ blockAt (now (mem .entry)) k ⌝ }
 {
     let at = k * 8;
@@ -33,24 +38,24 @@ fn read_block(mem: &[u8; 18424], k: usize) -> Block
 }
 
 // The block of a name; names count from 1.
-pub fn block(mem: &[u8; 18424], name: u16) -> Block
+pub fn block(mem: &ExecutionMemory, name: u16) -> Block
     ensures { λ r. ⌜ r ≡ blockOf (memoryOf (now (mem .entry))) name ⌝ }
 {
     if name == 0 {
         return Block::Dead;
     }
-    if 255 < name {
+    if LAST_NAME < name {
         return Block::Dead;
     }
     read_block(mem, name as usize - 1)
 }
 
-fn read_cell(mem: &[u8; 18424], i: usize) -> Cell
-    requires { ⌜ i < 1024 ⌝ }
+fn read_cell(mem: &ExecutionMemory, i: usize) -> Cell
+    requires { ⌜ i < cellCount ⌝ }
     ensures value { λ r. ⌜ r ≡ cellAt (now (mem .entry)) i ⌝ }
     ensures names { λ r. ⌜ CellFits r ⌝ }
 {
-    let at = 2040 + i * 16;
+    let at = BLOCKS_LENGTH + i * 16;
     let owner = wide(mem[at + 1]);
     match mem[at] {
         0 => Cell::Free,
@@ -64,11 +69,11 @@ fn read_cell(mem: &[u8; 18424], i: usize) -> Cell
     }
 }
 
-pub fn cell(mem: &[u8; 18424], i: usize) -> Cell
+pub fn cell(mem: &ExecutionMemory, i: usize) -> Cell
     ensures value { λ r. ⌜ r ≡ cellOf (memoryOf (now (mem .entry))) i ⌝ }
     ensures names { λ r. ⌜ CellFits r ⌝ }
 {
-    if i < 1024 {
+    if i < CELL_COUNT {
         read_cell(mem, i)
     } else {
         Cell::Free

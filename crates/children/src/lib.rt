@@ -7,16 +7,20 @@ ghost use Rattle.rules.specs.Evaluation.{condition};
 ghost use Rattle.tables.specs.Within.{Within};
 ghost use Rattle.children.specs.Children.{foundIn, valueIn};
 use rules::Evaluated;
+use rules::ExecutionMemory;
 use rules::Found;
+use rules::Table;
+use rules::Temporaries;
 use rules::Test;
+use rules::Variables;
 
 // The place that is child A of statement n.
 pub fn find_a(
-    table: &[u8; 65536],
+    table: &Table,
     n: usize,
-    variables: &[u16; 64],
-    temporaries: &[u8; 1024],
-    mem: &[u8; 18424],
+    variables: &Variables,
+    temporaries: &Temporaries,
+    mem: &ExecutionMemory,
 ) -> Found
     requires { ⌜ Within (now table) n
         × (sortOfNode target (nodeAt target (now table) (childA (now table) n)) ≡ sortNumber place) ⌝ }
@@ -29,11 +33,11 @@ pub fn find_a(
 
 // The value of child A, and of child B.
 pub fn evaluate_a(
-    table: &[u8; 65536],
+    table: &Table,
     n: usize,
-    variables: &[u16; 64],
-    temporaries: &[u8; 1024],
-    mem: &[u8; 18424],
+    variables: &Variables,
+    temporaries: &Temporaries,
+    mem: &ExecutionMemory,
 ) -> Evaluated
     requires { ⌜ Within (now table) n
         × (sortOfNode target (nodeAt target (now table) (childA (now table) n)) ≡ sortNumber expression) ⌝ }
@@ -45,11 +49,11 @@ pub fn evaluate_a(
 }
 
 pub fn evaluate_b(
-    table: &[u8; 65536],
+    table: &Table,
     n: usize,
-    variables: &[u16; 64],
-    temporaries: &[u8; 1024],
-    mem: &[u8; 18424],
+    variables: &Variables,
+    temporaries: &Temporaries,
+    mem: &ExecutionMemory,
 ) -> Evaluated
     requires { ⌜ Within (now table) n
         × (sortOfNode target (nodeAt target (now table) (childB (now table) n)) ≡ sortNumber expression) ⌝ }
@@ -62,11 +66,11 @@ pub fn evaluate_b(
 
 // What condition A says.
 pub fn test_a(
-    table: &[u8; 65536],
+    table: &Table,
     n: usize,
-    variables: &[u16; 64],
-    temporaries: &[u8; 1024],
-    mem: &[u8; 18424],
+    variables: &Variables,
+    temporaries: &Temporaries,
+    mem: &ExecutionMemory,
 ) -> Test
     requires { ⌜ Within (now table) n
         × (sortOfNode target (nodeAt target (now table) (childA (now table) n)) ≡ sortNumber expression) ⌝ }

@@ -7,10 +7,14 @@ ghost use Rattle.rules.proofs.TargetFields.{HasSort, numberAt};
 ghost use Rattle.evaluation.specs.State.{variablesOf};
 ghost use Rattle.temporaries.specs.Bytes.{temporariesOf};
 ghost use Rattle.choices.specs.Branches.{IsBranch, choice};
+use rules::ExecutionMemory;
+use rules::Table;
+use rules::Temporaries;
 use rules::Test;
+use rules::Variables;
 
 // The source statement that record n came from.
-pub fn statement_of(table: &[u8; 65536], n: usize) -> u32
+pub fn statement_of(table: &Table, n: usize) -> u32
     requires { ⌜ HasSort statement (now table) n ⌝ }
     ensures { λ r. ⌜ r ≡ numberAt (now (table .entry)) n ⌝ }
 {
@@ -20,11 +24,11 @@ pub fn statement_of(table: &[u8; 65536], n: usize) -> u32
 
 // What decides between B and C: condition A of 45, the temporary of 66.
 pub fn test(
-    table: &[u8; 65536],
+    table: &Table,
     n: usize,
-    variables: &[u16; 64],
-    temporaries: &[u8; 1024],
-    mem: &[u8; 18424],
+    variables: &Variables,
+    temporaries: &Temporaries,
+    mem: &ExecutionMemory,
 ) -> Test
     requires { ⌜ HasSort statement (now table) n × IsBranch (kindOf (now table) n) ⌝ }
     ensures { λ r. ⌜ r ≡ choice (now (table .entry)) n (temporariesOf (now (temporaries .entry)))

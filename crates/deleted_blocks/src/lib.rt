@@ -5,10 +5,11 @@ ghost use Rattle.rules.specs.Layout.{observationOf};
 ghost use Rattle.observation_answers.specs.Calls.{Answers};
 ghost use Rattle.deleted_blocks.specs.Deleting.{deleteNamed};
 use observation_answers::Noting;
+use rules::ObservationMemory;
 use rules::Recorded;
 use rules::Value;
 
-fn delete_named(obs: &mut [u8; 3064], name: u16) -> Noting
+fn delete_named(obs: &mut ObservationMemory, name: u16) -> Noting
     ensures { λ r. ⌜ Answers (now (obs .entry)) (now (obs .exit)) r
         (deleteNamed (observationOf (now (obs .entry))) name) ⌝ }
 {
@@ -22,7 +23,7 @@ fn delete_named(obs: &mut [u8; 3064], name: u16) -> Noting
     }
 }
 
-pub fn delete_block(obs: &mut [u8; 3064], v: Value) -> Noting
+pub fn delete_block(obs: &mut ObservationMemory, v: Value) -> Noting
     ensures { λ r. ⌜ Answers (now (obs .entry)) (now (obs .exit)) r
         (deleteBlock (observationOf (now (obs .entry))) v) ⌝ }
 {

@@ -10,9 +10,13 @@ ghost use Rattle.rules.specs.declared.Evaluated.the-variants as evaluated;
 ghost use Rattle.evaluation.specs.State.{variablesOf, Settles};
 ghost use Rattle.temporaries.specs.Bytes.{temporariesOf};
 use rules::Evaluated;
+use rules::ExecutionMemory;
 use rules::Found;
 use rules::Pointer;
+use rules::Table;
+use rules::Temporaries;
 use rules::Value;
+use rules::Variables;
 
 // What an operand gives by itself: its value or stop, or nothing, so that it has to be evaluated.
 pub enum Settled {
@@ -21,7 +25,7 @@ pub enum Settled {
 }
 
 // The value at a place.
-fn fetch(mem: &[u8; 18424], f: Found) -> Evaluated
+fn fetch(mem: &ExecutionMemory, f: Found) -> Evaluated
     ensures { λ r. ⌜ r ≡ onPlace f evaluated.Stopped (readCell (memoryOf (now (mem .entry)))) ⌝ }
 {
     match f {
@@ -31,7 +35,7 @@ fn fetch(mem: &[u8; 18424], f: Found) -> Evaluated
 }
 
 // What place n holds where it is a variable.
-fn settle_read(table: &[u8; 65536], n: usize, variables: &[u16; 64], mem: &[u8; 18424]) -> Settled
+fn settle_read(table: &Table, n: usize, variables: &Variables, mem: &ExecutionMemory) -> Settled
     requires { ⌜ sortOfNode target (nodeAt target (now table) n) ≡ sortNumber place ⌝ }
     ensures { λ r. ⌜ Settles r (λ τ. onPlace (findPlace (asPlace (nodeAt target (now (table .entry)) n)) τ
         (variablesOf (now (variables .entry))) (memoryOf (now (mem .entry)))) evaluated.Stopped
@@ -50,7 +54,7 @@ fn settle_read(table: &[u8; 65536], n: usize, variables: &[u16; 64], mem: &[u8; 
 }
 
 // What expression n gives where it is a literal or the read of a variable.
-fn settle(table: &[u8; 65536], n: usize, variables: &[u16; 64], mem: &[u8; 18424]) -> Settled
+fn settle(table: &Table, n: usize, variables: &Variables, mem: &ExecutionMemory) -> Settled
     requires { ⌜ sortOfNode target (nodeAt target (now table) n) ≡ sortNumber expression ⌝ }
     ensures { λ r. ⌜ Settles r (λ τ. evaluate (asExpression (nodeAt target (now (table .entry)) n)) τ
         (variablesOf (now (variables .entry))) (memoryOf (now (mem .entry)))) ⌝ }
@@ -64,11 +68,11 @@ fn settle(table: &[u8; 65536], n: usize, variables: &[u16; 64], mem: &[u8; 18424
 
 // The value of expression n. Literals and variables, which are most operands, take no call.
 pub fn evaluate_operand(
-    table: &[u8; 65536],
+    table: &Table,
     n: usize,
-    variables: &[u16; 64],
-    temporaries: &[u8; 1024],
-    mem: &[u8; 18424],
+    variables: &Variables,
+    temporaries: &Temporaries,
+    mem: &ExecutionMemory,
 ) -> Evaluated
     requires { ⌜ sortOfNode target (nodeAt target (now table) n) ≡ sortNumber expression ⌝ }
     ensures { λ r. ⌜ r ≡ evaluate (asExpression (nodeAt target (now (table .entry)) n))
@@ -89,11 +93,11 @@ pub fn evaluate_operand(
 
 // The value of expression n. An operator's and a shift's operands are worked out alike: a shift's mark is 0.
 pub fn evaluate(
-    table: &[u8; 65536],
+    table: &Table,
     n: usize,
-    variables: &[u16; 64],
-    temporaries: &[u8; 1024],
-    mem: &[u8; 18424],
+    variables: &Variables,
+    temporaries: &Temporaries,
+    mem: &ExecutionMemory,
 ) -> Evaluated
     requires { ⌜ sortOfNode target (nodeAt target (now table) n) ≡ sortNumber expression ⌝ }
     ensures { λ r. ⌜ r ≡ evaluate (asExpression (nodeAt target (now (table .entry)) n))
@@ -147,11 +151,11 @@ pub fn evaluate(
 
 // Where place n is.
 pub fn find_place(
-    table: &[u8; 65536],
+    table: &Table,
     n: usize,
-    variables: &[u16; 64],
-    temporaries: &[u8; 1024],
-    mem: &[u8; 18424],
+    variables: &Variables,
+    temporaries: &Temporaries,
+    mem: &ExecutionMemory,
 ) -> Found
     requires { ⌜ sortOfNode target (nodeAt target (now table) n) ≡ sortNumber place ⌝ }
     ensures { λ r. ⌜ r ≡ findPlace (asPlace (nodeAt target (now (table .entry)) n))

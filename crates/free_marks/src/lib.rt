@@ -7,11 +7,17 @@ ghost use Rattle.rules.specs.Memory.{lowestRun};
 ghost use Rattle.rules.specs.Observation.{markRun};
 ghost use Rattle.rules.specs.Layout.{observationOf};
 ghost use Rattle.free_marks.specs.Occupied.{occupy, occupyAll};
+use rules::CELL_COUNT;
+use rules::NAME_COUNT;
+use rules::ObservationMemory;
 use rules::Recorded;
 use rules::Search;
 
+// A byte for each mark: 0, or 1 in a live block.
+type Places = [u8; CELL_COUNT];
+
 // The places of a live block are occupied.
-fn cover(places: &mut [u8; 1024], b: Recorded)
+fn cover(places: &mut Places, b: Recorded)
     ensures { λ _. ⌜ now (places .exit) ≡ occupy (now (places .entry)) b ⌝ }
 {
     match b {
@@ -28,10 +34,10 @@ fn cover(places: &mut [u8; 1024], b: Recorded)
 
 // Records are read by number: with a name's tests the search comes out so small that the compiler folds it, and its
 // array, into the code of every statement, which is then a third slower.
-fn cover_all(obs: &[u8; 3064], places: &mut [u8; 1024])
+fn cover_all(obs: &ObservationMemory, places: &mut Places)
     ensures { λ _. ⌜ now (places .exit) ≡ occupyAll (now (places .entry)) (observationOf (now (obs .entry)) .blocks) ⌝ }
 {
-    let mut k = 255;
+    let mut k = NAME_COUNT;
     while 0 < k {
         k -= 1;
         cover(places, observation_records::read_record(obs, k));
@@ -39,13 +45,13 @@ fn cover_all(obs: &[u8; 3064], places: &mut [u8; 1024])
 }
 
 // The lowest run of n places that are 0.
-fn find_run(places: &[u8; 1024], n: usize) -> Search
+fn find_run(places: &Places, n: usize) -> Search
     requires { ⌜ 0 < n ⌝ }
     ensures { λ r. ⌜ r ≡ lowestRun (λ i. eqb (getD (now (places .entry)) i 0) 0) n ⌝ }
 {
     let mut run: usize = 0;
     let mut i = 0;
-    while i < 1024 {
+    while i < CELL_COUNT {
         if places[i] == 0 {
             run += 1;
             if run == n {
@@ -60,11 +66,11 @@ fn find_run(places: &[u8; 1024], n: usize) -> Search
 }
 
 // The lowest run of n marks that lie in no live block.
-pub fn find_marks(obs: &[u8; 3064], n: usize) -> Search
+pub fn find_marks(obs: &ObservationMemory, n: usize) -> Search
     requires { ⌜ 0 < n ⌝ }
     ensures { λ r. ⌜ r ≡ markRun (observationOf (now (obs .entry))) n ⌝ }
 {
-    let mut places: [u8; 1024] = [0; 1024];
+    let mut places: Places = [0; CELL_COUNT];
     cover_all(obs, &mut places);
     find_run(&places, n)
 }

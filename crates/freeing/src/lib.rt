@@ -6,10 +6,11 @@ ghost use Rattle.rules.specs.declared.Recorded.the-variants as recorded;
 ghost use Rattle.cells.specs.Changes.{Becomes, changeNumber, changeMemory};
 use rules::Block;
 use rules::Cell;
+use rules::ExecutionMemory;
 use rules::Pointer;
 
 // A block that has the n cells from first on is dead, and they are free.
-fn release(mem: &mut [u8; 18424], name: u16, first: u16, n: u16)
+fn release(mem: &mut ExecutionMemory, name: u16, first: u16, n: u16)
     ensures { λ _. ⌜ Becomes (now (mem .entry)) (now (mem .exit))
         (withoutCells (memoryOf (now (mem .entry))) name (recorded.Live first n)) ⌝ }
 {
@@ -17,7 +18,7 @@ fn release(mem: &mut [u8; 18424], name: u16, first: u16, n: u16)
     block_changes::put_block(mem, name, Block::Dead);
 }
 
-fn free_block(mem: &mut [u8; 18424], name: u16) -> u32
+fn free_block(mem: &mut ExecutionMemory, name: u16) -> u32
     ensures number { λ r. ⌜ r ≡ changeNumber (freeOf (memoryOf (now (mem .entry))) name
         (blockOf (memoryOf (now (mem .entry))) name)) ⌝ }
     ensures memory { λ _. ⌜ Becomes (now (mem .entry)) (now (mem .exit))
@@ -35,7 +36,7 @@ fn free_block(mem: &mut [u8; 18424], name: u16) -> u32
 }
 
 // 46 where the pointer is not to the first cell of a live freeable block.
-pub fn free(mem: &mut [u8; 18424], p: Pointer) -> u32
+pub fn free(mem: &mut ExecutionMemory, p: Pointer) -> u32
     ensures number { λ r. ⌜ r ≡ changeNumber (freeAt (memoryOf (now (mem .entry))) (p .name) (p .offset)) ⌝ }
     ensures memory { λ _. ⌜ Becomes (now (mem .entry)) (now (mem .exit))
         (changeMemory (freeAt (memoryOf (now (mem .entry))) (p .name) (p .offset))) ⌝ }
@@ -48,7 +49,7 @@ pub fn free(mem: &mut [u8; 18424], p: Pointer) -> u32
 }
 
 // The end of a block, if it is live.
-pub fn end(mem: &mut [u8; 18424], name: u16)
+pub fn end(mem: &mut ExecutionMemory, name: u16)
     ensures { λ _. ⌜ Becomes (now (mem .entry)) (now (mem .exit)) (endBlock (memoryOf (now (mem .entry))) name) ⌝ }
 {
     match cells::block(&*mem, name) {

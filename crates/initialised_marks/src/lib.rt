@@ -7,7 +7,10 @@ ghost use Rattle.rules.specs.Layout.{observationOf};
 ghost use Rattle.observation_blocks.specs.Changes.{ObservationBecomes, withMark};
 ghost use Rattle.observation_answers.specs.Calls.{Answers};
 use observation_answers::Noting;
+use rules::BLOCKS_LENGTH;
+use rules::CELL_COUNT;
 use rules::Located;
+use rules::ObservationMemory;
 use rules::Value;
 
 fn put_byte(d: &mut [u8], at: usize, x: u8)
@@ -17,16 +20,16 @@ fn put_byte(d: &mut [u8], at: usize, x: u8)
     d[at] = x;
 }
 
-fn write_mark(obs: &mut [u8; 3064], i: usize)
+fn write_mark(obs: &mut ObservationMemory, i: usize)
     ensures { λ _. ⌜ ObservationBecomes (now (obs .entry)) (now (obs .exit))
         (withMark (observationOf (now (obs .entry))) i) ⌝ }
 {
-    if i < 1024 {
-        put_byte(&mut obs[..], 2040 + i, 1);
+    if i < CELL_COUNT {
+        put_byte(&mut obs[..], BLOCKS_LENGTH + i, 1);
     }
 }
 
-fn mark_place(obs: &mut [u8; 3064], at: Located) -> Noting
+fn mark_place(obs: &mut ObservationMemory, at: Located) -> Noting
     ensures { λ r. ⌜ Answers (now (obs .entry)) (now (obs .exit)) r (markAt (observationOf (now (obs .entry))) at) ⌝ }
 {
     match at {
@@ -39,7 +42,7 @@ fn mark_place(obs: &mut [u8; 3064], at: Located) -> Noting
     }
 }
 
-pub fn initialise(obs: &mut [u8; 3064], v: Value) -> Noting
+pub fn initialise(obs: &mut ObservationMemory, v: Value) -> Noting
     ensures { λ r. ⌜ Answers (now (obs .entry)) (now (obs .exit)) r
         (initialise (observationOf (now (obs .entry))) v) ⌝ }
 {

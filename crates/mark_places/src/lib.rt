@@ -4,6 +4,7 @@ ghost use Rattle.rules.specs.Memory.{locatedIn};
 ghost use Rattle.rules.specs.Observation.{locateMark};
 ghost use Rattle.rules.specs.Layout.{observationOf};
 use rules::Located;
+use rules::ObservationMemory;
 use rules::Pointer;
 use rules::Recorded;
 
@@ -17,7 +18,7 @@ fn locate_in(b: Recorded, offset: i64) -> Located
     }
 }
 
-pub fn locate_mark(obs: &[u8; 3064], p: Pointer) -> Located
+pub fn locate_mark(obs: &ObservationMemory, p: Pointer) -> Located
     ensures { λ r. ⌜ r ≡ locateMark (observationOf (now (obs .entry))) p ⌝ }
 {
     let b = observation_records::record_of(obs, p.name);

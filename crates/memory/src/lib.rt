@@ -5,6 +5,7 @@ ghost use Rattle.rules.specs.Layout.{memoryOf};
 ghost use Rattle.cells.specs.Changes.{Becomes, changeNumber, changeMemory, NamesFit, EvaluatedFits, CellFits};
 use rules::Cell;
 use rules::Evaluated;
+use rules::ExecutionMemory;
 use rules::Located;
 use rules::Pointer;
 use rules::Value;
@@ -25,7 +26,7 @@ fn define(c: Cell) -> Evaluated
     }
 }
 
-pub fn read(mem: &[u8; 18424], p: Pointer) -> Evaluated
+pub fn read(mem: &ExecutionMemory, p: Pointer) -> Evaluated
     ensures value { λ r. ⌜ r ≡ readCell (memoryOf (now (mem .entry))) p ⌝ }
     ensures names { λ r. ⌜ EvaluatedFits r ⌝ }
 {
@@ -37,7 +38,7 @@ pub fn read(mem: &[u8; 18424], p: Pointer) -> Evaluated
 }
 
 // The cell that a pointer leads to takes a value; 42 where there is none.
-pub fn store(mem: &mut [u8; 18424], p: Pointer, v: Value) -> u32
+pub fn store(mem: &mut ExecutionMemory, p: Pointer, v: Value) -> u32
     requires { ⌜ NamesFit v ⌝ }
     ensures number { λ r. ⌜ r ≡ changeNumber (storeCell (memoryOf (now (mem .entry))) p v) ⌝ }
     ensures memory { λ _. ⌜ Becomes (now (mem .entry)) (now (mem .exit))

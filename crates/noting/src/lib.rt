@@ -1,6 +1,7 @@
 // The statements of the target language that change the observation memory, and its start.
 ghost use mathlib.Core.Path.{_≡_};
 ghost use Prim.Native.Nat.{suc, _+_, _<_, _≤_};
+ghost use Rattle.rules.specs.Sizes.{temporaryCount, inputLimit};
 ghost use Rattle.rules.specs.Kinds.{statement};
 ghost use Rattle.rules.specs.Records.{kindOf, markOf};
 ghost use Rattle.rules.specs.Observation.{storeBlock, deleteBlock, initialise, recordBlock, markAll, startObservation};
@@ -12,7 +13,10 @@ ghost use Rattle.observation.specs.Calls.{ObservationBecomes};
 ghost use Rattle.noting.specs.Calls.{Observes, notingNumber, IsNote, noteOf};
 use observation_answers::Noting;
 use rules::Evaluated;
+use rules::ObservationMemory;
 use rules::Pointer;
+use rules::Table;
+use rules::Temporaries;
 use rules::Value;
 
 // The number of a call's answer.
@@ -26,8 +30,8 @@ fn number(answer: Noting) -> u32
 }
 
 // 68: a block is recorded, temporary n pointing to it and the next being its length.
-fn record_block(temporaries: &[u8; 1024], obs: &mut [u8; 3064], n: usize) -> u32
-    requires { ⌜ n + 1 < 64 ⌝ }
+fn record_block(temporaries: &Temporaries, obs: &mut ObservationMemory, n: usize) -> u32
+    requires { ⌜ n + 1 < temporaryCount ⌝ }
     ensures { λ r. ⌜ Observes (now (obs .entry)) (now (obs .exit)) r
         (calledOnTwo (heldIn (temporariesOf (now (temporaries .entry))) n)
         (heldIn (temporariesOf (now (temporaries .entry))) (suc n)) (storeBlock (observationOf (now (obs .entry))))) ⌝ }
@@ -42,8 +46,8 @@ fn record_block(temporaries: &[u8; 1024], obs: &mut [u8; 3064], n: usize) -> u32
 }
 
 // 69: the block that temporary n points to is deleted.
-fn delete_block(temporaries: &[u8; 1024], obs: &mut [u8; 3064], n: usize) -> u32
-    requires { ⌜ n < 64 ⌝ }
+fn delete_block(temporaries: &Temporaries, obs: &mut ObservationMemory, n: usize) -> u32
+    requires { ⌜ n < temporaryCount ⌝ }
     ensures { λ r. ⌜ Observes (now (obs .entry)) (now (obs .exit)) r
         (calledOn (heldIn (temporariesOf (now (temporaries .entry))) n)
         (deleteBlock (observationOf (now (obs .entry))))) ⌝ }
@@ -56,8 +60,8 @@ fn delete_block(temporaries: &[u8; 1024], obs: &mut [u8; 3064], n: usize) -> u32
 }
 
 // 70: the cell that temporary n points to is marked.
-fn mark_cell(temporaries: &[u8; 1024], obs: &mut [u8; 3064], n: usize) -> u32
-    requires { ⌜ n < 64 ⌝ }
+fn mark_cell(temporaries: &Temporaries, obs: &mut ObservationMemory, n: usize) -> u32
+    requires { ⌜ n < temporaryCount ⌝ }
     ensures { λ r. ⌜ Observes (now (obs .entry)) (now (obs .exit)) r
         (calledOn (heldIn (temporariesOf (now (temporaries .entry))) n)
         (initialise (observationOf (now (obs .entry))))) ⌝ }
@@ -70,7 +74,7 @@ fn mark_cell(temporaries: &[u8; 1024], obs: &mut [u8; 3064], n: usize) -> u32
 }
 
 // 68 to 70: what record n says of its temporary is noted.
-pub fn note(table: &[u8; 65536], n: usize, temporaries: &[u8; 1024], obs: &mut [u8; 3064]) -> u32
+pub fn note(table: &Table, n: usize, temporaries: &Temporaries, obs: &mut ObservationMemory) -> u32
     requires { ⌜ HasSort statement (now table) n × IsNote (kindOf (now table) n) ⌝ }
     ensures { λ r. ⌜ Observes (now (obs .entry)) (now (obs .exit)) r
         (noteOf (kindOf (now (table .entry)) n) (temporariesOf (now (temporaries .entry)))
@@ -86,8 +90,8 @@ pub fn note(table: &[u8; 65536], n: usize, temporaries: &[u8; 1024], obs: &mut [
 }
 
 // Cells 0 .. count - 1 of a block are marked.
-fn mark_cells(obs: &mut [u8; 3064], name: u16, count: usize)
-    requires { ⌜ count ≤ 256 ⌝ }
+fn mark_cells(obs: &mut ObservationMemory, name: u16, count: usize)
+    requires { ⌜ count ≤ inputLimit ⌝ }
     ensures { λ _. ⌜ ObservationBecomes (now (obs .entry)) (now (obs .exit))
         (markAll (observationOf (now (obs .entry))) name count) ⌝ }
 {
@@ -105,8 +109,8 @@ fn mark_cells(obs: &mut [u8; 3064], name: u16, count: usize)
 }
 
 // A block is recorded and all its cells are marked.
-fn record_marked(obs: &mut [u8; 3064], name: u16, count: usize)
-    requires { ⌜ count ≤ 256 ⌝ }
+fn record_marked(obs: &mut ObservationMemory, name: u16, count: usize)
+    requires { ⌜ count ≤ inputLimit ⌝ }
     ensures { λ _. ⌜ ObservationBecomes (now (obs .entry)) (now (obs .exit))
         (markAll (recordBlock (observationOf (now (obs .entry))) name count) name count) ⌝ }
 {
@@ -119,8 +123,8 @@ fn record_marked(obs: &mut [u8; 3064], name: u16, count: usize)
 }
 
 // The memory of a run's start: both input blocks recorded, all their cells marked.
-pub fn start_observation(obs: &mut [u8; 3064], count: usize)
-    requires { ⌜ count ≤ 256 ⌝ }
+pub fn start_observation(obs: &mut ObservationMemory, count: usize)
+    requires { ⌜ count ≤ inputLimit ⌝ }
     ensures { λ _. ⌜ now (obs .exit) ≡ observationImage (startObservation count) ⌝ }
 {
     observation::clear(obs);

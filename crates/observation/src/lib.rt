@@ -9,10 +9,12 @@ pub use observed_blocks::block_length;
 pub use observed_blocks::offset;
 pub use observed_marks::is_initialised;
 pub use observed_marks::is_valid;
+use rules::OBSERVATION_LENGTH;
+use rules::ObservationMemory;
 pub use stored_blocks::store_block;
 
-pub fn clear(obs: &mut [u8; 3064])
+pub fn clear(obs: &mut ObservationMemory)
     ensures { λ _. ⌜ now (obs .exit) ≡ observationImage emptyObservation ⌝ }
 {
-    byte_fills::fill_bytes(&mut obs[..], 0, 3064, 0);
+    byte_fills::fill_bytes(&mut obs[..], 0, OBSERVATION_LENGTH, 0);
 }

@@ -8,7 +8,7 @@ use mathlib.Core.List.{List, _++_}
 use lib.Dec.{eqb, ltb, leb}
 use lib.ListN.{length, getD, set, take, drop, length-drop, take-append-drop, List·getD-append}
 use lib.Seq.{length-take-le, getD-append-add, take-append-le, drop-append-le, set-out}
-use Rattle.rules.specs.Sizes.{nameCount, cellCount, observationLength}
+use Rattle.rules.specs.Sizes.{nameCount, cellCount, observationLength, blocksLength}
 use Rattle.rules.specs.Words.{little, put, wordAt, table, flat}
 use Rattle.rules.specs.Memory.{one, fill}
 use Rattle.rules.specs.Observation.{Observation, withMarks}
@@ -143,22 +143,24 @@ image-fill o first n b e =
     ∙ ap (λ (t : List ℕ). flat recordedBytes (o .blocks) ++ t) (flat-marks-fill (o .marks) first n b)
 
 module _ (l : List ℕ) (long : length l ≡ observationLength) (first n : ℕ) (b : Bool) where
-  front-length : length (take 2040 l) ≡ 2040
-  front-length = length-take-le 2040 l (omega arith)
+  front-length : length (take blocksLength l) ≡ blocksLength
+  front-length = length-take-le blocksLength l (omega arith)
 
-  split : fill l (markPlace first) n (one b) ≡ take 2040 l ++ fill (drop 2040 l) first n (one b)
+  split : fill l (markPlace first) n (one b) ≡ take blocksLength l ++ fill (drop blocksLength l) first n (one b)
   split =
-      ap (λ (t : List ℕ). fill t (markPlace first) n (one b)) (sym (take-append-drop 2040 l))
-      ∙ fill-right (one b) (take 2040 l) (drop 2040 l) first n (markPlace first) (omega (arith, front-length))
+      ap (λ (t : List ℕ). fill t (markPlace first) n (one b)) (sym (take-append-drop blocksLength l))
+      ∙ fill-right (one b) (take blocksLength l) (drop blocksLength l) first n (markPlace first)
+      (omega (arith, front-length))
 
   view-fill : observationOf (fill l (markPlace first) n (one b)) ≡ markRange (observationOf l) first n b
   view-fill =
-      let rest : length (drop 2040 l) ≡ cellCount = length-drop 2040 l ∙ omega arith in
-      ap observationOf split ∙ parts (take 2040 l) (fill (drop 2040 l) first n (one b)) front-length
-      ∙ ap (λ (x : List Bool). record { blocks = table 0 nameCount (recordedAt (take 2040 l)); marks = x })
-      (marks-fill (drop 2040 l) first n b rest)
+      let rest : length (drop blocksLength l) ≡ cellCount = length-drop blocksLength l ∙ omega arith in
+      ap observationOf split ∙ parts (take blocksLength l) (fill (drop blocksLength l) first n (one b)) front-length
+      ∙ ap (λ (x : List Bool). record { blocks = table 0 nameCount (recordedAt (take blocksLength l)); marks = x })
+      (marks-fill (drop blocksLength l) first n b rest)
       ∙ ap (λ (o : Observation). markRange o first n b)
-      (sym (parts (take 2040 l) (drop 2040 l) front-length) ∙ ap observationOf (take-append-drop 2040 l))
+      (sym (parts (take blocksLength l) (drop blocksLength l) front-length)
+      ∙ ap observationOf (take-append-drop blocksLength l))
 
   pub becomes-fill : ObservationBecomes l (fill l (markPlace first) n (one b)) (markRange (observationOf l) first n b)
   becomes-fill = record {

@@ -2,13 +2,16 @@
 ghost use mathlib.Core.Path.{_≡_};
 ghost use mathlib.Core.Bool.{false};
 ghost use Prim.Native.Nat.{_<_, _≤_};
+ghost use Rattle.rules.specs.Sizes.{nameCount};
 ghost use Rattle.rules.specs.Observation.{withMarks};
 ghost use Rattle.rules.specs.Layout.{blockRecord, recordedBytes, recordedFrom, observationOf};
 ghost use Rattle.observation_blocks.specs.Changes.{ObservationBecomes, withRecord, markRange};
+use rules::BLOCKS_LENGTH;
+use rules::ObservationMemory;
 use rules::Recorded;
 
-fn write_record(obs: &mut [u8; 3064], k: usize, state: u8, first: u16, n: u16)
-    requires { ⌜ (k < 255) × (recordedBytes (recordedFrom state first n) ≡ blockRecord state first n) ⌝ }
+fn write_record(obs: &mut ObservationMemory, k: usize, state: u8, first: u16, n: u16)
+    requires { ⌜ (k < nameCount) × (recordedBytes (recordedFrom state first n) ≡ blockRecord state first n) ⌝ }
     ensures { λ _. ⌜ ObservationBecomes (now (obs .entry)) (now (obs .exit))
         (withRecord (observationOf (now (obs .entry))) k (recordedFrom state first n)) ⌝ }
 {
@@ -19,18 +22,18 @@ fn write_record(obs: &mut [u8; 3064], k: usize, state: u8, first: u16, n: u16)
 }
 
 // Marks first, first + 1, .. are 0, n times or to the end.
-fn clear_marks(obs: &mut [u8; 3064], first: u16, n: u16)
+fn clear_marks(obs: &mut ObservationMemory, first: u16, n: u16)
     ensures { λ _. ⌜ ObservationBecomes (now (obs .entry)) (now (obs .exit))
         (markRange (observationOf (now (obs .entry))) first n false) ⌝ }
 {
     let at = first as usize;
     let count = n as usize;
-    byte_fills::fill_bytes(&mut obs[..], 2040 + at, count, 0);
+    byte_fills::fill_bytes(&mut obs[..], BLOCKS_LENGTH + at, count, 0);
 }
 
 // A name's block is live at n marks from first on, which are 0.
-pub fn place_block(obs: &mut [u8; 3064], name: u16, first: u16, n: u16)
-    requires { ⌜ (0 < name) × (name ≤ 255) ⌝ }
+pub fn place_block(obs: &mut ObservationMemory, name: u16, first: u16, n: u16)
+    requires { ⌜ (0 < name) × (name ≤ nameCount) ⌝ }
     ensures { λ _. ⌜ ObservationBecomes (now (obs .entry)) (now (obs .exit))
         (withMarks (observationOf (now (obs .entry))) name (Recorded.Live first n) first n) ⌝ }
 {
@@ -39,8 +42,8 @@ pub fn place_block(obs: &mut [u8; 3064], name: u16, first: u16, n: u16)
 }
 
 // A name's block is dead, and n marks from first on are 0.
-pub fn remove_block(obs: &mut [u8; 3064], name: u16, first: u16, n: u16)
-    requires { ⌜ (0 < name) × (name ≤ 255) ⌝ }
+pub fn remove_block(obs: &mut ObservationMemory, name: u16, first: u16, n: u16)
+    requires { ⌜ (0 < name) × (name ≤ nameCount) ⌝ }
     ensures { λ _. ⌜ ObservationBecomes (now (obs .entry)) (now (obs .exit))
         (withMarks (observationOf (now (obs .entry))) name Recorded.Dead first n) ⌝ }
 {

@@ -7,7 +7,7 @@ use mathlib.Core.Path.{_≡_, refl, sym, ap, ap₂, _∙_}
 use mathlib.Core.Bool.{false}
 use mathlib.Core.List.{List, _++_}
 use lib.ListN.{length, getD, replicate, replicate-append-replicate, List·getD-eq-default}
-use Rattle.rules.specs.Sizes.{nameCount, cellCount, observationLength}
+use Rattle.rules.specs.Sizes.{nameCount, cellCount, observationLength, blocksLength}
 use Rattle.rules.specs.Words.{digits, wordAt}
 use Rattle.rules.specs.Observation.{recordOf, markOf, emptyObservation}
 use Rattle.rules.specs.Layout.{blockPlace, recordedFrom, recordedAt, markAt, observationOf, observationImage}
@@ -99,4 +99,4 @@ unfolding observationImage recordedBytes digits
 empty-image =
     ap₂ (λ (x y : List ℕ). x ++ y) (flat-all recordedBytes recorded.Unused 8 nameCount refl)
     (flat-all markBytes false 1 cellCount refl)
-    ∙ replicate-append-replicate 2040 1024 0
+    ∙ replicate-append-replicate blocksLength cellCount 0

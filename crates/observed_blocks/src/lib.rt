@@ -7,6 +7,7 @@ ghost use Rattle.rules.specs.Observation.{queryObservation};
 ghost use Rattle.rules.specs.Layout.{observationOf};
 ghost use Rattle.observed_blocks.specs.Spans.{spanOf};
 use rules::Evaluated;
+use rules::ObservationMemory;
 use rules::Pointer;
 use rules::Recorded;
 use rules::Value;
@@ -33,7 +34,7 @@ fn span_of(b: Recorded) -> i64
     }
 }
 
-pub fn base_address(obs: &[u8; 3064], v: Value) -> Evaluated
+pub fn base_address(obs: &ObservationMemory, v: Value) -> Evaluated
     ensures { λ r. ⌜ r ≡ queryObservation base (observationOf (now (obs .entry))) v ⌝ }
 {
     match v {
@@ -50,7 +51,7 @@ pub fn base_address(obs: &[u8; 3064], v: Value) -> Evaluated
     }
 }
 
-pub fn offset(obs: &[u8; 3064], v: Value) -> Evaluated
+pub fn offset(obs: &ObservationMemory, v: Value) -> Evaluated
     ensures { λ r. ⌜ r ≡ queryObservation offset (observationOf (now (obs .entry))) v ⌝ }
 {
     match v {
@@ -63,7 +64,7 @@ pub fn offset(obs: &[u8; 3064], v: Value) -> Evaluated
     }
 }
 
-pub fn block_length(obs: &[u8; 3064], v: Value) -> Evaluated
+pub fn block_length(obs: &ObservationMemory, v: Value) -> Evaluated
     ensures { λ r. ⌜ r ≡ queryObservation blockLength (observationOf (now (obs .entry))) v ⌝ }
 {
     match v {

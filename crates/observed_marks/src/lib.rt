@@ -4,8 +4,11 @@ ghost use Rattle.rules.specs.Trees.{valid, initialised};
 ghost use Rattle.rules.specs.Evaluation.{isValid, initialisedAt};
 ghost use Rattle.rules.specs.Observation.{markOf, queryObservation};
 ghost use Rattle.rules.specs.Layout.{observationOf};
+use rules::BLOCKS_LENGTH;
+use rules::CELL_COUNT;
 use rules::Evaluated;
 use rules::Located;
+use rules::ObservationMemory;
 use rules::Value;
 
 fn is_place(at: Located) -> bool
@@ -18,13 +21,17 @@ fn is_place(at: Located) -> bool
     }
 }
 
-fn is_marked(obs: &[u8; 3064], i: usize) -> bool
+fn is_marked(obs: &ObservationMemory, i: usize) -> bool
     ensures { λ r. ⌜ r ≡ markOf (observationOf (now (obs .entry))) i ⌝ }
 {
-    if i < 1024 { obs[2040 + i] == 1 } else { false }
+    if i < CELL_COUNT {
+        obs[BLOCKS_LENGTH + i] == 1
+    } else {
+        false
+    }
 }
 
-fn is_marked_place(obs: &[u8; 3064], at: Located) -> bool
+fn is_marked_place(obs: &ObservationMemory, at: Located) -> bool
     ensures { λ r. ⌜ r ≡ initialisedAt (markOf (observationOf (now (obs .entry)))) at ⌝ }
 {
     match at {
@@ -34,7 +41,7 @@ fn is_marked_place(obs: &[u8; 3064], at: Located) -> bool
     }
 }
 
-pub fn is_valid(obs: &[u8; 3064], v: Value) -> Evaluated
+pub fn is_valid(obs: &ObservationMemory, v: Value) -> Evaluated
     ensures { λ r. ⌜ r ≡ queryObservation valid (observationOf (now (obs .entry))) v ⌝ }
 {
     match v {
@@ -44,7 +51,7 @@ pub fn is_valid(obs: &[u8; 3064], v: Value) -> Evaluated
     }
 }
 
-pub fn is_initialised(obs: &[u8; 3064], v: Value) -> Evaluated
+pub fn is_initialised(obs: &ObservationMemory, v: Value) -> Evaluated
     ensures { λ r. ⌜ r ≡ queryObservation initialised (observationOf (now (obs .entry))) v ⌝ }
 {
     match v {

@@ -1,11 +1,12 @@
 -- The entry: the table with bytes behind it, the start, and what is copied out.
-use Prim.Native.Nat.{ℕ, _+_, _≤_}
+use Prim.Native.Nat.{ℕ, _+_, _*_, _≤_}
 use native.Mathlib.Nat.{le-refl}
 use native.Mathlib.Omega.{arith}
 use mathlib.Core.Bool.{Bool, true, false}
 use mathlib.Core.List.{List}
 use mathlib.Core.Path.{_≡_, refl, sym, ap, _∙_, subst}
 use lib.ListN.{length, drop}
+use Rattle.rules.specs.Sizes.{targetLimit, memoryLength}
 use Rattle.rules.specs.Words.{put}
 use Rattle.rules.specs.Records.{recordCount}
 use Rattle.rules.specs.Kinds.{source}
@@ -35,7 +36,7 @@ use Rattle.plain.specs.Answering.{AnsweredBy}
 
 -- ---- the start
 module _ (t l : List ℕ) (h : check source t ≡ checked.Accepted) where
-  pub table-length : length t ≤ 65536
+  pub table-length : length t ≤ targetLimit * 16
   table-length = let a = accepted-program source t h in omega (arith, a .whole, a .not-too-many)
 
   pub same-program : statementAt (put l 0 t) (recordCount t) ≡ sourceProgram t
@@ -66,7 +67,7 @@ module _ (i : List ℕ) (e : inputsFault i ≡ false) (l : List ℕ) (s : l ≡ 
 
   -- what a run leaves has its length
   pub exit-length : (t : List ℕ) (f : ℕ) (r : Ended) (l₁ : List ℕ) → check source t ≡ checked.Accepted
-      → Ran (run (sourceProgram t) startVariables (memoryOf l) f) r l l₁ → length l₁ ≡ 18424
+      → Ran (run (sourceProgram t) startVariables (memoryOf l) f) r l l₁ → length l₁ ≡ memoryLength
   exit-length t f r l₁ h w =
       let o = plainOutcome t i f in
       let v : Ran o r l l₁ = ran-is (ap (λ (m : Memory). ending (run (sourceProgram t) startVariables m f)) (sym start-view)) w in

@@ -16,25 +16,30 @@ ghost use Rattle.plain.specs.Answering.{AnsweredBy};
 use endings::Ended;
 use rules::Answer;
 use rules::Checked;
+use rules::ExecutionMemory;
+use rules::MEMORY_LENGTH;
+use rules::TABLE_LENGTH;
+use rules::TEMPORARIES_LENGTH;
+use rules::Table;
 
 // Runs statement n with the variables and temporaries of the start.
-fn run_from_start(table: &[u8; 65536], n: usize, mem: &mut [u8; 18424], fuel: u32) -> Ended
+fn run_from_start(table: &Table, n: usize, mem: &mut ExecutionMemory, fuel: u32) -> Ended
     requires { ⌜ Ready (now table) n startVariables (memoryOf (now mem)) ⌝ }
     ensures { λ r. ⌜ Ran (run (statementAt (now (table .entry)) n) startVariables (memoryOf (now (mem .entry))) fuel) r
         (now (mem .entry)) (now (mem .exit)) ⌝ }
 {
     let variables = variables::start_variables();
-    let temporaries = [0u8; 1024];
+    let temporaries = [0u8; TEMPORARIES_LENGTH];
     plain_runs::run(table, n, &variables, &temporaries, mem, fuel)
 }
 
 // Runs an accepted table from a memory that holds the inputs.
-fn run_table(table: &[u8], mem: &mut [u8; 18424], fuel: u32) -> Ended
+fn run_table(table: &[u8], mem: &mut ExecutionMemory, fuel: u32) -> Ended
     requires { ⌜ (check source (now table) ≡ checked.Accepted) × FitsMemory (memoryOf (now mem)) ⌝ }
     ensures { λ r. ⌜ Ran (run (sourceProgram (now (table .entry))) startVariables (memoryOf (now (mem .entry))) fuel) r
         (now (mem .entry)) (now (mem .exit)) ⌝ }
 {
-    let mut whole = [0u8; 65536];
+    let mut whole = [0u8; TABLE_LENGTH];
     buffers::copy(&mut whole[..], table);
     run_from_start(&whole, table.len() / 16, mem, fuel)
 }
@@ -46,7 +51,7 @@ fn run_inputs(table: &[u8], inputs: &[u8], fuel: u32, memory: &mut [u8]) -> Answ
     ensures { λ r. ⌜ AnsweredBy (plainEnded (ending (plainOutcome (now (table .entry)) (now (inputs .entry)) fuel))) r
         (now (memory .exit)) ⌝ }
 {
-    let mut mem = [0u8; 18424];
+    let mut mem = [0u8; MEMORY_LENGTH];
     starting::start(&mut mem, inputs);
     let r = run_table(table, &mut mem, fuel);
     let free_cells = blocks::count_free(&mem);
@@ -68,7 +73,7 @@ fn run_accepted(table: &[u8], inputs: &[u8], fuel: u32, memory: &mut [u8]) -> An
     if buffers::has_inputs_fault(inputs) {
         return endings::refuse(9, 0);
     }
-    if memory.len() != 18424 {
+    if memory.len() != MEMORY_LENGTH {
         return endings::refuse(21, 0);
     }
     run_inputs(table, inputs, fuel, memory)

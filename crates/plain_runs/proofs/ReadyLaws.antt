@@ -5,6 +5,7 @@ use mathlib.Core.List.{List}
 use mathlib.Core.Path.{_≡_, refl, subst}
 use mir.Syntax.{w32}
 use mir.Val.{Fits}
+use Rattle.rules.specs.Layout.{nameLimit}
 use Rattle.rules.specs.Kinds.{source, expression, statement}
 use Rattle.rules.specs.Nodes.{SourceNode, sourceStatement}
 use Rattle.rules.specs.Records.{kindOf, markOf, childA, childB, childC}
@@ -107,7 +108,7 @@ module _ {t : List ℕ} {n : ℕ} {ρ : Variables} {m : Memory} (r : Ready t n �
       ready-part (childB t n) (while-parts e .1)
       (sound-while source t n (r .is) (r .scope) (r .sound) e) k
 
-  pub ready-inside : kindOf t n ≡ 47 → (k : ℕ) → k < 256 → {m₁ : Memory} → FitsMemory m₁
+  pub ready-inside : kindOf t n ≡ 47 → (k : ℕ) → k < nameLimit → {m₁ : Memory} → FitsMemory m₁
       → Ready t (childA t n) (extend ρ (markOf t n) k) m₁
   ready-inside e k l f =
       record {

@@ -12,15 +12,19 @@ ghost use Rattle.evaluation.specs.State.{variablesOf};
 ghost use Rattle.plain_runs.specs.Running.{Ready, Inside, enclosed, Ran};
 use blocks::Making;
 use endings::Ended;
+use rules::ExecutionMemory;
+use rules::Table;
+use rules::Temporaries;
 use rules::Test;
+use rules::Variables;
 
 // What condition A says.
 fn test_a(
-    table: &[u8; 65536],
+    table: &Table,
     n: usize,
-    variables: &[u16; 64],
-    temporaries: &[u8; 1024],
-    mem: &[u8; 18424],
+    variables: &Variables,
+    temporaries: &Temporaries,
+    mem: &ExecutionMemory,
 ) -> Test
     requires { ⌜ Within (now table) n × HasSort expression (now table) (childA (now table) n) ⌝ }
     ensures { λ r. ⌜ r ≡ condition (evaluateSource (expressionAt (now (table .entry)) (childA (now (table .entry)) n))
@@ -31,11 +35,11 @@ fn test_a(
 
 // What predicate A says.
 fn test_predicate(
-    table: &[u8; 65536],
+    table: &Table,
     n: usize,
-    variables: &[u16; 64],
-    temporaries: &[u8; 1024],
-    mem: &[u8; 18424],
+    variables: &Variables,
+    temporaries: &Temporaries,
+    mem: &ExecutionMemory,
 ) -> Test
     requires { ⌜ Within (now table) n × HasSort predicate (now table) (childA (now table) n) ⌝ }
     ensures { λ r. ⌜ r ≡ condition (evaluatePredicate (predicateAt (now (table .entry)) (childA (now (table .entry)) n))
@@ -47,11 +51,11 @@ fn test_predicate(
 
 // Place A takes expression B.
 fn assign(
-    table: &[u8; 65536],
+    table: &Table,
     n: usize,
-    variables: &[u16; 64],
-    temporaries: &[u8; 1024],
-    mem: &mut [u8; 18424],
+    variables: &Variables,
+    temporaries: &Temporaries,
+    mem: &mut ExecutionMemory,
     fuel: u32,
 ) -> Ended
     requires { ⌜ Ready (now table) n (variablesOf (now variables)) (memoryOf (now mem))
@@ -66,11 +70,11 @@ fn assign(
 
 // Place A takes a new block of B cells.
 fn allocate(
-    table: &[u8; 65536],
+    table: &Table,
     n: usize,
-    variables: &[u16; 64],
-    temporaries: &[u8; 1024],
-    mem: &mut [u8; 18424],
+    variables: &Variables,
+    temporaries: &Temporaries,
+    mem: &mut ExecutionMemory,
     fuel: u32,
 ) -> Ended
     requires { ⌜ Ready (now table) n (variablesOf (now variables)) (memoryOf (now mem))
@@ -85,11 +89,11 @@ fn allocate(
 
 // What A points to is freed.
 fn release(
-    table: &[u8; 65536],
+    table: &Table,
     n: usize,
-    variables: &[u16; 64],
-    temporaries: &[u8; 1024],
-    mem: &mut [u8; 18424],
+    variables: &Variables,
+    temporaries: &Temporaries,
+    mem: &mut ExecutionMemory,
     fuel: u32,
 ) -> Ended
     requires { ⌜ Ready (now table) n (variablesOf (now variables)) (memoryOf (now mem))
@@ -103,11 +107,11 @@ fn release(
 
 // Predicate A is asserted.
 fn assert(
-    table: &[u8; 65536],
+    table: &Table,
     n: usize,
-    variables: &[u16; 64],
-    temporaries: &[u8; 1024],
-    mem: &mut [u8; 18424],
+    variables: &Variables,
+    temporaries: &Temporaries,
+    mem: &mut ExecutionMemory,
     fuel: u32,
 ) -> Ended
     requires { ⌜ Ready (now table) n (variablesOf (now variables)) (memoryOf (now mem))
@@ -121,11 +125,11 @@ fn assert(
 
 // Runs statement n. Of a sequence A runs, and B where A finished; as B may be one again, they are a loop.
 pub fn run(
-    table: &[u8; 65536],
+    table: &Table,
     n: usize,
-    variables: &[u16; 64],
-    temporaries: &[u8; 1024],
-    mem: &mut [u8; 18424],
+    variables: &Variables,
+    temporaries: &Temporaries,
+    mem: &mut ExecutionMemory,
     fuel: u32,
 ) -> Ended
     requires { ⌜ Ready (now table) n (variablesOf (now variables)) (memoryOf (now mem)) ⌝ }
@@ -148,11 +152,11 @@ pub fn run(
 
 // Runs statement n, which is no sequence.
 fn run_single(
-    table: &[u8; 65536],
+    table: &Table,
     n: usize,
-    variables: &[u16; 64],
-    temporaries: &[u8; 1024],
-    mem: &mut [u8; 18424],
+    variables: &Variables,
+    temporaries: &Temporaries,
+    mem: &mut ExecutionMemory,
     fuel: u32,
 ) -> Ended
     requires { ⌜ Ready (now table) n (variablesOf (now variables)) (memoryOf (now mem))
@@ -178,11 +182,11 @@ fn run_single(
 
 // B where condition A is true, else C.
 fn branch(
-    table: &[u8; 65536],
+    table: &Table,
     n: usize,
-    variables: &[u16; 64],
-    temporaries: &[u8; 1024],
-    mem: &mut [u8; 18424],
+    variables: &Variables,
+    temporaries: &Temporaries,
+    mem: &mut ExecutionMemory,
     fuel: u32,
 ) -> Ended
     requires { ⌜ Ready (now table) n (variablesOf (now variables)) (memoryOf (now mem))
@@ -217,11 +221,11 @@ fn branch(
 
 // B for as long as condition A is true. Each turn takes its unit of fuel before the condition.
 fn repeat(
-    table: &[u8; 65536],
+    table: &Table,
     n: usize,
-    variables: &[u16; 64],
-    temporaries: &[u8; 1024],
-    mem: &mut [u8; 18424],
+    variables: &Variables,
+    temporaries: &Temporaries,
+    mem: &mut ExecutionMemory,
     fuel: u32,
 ) -> Ended
     requires { ⌜ Ready (now table) n (variablesOf (now variables)) (memoryOf (now mem))
@@ -266,11 +270,11 @@ fn repeat(
 
 // A, with a new block of one cell for the variable.
 fn enclose(
-    table: &[u8; 65536],
+    table: &Table,
     n: usize,
-    variables: &[u16; 64],
-    temporaries: &[u8; 1024],
-    mem: &mut [u8; 18424],
+    variables: &Variables,
+    temporaries: &Temporaries,
+    mem: &mut ExecutionMemory,
     fuel: u32,
 ) -> Ended
     requires { ⌜ Ready (now table) n (variablesOf (now variables)) (memoryOf (now mem))
@@ -290,11 +294,11 @@ fn enclose(
 
 // Child A of statement n, its variable being block k, which then ends where A finished.
 fn run_inside(
-    table: &[u8; 65536],
+    table: &Table,
     n: usize,
-    variables: &[u16; 64],
-    temporaries: &[u8; 1024],
-    mem: &mut [u8; 18424],
+    variables: &Variables,
+    temporaries: &Temporaries,
+    mem: &mut ExecutionMemory,
     fuel: u32,
     k: u16,
 ) -> Ended

@@ -3,6 +3,7 @@ ghost use mathlib.Core.Path.{_≡_};
 ghost use Rattle.rules.specs.Memory.{recordedOf, locatedIn, locate};
 ghost use Rattle.rules.specs.Layout.{memoryOf};
 use rules::Block;
+use rules::ExecutionMemory;
 use rules::Located;
 use rules::Pointer;
 
@@ -19,7 +20,7 @@ fn within(b: Block, offset: i64) -> Located
 }
 
 // Where a pointer leads.
-pub fn locate(mem: &[u8; 18424], p: Pointer) -> Located
+pub fn locate(mem: &ExecutionMemory, p: Pointer) -> Located
     ensures { λ r. ⌜ r ≡ locate (memoryOf (now (mem .entry))) p ⌝ }
 {
     within(cells::block(mem, p.name), p.offset)

@@ -9,8 +9,12 @@ ghost use Rattle.rules.specs.declared.Evaluated.the-variants as evaluated;
 ghost use Rattle.evaluation.specs.State.{variablesOf};
 ghost use Rattle.predicates.specs.Joints.{jointOf};
 use rules::Evaluated;
+use rules::ExecutionMemory;
 use rules::Pointer;
+use rules::Table;
+use rules::Temporaries;
 use rules::Value;
+use rules::Variables;
 
 // What A of an 'and' or an 'or' decides: the whole, or nothing, so that B does.
 pub enum Joint {
@@ -32,7 +36,7 @@ fn combine(k: u8, a: Evaluated, b: Evaluated) -> Evaluated
 }
 
 // A query of what a term gave: 40 where it is no pointer.
-fn ask(mem: &[u8; 18424], q: u8, e: Evaluated) -> Evaluated
+fn ask(mem: &ExecutionMemory, q: u8, e: Evaluated) -> Evaluated
     ensures { λ r. ⌜ r ≡ onValue e evaluated.Stopped (queryMemory (queryOf q) (memoryOf (now (mem .entry)))) ⌝ }
 {
     match e {
@@ -77,11 +81,11 @@ fn join(either: bool, a: Evaluated) -> Joint
 
 // The value of term n of a source table, on the execution memory. Its expressions name no temporary.
 fn evaluate_term(
-    table: &[u8; 65536],
+    table: &Table,
     n: usize,
-    variables: &[u16; 64],
-    temporaries: &[u8; 1024],
-    mem: &[u8; 18424],
+    variables: &Variables,
+    temporaries: &Temporaries,
+    mem: &ExecutionMemory,
 ) -> Evaluated
     requires { ⌜ sortOfNode source (nodeAt source (now table) n) ≡ sortNumber term ⌝ }
     ensures { λ r. ⌜ r ≡ evaluateTerm (asTerm (nodeAt source (now (table .entry)) n))
@@ -107,11 +111,11 @@ fn evaluate_term(
 
 // What predicate n of a source table gives, on the execution memory.
 pub fn evaluate_predicate(
-    table: &[u8; 65536],
+    table: &Table,
     n: usize,
-    variables: &[u16; 64],
-    temporaries: &[u8; 1024],
-    mem: &[u8; 18424],
+    variables: &Variables,
+    temporaries: &Temporaries,
+    mem: &ExecutionMemory,
 ) -> Evaluated
     requires { ⌜ sortOfNode source (nodeAt source (now table) n) ≡ sortNumber predicate ⌝ }
     ensures { λ r. ⌜ r ≡ evaluatePredicate (asPredicate (nodeAt source (now (table .entry)) n))

@@ -6,8 +6,9 @@ use mathlib.Core.Path.{_≡_, sym, ap, _∙_, subst}
 use mathlib.Core.Bool.{Bool, true, false}
 use mathlib.Core.List.{List}
 use lib.Dec.{T}
+use Rattle.rules.specs.Sizes.{nameCount}
 use Rattle.rules.specs.Memory.{recordedOf, blockOf}
-use Rattle.rules.specs.Layout.{memoryOf}
+use Rattle.rules.specs.Layout.{memoryOf, nameLimit}
 use Rattle.rules.specs.declared.Block.{Block}
 use Rattle.rules.specs.declared.Recorded.{Recorded}
 use Rattle.rules.specs.declared.Recorded.the-variants as recorded
@@ -18,12 +19,13 @@ isLive recorded.Unused = false
 isLive (recorded.Live first n) = true
 isLive recorded.Dead = false
 
-pub live-name : (l : List ℕ) (k first n : ℕ) → recordedOf (blockOf (memoryOf l) k) ≡ recorded.Live first n → k < 256
-live-name l k first n e = pick (decLt 255 k)
+pub live-name : (l : List ℕ) (k first n : ℕ) → recordedOf (blockOf (memoryOf l) k) ≡ recorded.Live first n
+    → k < nameLimit
+live-name l k first n e = pick (decLt nameCount k)
   where
-    none : 255 < k → _≡_ {A = Bool} true false
+    none : nameCount < k → _≡_ {A = Bool} true false
     none h = ap isLive (sym e) ∙ ap (λ (b : Block). isLive (recordedOf b)) (sym (block-past l k h))
 
-    pick : Dec (255 < k) → k < 256
+    pick : Dec (nameCount < k) → k < nameLimit
     pick (yes h) = absurd (subst T (none h) tt)
     pick (no f) = omega arith

@@ -4,13 +4,14 @@ ghost use Prim.Native.Nat.{_<_};
 ghost use Rattle.rules.specs.Memory.{recordedOf, blockOf, cellOf};
 ghost use Rattle.rules.specs.Evaluation.{isInitialised, isValid, initialisedAt, ofLive, queried};
 ghost use Rattle.rules.specs.Nodes.{queryOf};
-ghost use Rattle.rules.specs.Layout.{memoryOf};
+ghost use Rattle.rules.specs.Layout.{memoryOf, nameLimit};
 ghost use Rattle.rules.specs.declared.Evaluated.the-variants as evaluated;
 ghost use Rattle.cells.specs.Changes.{EvaluatedFits};
 ghost use Rattle.queries.specs.Queries.{description};
 use rules::Block;
 use rules::Cell;
 use rules::Evaluated;
+use rules::ExecutionMemory;
 use rules::Located;
 use rules::Pointer;
 use rules::Value;
@@ -38,7 +39,7 @@ fn is_valid(l: Located) -> bool
     }
 }
 
-fn is_initialised(mem: &[u8; 18424], l: Located) -> bool
+fn is_initialised(mem: &ExecutionMemory, l: Located) -> bool
     ensures { λ r. ⌜ r ≡ initialisedAt (λ i. isInitialised (cellOf (memoryOf (now (mem .entry))) i)) l ⌝ }
 {
     match l {
@@ -50,7 +51,7 @@ fn is_initialised(mem: &[u8; 18424], l: Located) -> bool
 
 // Base, offset or length, of a block of n cells.
 fn describe(q: u8, p: Pointer, n: u16) -> Evaluated
-    requires { ⌜ p .name < 256 ⌝ }
+    requires { ⌜ p .name < nameLimit ⌝ }
     ensures value { λ r. ⌜ r ≡ evaluated.Value (description q p n) ⌝ }
     ensures names { λ r. ⌜ EvaluatedFits r ⌝ }
 {
@@ -65,7 +66,7 @@ fn describe(q: u8, p: Pointer, n: u16) -> Evaluated
 }
 
 // Base, offset or length: 47 where the block is not live.
-fn query_block(mem: &[u8; 18424], q: u8, p: Pointer) -> Evaluated
+fn query_block(mem: &ExecutionMemory, q: u8, p: Pointer) -> Evaluated
     ensures value { λ r. ⌜ r ≡ ofLive (recordedOf (blockOf (memoryOf (now (mem .entry))) (p .name)))
         (description q p) ⌝ }
     ensures names { λ r. ⌜ EvaluatedFits r ⌝ }
@@ -79,7 +80,7 @@ fn query_block(mem: &[u8; 18424], q: u8, p: Pointer) -> Evaluated
 }
 
 // The five queries of a pointer, by their numbers.
-pub fn query(mem: &[u8; 18424], q: u8, p: Pointer) -> Evaluated
+pub fn query(mem: &ExecutionMemory, q: u8, p: Pointer) -> Evaluated
     ensures value { λ r. ⌜ r ≡ queried (queryOf q) (recordedOf (blockOf (memoryOf (now (mem .entry))) (p .name)))
         (λ i. isInitialised (cellOf (memoryOf (now (mem .entry))) i)) p ⌝ }
     ensures names { λ r. ⌜ EvaluatedFits r ⌝ }

@@ -9,6 +9,7 @@ use borrow.Author.Tests.{eq-eqb, ne-eqb, le-ltb}
 use lib.Dec.{eqb, ltb}
 use lib.ListN.{length, take, drop, length-append}
 use lib.Seq.{take-at}
+use Rattle.rules.specs.Sizes.{memoryLength, observationLength}
 use Rattle.rules.specs.Words.{put}
 use Rattle.rules.specs.Records.{recordCount}
 use Rattle.rules.specs.Kinds.{source, target}
@@ -54,8 +55,8 @@ module _ (t i : List ℕ) (f : ℕ) (x : Lent) where
       → runBoth t i f x ≡ bothTested false false false s t i f x
   room-tested s h e =
       accepted-runs false false false s (h .accepted) (h .inputs)
-      (λ j. right-length (x .memory) 18424 (h .memory) j || right-length (x .second) 18424 (h .second) j)
-      (right-length (x .observation) 3064 (h .observation)) e
+      (λ j. right-length (x .memory) memoryLength (h .memory) j || right-length (x .second) memoryLength (h .second) j)
+      (right-length (x .observation) observationLength (h .observation)) e
 
   agreed : (y : BothRuns) → Ready t i x → y ≡ bothRan t i f x → Agreed t i f y
   agreed y h e =

@@ -1,6 +1,8 @@
 // The entry points that a C host links, documented in include/recorder.h; and demand 3 of them, which is `run_both`.
 use rules::Answer;
 use rules::Checked;
+use rules::MEMORY_LENGTH;
+use rules::OBSERVATION_LENGTH;
 ghost use mathlib.Core.Path.{_≡_};
 ghost use Rattle.rules.specs.Answers.{answer, checkedAnswer, checkSource, checkTarget};
 ghost use Rattle.rules.specs.Answers.{translateSource, runPlain, runWatched};
@@ -173,13 +175,13 @@ fn run_accepted(
     if buffers::has_inputs_fault(inputs) {
         return refuse_both(9, 0);
     }
-    if memory.len() != 18424 {
+    if memory.len() != MEMORY_LENGTH {
         return refuse_both(21, 0);
     }
-    if second.len() != 18424 {
+    if second.len() != MEMORY_LENGTH {
         return refuse_both(21, 0);
     }
-    if observation.len() != 3064 {
+    if observation.len() != OBSERVATION_LENGTH {
         return refuse_both(22, 0);
     }
     run_translated(table, inputs, fuel, out, memory, second, observation)

@@ -9,6 +9,7 @@ use lib.ListN.{length, set, replicate, take, drop}
 use lib.Seq.{drop-drop}
 use mir.Syntax.{w64}
 use mir.Val.{toZ}
+use Rattle.rules.specs.Sizes.{nameCount, cellCount}
 use Rattle.rules.specs.Words.{little, wordAt, integerAt}
 use Rattle.rules.specs.Memory.{Memory, setCell, startMemory}
 use Rattle.rules.specs.Answers.{numbersIn, inputsOf}
@@ -70,40 +71,41 @@ more-cells i n r =
     ∙ ap (λ (l : List Cell). l ++ replicate r cell.Free)
     (sym (ap (map input-cell) (numbers-more n i) ∙ map-snoc input-cell (numbersIn n i) (integerAt i (n * 8))))
 
-module _ (m : Memory) (c : Cell) (i : List ℕ) (e : m .cells ≡ c ∷ replicate 1023 cell.Free) where
+module _ (m : Memory) (c : Cell) (i : List ℕ) (e : m .cells ≡ c ∷ replicate (cellCount - 1) cell.Free) where
   inputs-blocks : (n : ℕ) → withInputs m i n .blocks ≡ m .blocks
   unfolding withInputs
   inputs-blocks zero = refl
   inputs-blocks (suc n) = inputs-blocks n
 
-  inputs-cells : (n : ℕ) → n ≤ 1023
-      → withInputs m i n .cells ≡ c ∷ (map input-cell (numbersIn n i) ++ replicate (1023 - n) cell.Free)
+  inputs-cells : (n : ℕ) → n ≤ cellCount - 1
+      → withInputs m i n .cells ≡ c ∷ (map input-cell (numbersIn n i) ++ replicate (cellCount - 1 - n) cell.Free)
   unfolding withInputs
   inputs-cells zero h = e
   inputs-cells (suc n) h =
-      let r : 1023 - n ≡ suc (1023 - suc n) = omega arith in
+      let r : cellCount - 1 - n ≡ suc (cellCount - 1 - suc n) = omega arith in
       ap (λ (l : List Cell). set l (suc n) (input-cell (integerAt i (n * 8))))
       (inputs-cells n (omega arith)
       ∙ ap (λ (k : ℕ). c ∷ (map input-cell (numbersIn n i) ++ replicate k cell.Free)) r)
-      ∙ ap (λ (l : List Cell). c ∷ l) (more-cells i n (1023 - suc n))
+      ∙ ap (λ (l : List Cell). c ∷ l) (more-cells i n (cellCount - 1 - suc n))
 
 length-inputs : (n : ℕ) (i : List ℕ) → length (numbersIn n i) ≡ n
 length-inputs zero i = refl
 length-inputs (suc n) i = ap suc (length-inputs n (drop 8 i))
 
-start-memory : (i : List ℕ) (n : ℕ) → n ≤ 1023 → withInputs (withStart emptyMemory n) i n ≡ startMemory (numbersIn n i)
+start-memory : (i : List ℕ) (n : ℕ) → n ≤ cellCount - 1
+    → withInputs (withStart emptyMemory n) i n ≡ startMemory (numbersIn n i)
 unfolding startMemory
 start-memory i n h =
     let c : Cell = cell.Holds 1 (value.Pointer (record { name = 2; offset = pos 0 })) in
     let k : n ≡ length (numbersIn n i) = sym (length-inputs n i) in
     let b = inputs-blocks (withStart emptyMemory n) c i refl n
-    ∙ ap (λ (j : ℕ). block.Fixed 0 1 ∷ block.Fixed 1 j ∷ replicate 253 block.Unused) k in
+    ∙ ap (λ (j : ℕ). block.Fixed 0 1 ∷ block.Fixed 1 j ∷ replicate (nameCount - 2) block.Unused) k in
     let l = inputs-cells (withStart emptyMemory n) c i refl n h
-    ∙ ap (λ (j : ℕ). c ∷ (map input-cell (numbersIn n i) ++ replicate (1023 - j) cell.Free)) k in
+    ∙ ap (λ (j : ℕ). c ∷ (map input-cell (numbersIn n i) ++ replicate (cellCount - 1 - j) cell.Free)) k in
     λ t. record { blocks = b t; cells = l t }
 
 -- from cleared bytes through the two steps
-pub start-bytes : (l₁ l₂ l₃ i : List ℕ) (n : ℕ) → n ≡ length i / 8 → n ≤ 1023 → l₁ ≡ memoryImage emptyMemory
+pub start-bytes : (l₁ l₂ l₃ i : List ℕ) (n : ℕ) → n ≡ length i / 8 → n ≤ cellCount - 1 → l₁ ≡ memoryImage emptyMemory
     → Becomes l₁ l₂ (withStart (memoryOf l₁) n) → Becomes l₂ l₃ (withInputs (memoryOf l₂) i n)
     → l₃ ≡ memoryImage (startMemory (inputsOf i))
 start-bytes l₁ l₂ l₃ i n e h a b d =

@@ -2,6 +2,7 @@
 ghost use mathlib.Core.Path.{_≡_};
 ghost use Prim.Native.Nat.{_*_, _≤_};
 ghost use lib.ListN.{length};
+ghost use Rattle.rules.specs.Sizes.{inputLimit};
 ghost use Rattle.rules.specs.Memory.{startMemory};
 ghost use Rattle.rules.specs.Answers.{inputsOf};
 ghost use Rattle.rules.specs.Layout.{memoryOf, memoryImage};
@@ -9,11 +10,12 @@ ghost use Rattle.cells.specs.Changes.{Becomes};
 ghost use Rattle.starting.specs.Starting.{withStart, withInputs};
 use rules::Block;
 use rules::Cell;
+use rules::ExecutionMemory;
 use rules::Pointer;
 use rules::Value;
 
 // The first n inputs go into the cells from 1 on.
-fn put_inputs(mem: &mut [u8; 18424], inputs: &[u8], n: usize)
+fn put_inputs(mem: &mut ExecutionMemory, inputs: &[u8], n: usize)
     requires { ⌜ n * 8 ≤ length (now inputs) ⌝ }
     ensures { λ _. ⌜ Becomes (now (mem .entry)) (now (mem .exit))
         (withInputs (memoryOf (now (mem .entry))) (now (inputs .entry)) n) ⌝ }
@@ -27,7 +29,7 @@ fn put_inputs(mem: &mut [u8; 18424], inputs: &[u8], n: usize)
 }
 
 // Blocks 1 and 2, and the cell of block 1.
-fn put_start(mem: &mut [u8; 18424], n: u16)
+fn put_start(mem: &mut ExecutionMemory, n: u16)
     ensures { λ _. ⌜ Becomes (now (mem .entry)) (now (mem .exit)) (withStart (memoryOf (now (mem .entry))) n) ⌝ }
 {
     block_changes::put_block(mem, 1, Block::Fixed(0, 1));
@@ -37,8 +39,8 @@ fn put_start(mem: &mut [u8; 18424], n: u16)
 }
 
 // The memory that a run starts with, whatever the bytes were.
-pub fn start(mem: &mut [u8; 18424], inputs: &[u8])
-    requires { ⌜ length (now inputs) ≤ 2048 ⌝ }
+pub fn start(mem: &mut ExecutionMemory, inputs: &[u8])
+    requires { ⌜ length (now inputs) ≤ inputLimit * 8 ⌝ }
     ensures { λ _. ⌜ now (mem .exit) ≡ memoryImage (startMemory (inputsOf (now (inputs .entry)))) ⌝ }
 {
     let n = inputs.len() / 8;

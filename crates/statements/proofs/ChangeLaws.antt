@@ -10,7 +10,7 @@ use lib.IntN.{ℤ, pos, negsuc, natAbs}
 use lib.Signed.{ltZ, nonNeg}
 use Rattle.rules.specs.Memory.{Memory, Change, stopped, Made, made, unmade, Use, freeable, makeBlock, nextName}
 use Rattle.rules.specs.Memory.{freeRun, storeCell, storeNew, newOfSize}
-use Rattle.rules.specs.Layout.{memoryOf}
+use Rattle.rules.specs.Layout.{memoryOf, nameLimit}
 use Rattle.rules.specs.declared.Pointer.{Pointer}
 use Rattle.rules.specs.declared.Value.{Value}
 use Rattle.rules.specs.declared.Value.the-variants as value
@@ -81,7 +81,7 @@ made-name m u n =
     makeAt-keeps AnyMemory AnyNumber AnyNumber (λ c x. tt) (λ c x. tt) AnyValue AnyPlace (λ k m₁. FitsName k) m u n
     (nextName m) (freeRun m n) (λ k first a b. nextName-fits m k a)
 
-pub name-fits : (m : Memory) (u : Use) (n k : ℕ) → making.Name k ≡ makingOf (makeBlock m u n) → k < 256
+pub name-fits : (m : Memory) (u : Use) (n k : ℕ) → making.Name k ≡ makingOf (makeBlock m u n) → k < nameLimit
 name-fits m u n k e =
     subst (MadeKeeps (λ k m₁. FitsName k) AnyNumber) (made-by (makeBlock m u n) k m e) (made-name m u n)
 

@@ -4,11 +4,12 @@ ghost use Rattle.rules.specs.Layout.{memoryOf};
 ghost use Rattle.cells.specs.Changes.{EvaluatedFits};
 ghost use Rattle.statements.specs.Changing.{Does};
 use rules::Evaluated;
+use rules::ExecutionMemory;
 use rules::Found;
 use rules::Value;
 
 // A place takes a value.
-pub fn store_at(mem: &mut [u8; 18424], f: Found, e: Evaluated) -> u32
+pub fn store_at(mem: &mut ExecutionMemory, f: Found, e: Evaluated) -> u32
     requires { ⌜ EvaluatedFits e ⌝ }
     ensures { λ r. ⌜ Does (assigned (memoryOf (now (mem .entry))) f e) r (now (mem .entry)) (now (mem .exit)) ⌝ }
 {
@@ -22,7 +23,7 @@ pub fn store_at(mem: &mut [u8; 18424], f: Found, e: Evaluated) -> u32
 }
 
 // The block that a value points to is freed.
-pub fn free_at(mem: &mut [u8; 18424], e: Evaluated) -> u32
+pub fn free_at(mem: &mut ExecutionMemory, e: Evaluated) -> u32
     ensures { λ r. ⌜ Does (freed (memoryOf (now (mem .entry))) e) r (now (mem .entry)) (now (mem .exit)) ⌝ }
 {
     match e {

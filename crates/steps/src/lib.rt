@@ -2,6 +2,7 @@
 // done, else its ending's.
 ghost use mathlib.Core.Path.{_≡_};
 ghost use Prim.Native.Nat.{suc, _+_, _<_};
+ghost use Rattle.rules.specs.Sizes.{temporaryCount};
 ghost use Rattle.rules.specs.Kinds.{statement};
 ghost use Rattle.rules.specs.Records.{kindOf, markOf, childC};
 ghost use Rattle.rules.specs.Nodes.{operatorOf, queryOf};
@@ -15,12 +16,15 @@ ghost use Rattle.rules.proofs.TargetFields.{HasSort};
 ghost use Rattle.temporaries.specs.Bytes.{temporariesOf};
 ghost use Rattle.steps.specs.Steps.{Takes, IsTake, takenOf};
 use rules::Evaluated;
+use rules::ObservationMemory;
+use rules::Table;
+use rules::Temporaries;
 use rules::Test;
 use rules::Value;
 
 // 60, 61: temporary n takes a value; nothing changes where there is none.
-pub fn take_evaluated(temporaries: &mut [u8; 1024], n: usize, e: Evaluated) -> u32
-    requires { ⌜ n < 64 ⌝ }
+pub fn take_evaluated(temporaries: &mut Temporaries, n: usize, e: Evaluated) -> u32
+    requires { ⌜ n < temporaryCount ⌝ }
     ensures { λ r. ⌜ Takes (now (temporaries .entry)) (now (temporaries .exit)) r n e ⌝ }
 {
     match e {
@@ -33,8 +37,8 @@ pub fn take_evaluated(temporaries: &mut [u8; 1024], n: usize, e: Evaluated) -> u
 }
 
 // 63: temporary n takes operator k of the two after it.
-fn take_operation(temporaries: &mut [u8; 1024], n: usize, k: u8) -> u32
-    requires { ⌜ n + 2 < 64 ⌝ }
+fn take_operation(temporaries: &mut Temporaries, n: usize, k: u8) -> u32
+    requires { ⌜ n + 2 < temporaryCount ⌝ }
     ensures { λ r. ⌜ Takes (now (temporaries .entry)) (now (temporaries .exit)) r n
         (operated (operatorOf k) (heldIn (temporariesOf (now (temporaries .entry))) (suc n))
         (heldIn (temporariesOf (now (temporaries .entry))) (suc (suc n)))) ⌝ }
@@ -49,7 +53,7 @@ fn take_operation(temporaries: &mut [u8; 1024], n: usize, k: u8) -> u32
 }
 
 // Query k of a value.
-fn query(obs: &[u8; 3064], k: u8, v: Value) -> Evaluated
+fn query(obs: &ObservationMemory, k: u8, v: Value) -> Evaluated
     ensures { λ r. ⌜ r ≡ queryObservation (queryOf k) (observationOf (now (obs .entry))) v ⌝ }
 {
     match k {
@@ -62,8 +66,8 @@ fn query(obs: &[u8; 3064], k: u8, v: Value) -> Evaluated
 }
 
 // 64: temporary n takes query k of the one after it.
-fn take_query(temporaries: &mut [u8; 1024], obs: &[u8; 3064], n: usize, k: u8) -> u32
-    requires { ⌜ n + 1 < 64 ⌝ }
+fn take_query(temporaries: &mut Temporaries, obs: &ObservationMemory, n: usize, k: u8) -> u32
+    requires { ⌜ n + 1 < temporaryCount ⌝ }
     ensures { λ r. ⌜ Takes (now (temporaries .entry)) (now (temporaries .exit)) r n
         (onValue (heldIn (temporariesOf (now (temporaries .entry))) (suc n)) evaluated.Stopped
         (queryObservation (queryOf k) (observationOf (now (obs .entry))))) ⌝ }
@@ -76,8 +80,8 @@ fn take_query(temporaries: &mut [u8; 1024], obs: &[u8; 3064], n: usize, k: u8) -
 }
 
 // 65: temporary n takes 1 where the one after it is 0, else 0.
-fn take_not(temporaries: &mut [u8; 1024], n: usize) -> u32
-    requires { ⌜ n + 1 < 64 ⌝ }
+fn take_not(temporaries: &mut Temporaries, n: usize) -> u32
+    requires { ⌜ n + 1 < temporaryCount ⌝ }
     ensures { λ r. ⌜ Takes (now (temporaries .entry)) (now (temporaries .exit)) r n
         (onValue (heldIn (temporariesOf (now (temporaries .entry))) (suc n)) evaluated.Stopped opposite) ⌝ }
 {
@@ -89,7 +93,7 @@ fn take_not(temporaries: &mut [u8; 1024], n: usize) -> u32
 }
 
 // 63 to 65: the temporary of record n takes what those after it give.
-pub fn take(table: &[u8; 65536], n: usize, temporaries: &mut [u8; 1024], obs: &[u8; 3064]) -> u32
+pub fn take(table: &Table, n: usize, temporaries: &mut Temporaries, obs: &ObservationMemory) -> u32
     requires { ⌜ HasSort statement (now table) n × IsTake (kindOf (now table) n) ⌝ }
     ensures { λ r. ⌜ Takes (now (temporaries .entry)) (now (temporaries .exit)) r (markOf (now (table .entry)) n)
         (takenOf (kindOf (now (table .entry)) n) (childC (now (table .entry)) n)
@@ -107,8 +111,8 @@ pub fn take(table: &[u8; 65536], n: usize, temporaries: &mut [u8; 1024], obs: &[
 }
 
 // 66, 67: what temporary n says as a condition.
-pub fn test_temporary(temporaries: &[u8; 1024], n: usize) -> Test
-    requires { ⌜ n < 64 ⌝ }
+pub fn test_temporary(temporaries: &Temporaries, n: usize) -> Test
+    requires { ⌜ n < temporaryCount ⌝ }
     ensures { λ r. ⌜ r ≡ condition (heldIn (temporariesOf (now (temporaries .entry))) n) ⌝ }
 {
     values::test(temporaries::read_temporary(temporaries, n))

@@ -22,8 +22,10 @@ pub size-positive : (w : ℤ) → ltZ w (pos 1) ≡ false → T (nonNeg w)
 size-positive (pos n) e = tt
 size-positive (negsuc n) e = absurd (subst T e tt)
 
-pub size-range : (w : ℤ) → ltZ w (pos 1) ≡ false → ltZ (pos 1024) w ≡ false → (0 < natAbs w) × (natAbs w ≤ 1024)
-size-range (pos n) e f = (omega (arith, ltZ-false (pos n) (pos 1) e), omega (arith, ltZ-false (pos 1024) (pos n) f))
+pub size-range : (w : ℤ) → ltZ w (pos 1) ≡ false → ltZ (pos cellCount) w ≡ false
+    → (0 < natAbs w) × (natAbs w ≤ cellCount)
+size-range (pos n) e f =
+    (omega (arith, ltZ-false (pos n) (pos 1) e), omega (arith, ltZ-false (pos cellCount) (pos n) f))
 size-range (negsuc n) e f = absurd (subst T e tt)
 
 no-run : (p : ℕ → Bool) (n : ℕ) → cellCount < n → lowestRun p n ≡ search.Nothing
@@ -49,10 +51,10 @@ module _ (o : Observation) (k : ℕ) where
   sized-small (pos (suc i)) w e = refl
   sized-small (negsuc i) w e = refl
 
-  pub sized-large : (z w : ℤ) → ltZ (pos 1024) w ≡ true → storeSized o k z w ≡ refused 48
+  pub sized-large : (z w : ℤ) → ltZ (pos cellCount) w ≡ true → storeSized o k z w ≡ refused 48
   sized-large (pos zero) (pos zero) e = refl
   sized-large (pos zero) (pos (suc n)) e =
-      let large : cellCount < suc n = omega (arith, ltZ-true (pos 1024) (pos (suc n)) e) in
+      let large : cellCount < suc n = omega (arith, ltZ-true (pos cellCount) (pos (suc n)) e) in
       ap (storeAt o k (suc n) (recordOf o k)) (no-run _ (suc n) large) ∙ none-stored (suc n) (recordOf o k)
   sized-large (pos zero) (negsuc n) e = refl
   sized-large (pos (suc i)) w e = refl

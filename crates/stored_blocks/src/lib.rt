@@ -1,19 +1,24 @@
 // The observation memory's store block: a block goes to the lowest run of free marks that holds it.
 ghost use mathlib.Core.Path.{_≡_};
 ghost use Prim.Native.Nat.{_<_, _≤_};
+ghost use Rattle.rules.specs.Sizes.{nameCount, cellCount};
 ghost use Rattle.rules.specs.Observation.{storeSized, storeBlock};
 ghost use Rattle.rules.specs.Layout.{observationOf};
 ghost use Rattle.observation_answers.specs.Calls.{Answers};
 ghost use Rattle.stored_blocks.specs.Storing.{storeNamed, storeNew};
 use observation_answers::Noting;
+use rules::CELL_COUNT;
+use rules::ObservationMemory;
 use rules::Pointer;
 use rules::Recorded;
 use rules::Search;
 use rules::Value;
 
+const MOST_MARKS: i64 = CELL_COUNT as i64;
+
 // A new block of n marks goes to the lowest run that holds it, if there is one.
-fn store_new(obs: &mut [u8; 3064], name: u16, n: usize) -> Noting
-    requires { ⌜ (0 < name) × (name ≤ 255) × (0 < n) × (n ≤ 1024) ⌝ }
+fn store_new(obs: &mut ObservationMemory, name: u16, n: usize) -> Noting
+    requires { ⌜ (0 < name) × (name ≤ nameCount) × (0 < n) × (n ≤ cellCount) ⌝ }
     ensures { λ r. ⌜ Answers (now (obs .entry)) (now (obs .exit)) r
         (storeNew (observationOf (now (obs .entry))) name n) ⌝ }
 {
@@ -27,8 +32,8 @@ fn store_new(obs: &mut [u8; 3064], name: u16, n: usize) -> Noting
 }
 
 // A block of n marks under a name, which is unused.
-fn store_named(obs: &mut [u8; 3064], name: u16, n: usize) -> Noting
-    requires { ⌜ (0 < n) × (n ≤ 1024) ⌝ }
+fn store_named(obs: &mut ObservationMemory, name: u16, n: usize) -> Noting
+    requires { ⌜ (0 < n) × (n ≤ cellCount) ⌝ }
     ensures { λ r. ⌜ Answers (now (obs .entry)) (now (obs .exit)) r
         (storeNamed (observationOf (now (obs .entry))) name n) ⌝ }
 {
@@ -39,7 +44,7 @@ fn store_named(obs: &mut [u8; 3064], name: u16, n: usize) -> Noting
     }
 }
 
-fn store_sized(obs: &mut [u8; 3064], p: Pointer, z: i64) -> Noting
+fn store_sized(obs: &mut ObservationMemory, p: Pointer, z: i64) -> Noting
     ensures { λ r. ⌜ Answers (now (obs .entry)) (now (obs .exit)) r
         (storeSized (observationOf (now (obs .entry))) (p .name) (p .offset) z) ⌝ }
 {
@@ -50,13 +55,13 @@ fn store_sized(obs: &mut [u8; 3064], p: Pointer, z: i64) -> Noting
     if z < 1 {
         return Noting::Refused(48);
     }
-    if 1024 < z {
+    if MOST_MARKS < z {
         return Noting::Refused(48);
     }
     store_named(obs, p.name, z as usize)
 }
 
-pub fn store_block(obs: &mut [u8; 3064], v: Value, w: Value) -> Noting
+pub fn store_block(obs: &mut ObservationMemory, v: Value, w: Value) -> Noting
     ensures { λ r. ⌜ Answers (now (obs .entry)) (now (obs .exit)) r
         (storeBlock (observationOf (now (obs .entry))) v w) ⌝ }
 {

@@ -9,12 +9,13 @@ use lib.IntN.{ℤ}
 use lib.ListN.{length, getD, set, length-append}
 use mir.Syntax.{w64}
 use mir.Val.{SFits, toZ, ofZ}
+use Rattle.rules.specs.Sizes.{temporaryCount}
 use Rattle.rules.specs.Words.{little, digits, part, put, wordAt, integerBytes}
 use Rattle.rules.specs.Layout.{cellFrom}
 use Rattle.rules.proofs.WordLaws.{length-digits, part-put-in, getD-put-in, getD-put-apart, word-put-apart, put-put}
 use Rattle.rules.proofs.WordLaws.{fits-range, integer-value}
 use Rattle.rules.proofs.Rows.{table-set}
-use Rattle.temporaries.specs.Bytes.{temporaryIn, temporaryPlace, temporaryAt, temporariesOf}
+use Rattle.temporaries.specs.Bytes.{temporaryIn, temporaryPlace, temporariesLength, temporaryAt, temporariesOf}
 use Rattle.cells.proofs.Apart.{rows-apart}
 
 -- a kind in byte 0 and a name in bytes 2 and 3, as one word
@@ -45,7 +46,7 @@ number-bytes : (k w : ℕ) (z : ℤ) → SFits w64 z → toZ w64 (little (part 8
 unfolding digits
 number-bytes k w z f = integer-value z (fits-range z f)
 
-module _ (l : List ℕ) (n k w : ℕ) (z : ℤ) (room : length l ≡ 1024) (h : n < 64) where
+module _ (l : List ℕ) (n k w : ℕ) (z : ℤ) (room : length l ≡ temporariesLength) (h : n < temporaryCount) where
   all-room : temporaryPlace n + length (bytes k w z) ≤ length l
   all-room = rw (length-bytes k w z) (omega arith)
 
@@ -95,5 +96,5 @@ module _ (l : List ℕ) (n k w : ℕ) (z : ℤ) (room : length l ≡ 1024) (h : 
       q ∙ (λ i. put (p i) (r i) (integerBytes z))
       ∙ put-put l (digits 8 (head k w)) (integerBytes z) at e in
       ap temporariesOf g
-      ∙ table-set 64 n (temporaryAt l) (temporaryAt written) (temporaryIn (cellFrom k 0 w z)) h (same a b f)
+      ∙ table-set temporaryCount n (temporaryAt l) (temporaryAt written) (temporaryIn (cellFrom k 0 w z)) h (same a b f)
       (λ j x y. other j y)

@@ -20,6 +20,9 @@ temporaryIn (cell.Holds o v) = temporary.Holds v
 abbrev pub temporaryPlace : ℕ → ℕ
 temporaryPlace n = n * 16
 
+abbrev pub temporariesLength : ℕ
+temporariesLength = temporaryPlace temporaryCount
+
 unfoldable pub temporaryAt : List ℕ → ℕ → Temporary
 temporaryAt l n =
     temporaryIn

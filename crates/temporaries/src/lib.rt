@@ -2,17 +2,19 @@
 ghost use mathlib.Core.Path.{_≡_};
 ghost use Prim.Native.Nat.{_<_};
 ghost use lib.ListN.{set};
+ghost use Rattle.rules.specs.Sizes.{temporaryCount};
 ghost use Rattle.rules.specs.Layout.{cellFrom};
 ghost use Rattle.rules.specs.Watched.{heldIn};
 ghost use Rattle.rules.specs.declared.Temporary.the-variants as temporary;
 ghost use Rattle.temporaries.specs.Bytes.{temporaryIn, temporariesOf};
 use rules::Evaluated;
 use rules::Pointer;
+use rules::Temporaries;
 use rules::Value;
 
 // What temporary n holds: 49 where it is empty.
-pub fn read_temporary(temporaries: &[u8; 1024], n: usize) -> Evaluated
-    requires { ⌜ n < 64 ⌝ }
+pub fn read_temporary(temporaries: &Temporaries, n: usize) -> Evaluated
+    requires { ⌜ n < temporaryCount ⌝ }
     ensures { λ r. ⌜ r ≡ heldIn (temporariesOf (now (temporaries .entry))) n ⌝ }
 {
     let at = n * 16;
@@ -28,8 +30,8 @@ pub fn read_temporary(temporaries: &[u8; 1024], n: usize) -> Evaluated
     }
 }
 
-fn write_temporary(temporaries: &mut [u8; 1024], n: usize, kind: u8, name: u16, z: i64)
-    requires { ⌜ n < 64 ⌝ }
+fn write_temporary(temporaries: &mut Temporaries, n: usize, kind: u8, name: u16, z: i64)
+    requires { ⌜ n < temporaryCount ⌝ }
     ensures { λ _. ⌜ temporariesOf (now (temporaries .exit))
         ≡ set (temporariesOf (now (temporaries .entry))) n (temporaryIn (cellFrom kind 0 name z)) ⌝ }
 {
@@ -44,8 +46,8 @@ fn write_temporary(temporaries: &mut [u8; 1024], n: usize, kind: u8, name: u16, 
 }
 
 // Temporary n takes a value.
-pub fn take(temporaries: &mut [u8; 1024], n: usize, v: Value)
-    requires { ⌜ n < 64 ⌝ }
+pub fn take(temporaries: &mut Temporaries, n: usize, v: Value)
+    requires { ⌜ n < temporaryCount ⌝ }
     ensures { λ _. ⌜ temporariesOf (now (temporaries .exit))
         ≡ set (temporariesOf (now (temporaries .entry))) n (temporary.Holds v) ⌝ }
 {

@@ -1,5 +1,5 @@
 -- The entry: the table with bytes behind it, the start, and what is copied out.
-use Prim.Native.Nat.{ℕ, _+_, _/_, _≤_}
+use Prim.Native.Nat.{ℕ, _+_, _*_, _/_, _≤_}
 use native.Mathlib.Nat.{le-refl}
 use native.Mathlib.Omega.{arith}
 use mathlib.Core.Bool.{Bool, true, false, not, false≢true}
@@ -9,6 +9,7 @@ use mathlib.Core.Path.{_≡_, refl, sym, ap, _∙_, subst}
 use borrow.Author.Tests.{eq-eqb, ne-eqb, eqb-true}
 use lib.Dec.{eqb}
 use lib.ListN.{length, drop, replicate}
+use Rattle.rules.specs.Sizes.{temporaryCount, targetLimit, memoryLength, observationLength}
 use Rattle.rules.specs.Words.{wordAt, integerAt, put}
 use Rattle.rules.specs.Records.{recordCount}
 use Rattle.rules.specs.Kinds.{target}
@@ -39,19 +40,20 @@ use Rattle.rules.proofs.ReachableRoundTrip.{start-inside, watched-round-trip}
 use Rattle.rules.proofs.Padding.{node-padded}
 use Rattle.rules.proofs.Inputs.{inputs-length}
 use Rattle.rules.proofs.TargetFields.{statementAt}
-use Rattle.temporaries.specs.Bytes.{temporaryIn, temporaryPlace, temporaryAt, temporariesOf}
+use Rattle.temporaries.specs.Bytes.{temporaryIn, temporaryPlace, temporariesLength, temporaryAt, temporariesOf}
 use Rattle.endings.specs.declared.Ended.{Ended}
 use Rattle.watched_statements.specs.Watching.{lent, Ready, Ran, LeavesSo, Leaves, watchFrom, AnsweredBy}
 
 -- ---- the start
-pub temporaries-start : temporariesOf (replicate 1024 0) ≡ startTemporaries
+pub temporaries-start : temporariesOf (replicate temporariesLength 0) ≡ startTemporaries
 unfolding temporariesOf temporaryAt
-temporaries-start = table-all 64 0 (temporaryAt (replicate 1024 0)) temporary.Empty empty
+temporaries-start = table-all temporaryCount 0 (temporaryAt (replicate temporariesLength 0)) temporary.Empty empty
   where
-    empty : (n : ℕ) → temporaryAt (replicate 1024 0) n ≡ temporary.Empty
+    empty : (n : ℕ) → temporaryAt (replicate temporariesLength 0) n ≡ temporary.Empty
     empty n =
-        ap (λ (k : ℕ). temporaryIn (cellFrom k 0 (wordAt 2 (replicate 1024 0) (temporaryPlace n + 2))
-        (integerAt (replicate 1024 0) (temporaryPlace n + 8)))) (getD-zero 1024 (temporaryPlace n))
+        ap (λ (k : ℕ). temporaryIn (cellFrom k 0 (wordAt 2 (replicate temporariesLength 0) (temporaryPlace n + 2))
+        (integerAt (replicate temporariesLength 0) (temporaryPlace n + 8))))
+        (getD-zero temporariesLength (temporaryPlace n))
 
 pub leaves-is : {e d : Ending WatchedState} {r : Ended} {l l₁ o o₁ : List ℕ} → e ≡ d → LeavesSo d r l l₁ o o₁
     → LeavesSo e r l l₁ o o₁
@@ -59,14 +61,15 @@ leaves-is {e} {d} {r} {l} {l₁} {o} {o₁} q h = subst (λ (u : Ending WatchedS
 
 -- a run from there
 pub leaves-start : (s : TargetStatement) (f : ℕ) (r : Ended) (l l₁ o o₁ τ₁ : List ℕ)
-    → Ran (watchFrom s startVariables (lent l o (replicate 1024 0)) f) r (lent l o (replicate 1024 0)) (lent l₁ o₁ τ₁)
+    → Ran (watchFrom s startVariables (lent l o (replicate temporariesLength 0)) f) r
+    (lent l o (replicate temporariesLength 0)) (lent l₁ o₁ τ₁)
     → Leaves (watch s startVariables (watching (memoryOf l) (observationOf o) startTemporaries) f) r l l₁ o o₁
 leaves-start s f r l l₁ o o₁ τ₁ w =
     subst (λ (τ : Temporaries). Leaves (watch s startVariables (watching (memoryOf l) (observationOf o) τ) f) r l l₁ o o₁)
     temporaries-start (record { answer = w .answer; memory = w .memory; observation = w .observation })
 
 module _ (t l : List ℕ) (h : check target t ≡ checked.Accepted) where
-  pub table-length : length t ≤ 65536
+  pub table-length : length t ≤ targetLimit * 16
   table-length = let a = accepted-program target t h in omega (arith, a .whole, a .not-too-many)
 
   pub same-program : statementAt (put l 0 t) (recordCount t) ≡ targetProgram t
@@ -74,7 +77,7 @@ module _ (t l : List ℕ) (h : check target t ≡ checked.Accepted) where
       ap targetStatement (node-padded t (drop (0 + length t) l) target (recordCount t) (le-refl (recordCount t)))
 
   pub ready-start : (m o : List ℕ) → FitsMemory (memoryOf m) → FitsObservation (observationOf o)
-      → Ready (put l 0 t) (recordCount t) startVariables (lent m o (replicate 1024 0))
+      → Ready (put l 0 t) (recordCount t) startVariables (lent m o (replicate temporariesLength 0))
   ready-start m o f g =
       let p = padded-program target t (drop (0 + length t) l) h in
       record {
@@ -136,20 +139,20 @@ module _ (i : List ℕ) (e : inputsFault i ≡ false) (l o : List ℕ) (s : l �
 -- it has the length of its memory
 pub exit-lengths : (t i : List ℕ) (f : ℕ) (r : Answer) (l o : List ℕ) → check target t ≡ checked.Accepted
     → inputsFault i ≡ false → AnsweredBy (watchedEnded (ending (watchedOutcome t i f))) r l o
-    → (length l ≡ 18424) × (length o ≡ 3064)
+    → (length l ≡ memoryLength) × (length o ≡ observationLength)
 exit-lengths t i f r l o h e w =
     let x = watched-round-trip t i f (accepted-program target t h .last .sound) e in
     (ap length (w .memory) ∙ x .0 .image-length, ap length (w .observation) ∙ x .1 .image-length)
 
 -- ---- the rules 9, 21 and 22
-pub observation-refused : (o : List ℕ) → length o ≢ 3064 → observationFault o ≡ true
-observation-refused o d = ap not (ne-eqb (length o) 3064 d)
+pub observation-refused : (o : List ℕ) → length o ≢ observationLength → observationFault o ≡ true
+observation-refused o d = ap not (ne-eqb (length o) observationLength d)
 
-pub observation-accepted : (o : List ℕ) → length o ≡ 3064 → observationFault o ≡ false
-observation-accepted o d = ap not (eq-eqb (length o) 3064 d)
+pub observation-accepted : (o : List ℕ) → length o ≡ observationLength → observationFault o ≡ false
+observation-accepted o d = ap not (eq-eqb (length o) observationLength d)
 
-pub observation-whole : (o : List ℕ) → observationFault o ≡ false → length o ≡ 3064
-observation-whole o h = eqb-true (length o) 3064 (go (eqb (length o) 3064) h)
+pub observation-whole : (o : List ℕ) → observationFault o ≡ false → length o ≡ observationLength
+observation-whole o h = eqb-true (length o) observationLength (go (eqb (length o) observationLength) h)
   where
     go : (b : Bool) → not b ≡ false → b ≡ true
     go true e = refl

@@ -13,38 +13,51 @@ ghost use Rattle.rules.specs.Answers.{watchedEnded, watchedOutcome, watchedBy, 
 ghost use Rattle.rules.specs.declared.Checked.the-variants as checked;
 ghost use Rattle.rules.proofs.Fits.{FitsMemory, FitsObservation};
 ghost use Rattle.rules.proofs.TargetFields.{statementAt};
+ghost use Rattle.temporaries.specs.Bytes.{temporariesLength};
 ghost use Rattle.watched_statements.specs.Watching.{lent, Ready, Leaves, AnsweredBy};
 use endings::Ended;
 use rules::Answer;
 use rules::Checked;
+use rules::ExecutionMemory;
+use rules::MEMORY_LENGTH;
+use rules::OBSERVATION_LENGTH;
+use rules::ObservationMemory;
+use rules::TABLE_LENGTH;
+use rules::TEMPORARIES_LENGTH;
+use rules::Table;
 
 // Runs statement n with the variables and temporaries of the start.
 fn run_from_start(
-    table: &[u8; 65536],
+    table: &Table,
     n: usize,
-    mem: &mut [u8; 18424],
-    obs: &mut [u8; 3064],
+    mem: &mut ExecutionMemory,
+    obs: &mut ObservationMemory,
     fuel: u32,
 ) -> Ended
-    requires { ⌜ Ready (now table) n startVariables (lent (now mem) (now obs) (replicate 1024 0)) ⌝ }
+    requires { ⌜ Ready (now table) n startVariables (lent (now mem) (now obs) (replicate temporariesLength 0)) ⌝ }
     ensures { λ r. ⌜ Leaves (watch (statementAt (now (table .entry)) n) startVariables (watching (memoryOf (now (mem .entry)))
         (observationOf (now (obs .entry))) startTemporaries) fuel) r
         (now (mem .entry)) (now (mem .exit)) (now (obs .entry)) (now (obs .exit)) ⌝ }
 {
     let variables = variables::start_variables();
-    let mut temporaries = [0u8; 1024];
+    let mut temporaries = [0u8; TEMPORARIES_LENGTH];
     watched_runs::run(table, n, &variables, &mut temporaries, mem, obs, fuel)
 }
 
 // Runs an accepted table from memories of the start.
-fn run_table(table: &[u8], mem: &mut [u8; 18424], obs: &mut [u8; 3064], fuel: u32) -> Ended
+fn run_table(
+    table: &[u8],
+    mem: &mut ExecutionMemory,
+    obs: &mut ObservationMemory,
+    fuel: u32,
+) -> Ended
     requires { ⌜ (check target (now table) ≡ checked.Accepted) × FitsMemory (memoryOf (now mem))
         × FitsObservation (observationOf (now obs)) ⌝ }
     ensures { λ r. ⌜ Leaves (watch (targetProgram (now (table .entry))) startVariables (watching (memoryOf (now (mem .entry)))
         (observationOf (now (obs .entry))) startTemporaries) fuel) r
         (now (mem .entry)) (now (mem .exit)) (now (obs .entry)) (now (obs .exit)) ⌝ }
 {
-    let mut whole = [0u8; 65536];
+    let mut whole = [0u8; TABLE_LENGTH];
     buffers::copy(&mut whole[..], table);
     run_from_start(&whole, table.len() / 16, mem, obs, fuel)
 }
@@ -54,8 +67,8 @@ fn run_memories(
     table: &[u8],
     inputs: &[u8],
     fuel: u32,
-    mem: &mut [u8; 18424],
-    obs: &mut [u8; 3064],
+    mem: &mut ExecutionMemory,
+    obs: &mut ObservationMemory,
 ) -> Answer
     requires { ⌜ (check target (now table) ≡ checked.Accepted) × (inputsFault (now inputs) ≡ false) ⌝ }
     ensures { λ r. ⌜ AnsweredBy (watchedEnded (ending (watchedOutcome (now (table .entry)) (now (inputs .entry)) fuel))) r
@@ -86,8 +99,8 @@ fn run_inputs(
     ensures { λ r. ⌜ AnsweredBy (watchedEnded (ending (watchedOutcome (now (table .entry)) (now (inputs .entry)) fuel))) r
         (now (memory .exit)) (now (observation .exit)) ⌝ }
 {
-    let mut mem = [0u8; 18424];
-    let mut obs = [0u8; 3064];
+    let mut mem = [0u8; MEMORY_LENGTH];
+    let mut obs = [0u8; OBSERVATION_LENGTH];
     let answer = run_memories(table, inputs, fuel, &mut mem, &mut obs);
     buffers::copy(memory, &mem[..]);
     buffers::copy(observation, &obs[..]);
@@ -109,10 +122,10 @@ fn run_accepted(
     if buffers::has_inputs_fault(inputs) {
         return endings::refuse(9, 0);
     }
-    if memory.len() != 18424 {
+    if memory.len() != MEMORY_LENGTH {
         return endings::refuse(21, 0);
     }
-    if observation.len() != 3064 {
+    if observation.len() != OBSERVATION_LENGTH {
         return endings::refuse(22, 0);
     }
     run_inputs(table, inputs, fuel, memory, observation)

@@ -7,16 +7,21 @@ ghost use Rattle.choices.specs.Branches.{IsBranch};
 ghost use Rattle.watched_statements.specs.Watching.{lent, Ready, Inside, enclosed, Ran, Runs};
 use blocks::Making;
 use endings::Ended;
+use rules::ExecutionMemory;
+use rules::ObservationMemory;
+use rules::Table;
+use rules::Temporaries;
 use rules::Test;
+use rules::Variables;
 
 // Runs statement n. Of a sequence A runs, and B where A finished; as B may be one again, they are a loop.
 pub fn run(
-    table: &[u8; 65536],
+    table: &Table,
     n: usize,
-    variables: &[u16; 64],
-    temporaries: &mut [u8; 1024],
-    mem: &mut [u8; 18424],
-    obs: &mut [u8; 3064],
+    variables: &Variables,
+    temporaries: &mut Temporaries,
+    mem: &mut ExecutionMemory,
+    obs: &mut ObservationMemory,
     fuel: u32,
 ) -> Ended
     requires { ⌜ Ready (now table) n (variablesOf (now variables)) (lent (now mem) (now obs) (now temporaries)) ⌝ }
@@ -40,12 +45,12 @@ pub fn run(
 
 // Runs statement n, which is no sequence.
 fn run_single(
-    table: &[u8; 65536],
+    table: &Table,
     n: usize,
-    variables: &[u16; 64],
-    temporaries: &mut [u8; 1024],
-    mem: &mut [u8; 18424],
-    obs: &mut [u8; 3064],
+    variables: &Variables,
+    temporaries: &mut Temporaries,
+    mem: &mut ExecutionMemory,
+    obs: &mut ObservationMemory,
     fuel: u32,
 ) -> Ended
     requires { ⌜ Ready (now table) n (variablesOf (now variables)) (lent (now mem) (now obs) (now temporaries))
@@ -64,12 +69,12 @@ fn run_single(
 
 // B or C, by a condition or a temporary.
 fn branch(
-    table: &[u8; 65536],
+    table: &Table,
     n: usize,
-    variables: &[u16; 64],
-    temporaries: &mut [u8; 1024],
-    mem: &mut [u8; 18424],
-    obs: &mut [u8; 3064],
+    variables: &Variables,
+    temporaries: &mut Temporaries,
+    mem: &mut ExecutionMemory,
+    obs: &mut ObservationMemory,
     fuel: u32,
 ) -> Ended
     requires { ⌜ Ready (now table) n (variablesOf (now variables)) (lent (now mem) (now obs) (now temporaries))
@@ -93,12 +98,12 @@ fn branch(
 
 // B for as long as condition A is true. Each turn takes its unit of fuel before the condition.
 fn repeat(
-    table: &[u8; 65536],
+    table: &Table,
     n: usize,
-    variables: &[u16; 64],
-    temporaries: &mut [u8; 1024],
-    mem: &mut [u8; 18424],
-    obs: &mut [u8; 3064],
+    variables: &Variables,
+    temporaries: &mut Temporaries,
+    mem: &mut ExecutionMemory,
+    obs: &mut ObservationMemory,
     fuel: u32,
 ) -> Ended
     requires { ⌜ Ready (now table) n (variablesOf (now variables)) (lent (now mem) (now obs) (now temporaries))
@@ -144,12 +149,12 @@ fn repeat(
 
 // A, with a new block of one cell for the variable.
 fn enclose(
-    table: &[u8; 65536],
+    table: &Table,
     n: usize,
-    variables: &[u16; 64],
-    temporaries: &mut [u8; 1024],
-    mem: &mut [u8; 18424],
-    obs: &mut [u8; 3064],
+    variables: &Variables,
+    temporaries: &mut Temporaries,
+    mem: &mut ExecutionMemory,
+    obs: &mut ObservationMemory,
     fuel: u32,
 ) -> Ended
     requires { ⌜ Ready (now table) n (variablesOf (now variables)) (lent (now mem) (now obs) (now temporaries))
@@ -170,12 +175,12 @@ fn enclose(
 
 // Child A of statement n, its variable being block k, which then ends where A finished.
 fn run_inside(
-    table: &[u8; 65536],
+    table: &Table,
     n: usize,
-    variables: &[u16; 64],
-    temporaries: &mut [u8; 1024],
-    mem: &mut [u8; 18424],
-    obs: &mut [u8; 3064],
+    variables: &Variables,
+    temporaries: &mut Temporaries,
+    mem: &mut ExecutionMemory,
+    obs: &mut ObservationMemory,
     fuel: u32,
     k: u16,
 ) -> Ended

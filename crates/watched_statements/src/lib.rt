@@ -16,14 +16,19 @@ ghost use Rattle.statements.specs.Changing.{Does};
 ghost use Rattle.steps.specs.Steps.{Takes};
 ghost use Rattle.watched_statements.specs.Watching.{lent, Ready, IsAct, Runs, Acts};
 use endings::Ended;
+use rules::ExecutionMemory;
+use rules::ObservationMemory;
+use rules::Table;
+use rules::Temporaries;
+use rules::Variables;
 
 // 41: place A takes expression B.
 fn assign(
-    table: &[u8; 65536],
+    table: &Table,
     n: usize,
-    variables: &[u16; 64],
-    temporaries: &[u8; 1024],
-    mem: &mut [u8; 18424],
+    variables: &Variables,
+    temporaries: &Temporaries,
+    mem: &mut ExecutionMemory,
 ) -> u32
     requires { ⌜ HasSort statement (now table) n × (kindOf (now table) n ≡ 41)
         × EvaluatedFits (valueIn (now table) (childB (now table) n) (now variables) (now temporaries) (now mem)) ⌝ }
@@ -41,11 +46,11 @@ fn assign(
 
 // 42: place A takes a new block of B cells.
 fn allocate(
-    table: &[u8; 65536],
+    table: &Table,
     n: usize,
-    variables: &[u16; 64],
-    temporaries: &[u8; 1024],
-    mem: &mut [u8; 18424],
+    variables: &Variables,
+    temporaries: &Temporaries,
+    mem: &mut ExecutionMemory,
 ) -> u32
     requires { ⌜ HasSort statement (now table) n × (kindOf (now table) n ≡ 42) ⌝ }
     ensures { λ r. ⌜ Does (allocated (memoryOf (now (mem .entry)))
@@ -62,11 +67,11 @@ fn allocate(
 
 // 43: what A points to is freed.
 fn release(
-    table: &[u8; 65536],
+    table: &Table,
     n: usize,
-    variables: &[u16; 64],
-    temporaries: &[u8; 1024],
-    mem: &mut [u8; 18424],
+    variables: &Variables,
+    temporaries: &Temporaries,
+    mem: &mut ExecutionMemory,
 ) -> u32
     requires { ⌜ HasSort statement (now table) n × (kindOf (now table) n ≡ 43) ⌝ }
     ensures { λ r. ⌜ Does (freed (memoryOf (now (mem .entry)))
@@ -80,11 +85,11 @@ fn release(
 
 // 60: the temporary takes the address of place A.
 fn take_address(
-    table: &[u8; 65536],
+    table: &Table,
     n: usize,
-    variables: &[u16; 64],
-    temporaries: &mut [u8; 1024],
-    mem: &[u8; 18424],
+    variables: &Variables,
+    temporaries: &mut Temporaries,
+    mem: &ExecutionMemory,
 ) -> u32
     requires { ⌜ HasSort statement (now table) n × (kindOf (now table) n ≡ 60) ⌝ }
     ensures { λ r. ⌜ Takes (now (temporaries .entry)) (now (temporaries .exit)) r (markOf (now (table .entry)) n)
@@ -98,11 +103,11 @@ fn take_address(
 
 // 61: the temporary takes expression A.
 fn take_value(
-    table: &[u8; 65536],
+    table: &Table,
     n: usize,
-    variables: &[u16; 64],
-    temporaries: &mut [u8; 1024],
-    mem: &[u8; 18424],
+    variables: &Variables,
+    temporaries: &mut Temporaries,
+    mem: &ExecutionMemory,
 ) -> u32
     requires { ⌜ HasSort statement (now table) n × (kindOf (now table) n ≡ 61) ⌝ }
     ensures { λ r. ⌜ Takes (now (temporaries .entry)) (now (temporaries .exit)) r (markOf (now (table .entry)) n)
@@ -114,7 +119,7 @@ fn take_value(
 }
 
 // 67: the temporary is asserted.
-fn assert(table: &[u8; 65536], n: usize, temporaries: &[u8; 1024]) -> u32
+fn assert(table: &Table, n: usize, temporaries: &Temporaries) -> u32
     requires { ⌜ HasSort statement (now table) n × (kindOf (now table) n ≡ 67) ⌝ }
     ensures { λ r. ⌜ r ≡ assertNumber (condition (heldIn (temporariesOf (now (temporaries .entry)))
         (markOf (now (table .entry)) n))) ⌝ }
@@ -125,12 +130,12 @@ fn assert(table: &[u8; 65536], n: usize, temporaries: &[u8; 1024]) -> u32
 
 // A statement that runs no other: the number that it ends with, 0 where it finished.
 fn act(
-    table: &[u8; 65536],
+    table: &Table,
     n: usize,
-    variables: &[u16; 64],
-    temporaries: &mut [u8; 1024],
-    mem: &mut [u8; 18424],
-    obs: &mut [u8; 3064],
+    variables: &Variables,
+    temporaries: &mut Temporaries,
+    mem: &mut ExecutionMemory,
+    obs: &mut ObservationMemory,
 ) -> u32
     requires { ⌜ Ready (now table) n (variablesOf (now variables)) (lent (now mem) (now obs) (now temporaries))
         × IsAct (kindOf (now table) n) ⌝ }
@@ -153,12 +158,12 @@ fn act(
 
 // The same with its answer.
 pub fn step(
-    table: &[u8; 65536],
+    table: &Table,
     n: usize,
-    variables: &[u16; 64],
-    temporaries: &mut [u8; 1024],
-    mem: &mut [u8; 18424],
-    obs: &mut [u8; 3064],
+    variables: &Variables,
+    temporaries: &mut Temporaries,
+    mem: &mut ExecutionMemory,
+    obs: &mut ObservationMemory,
     fuel: u32,
 ) -> Ended
     requires { ⌜ Ready (now table) n (variablesOf (now variables)) (lent (now mem) (now obs) (now temporaries))

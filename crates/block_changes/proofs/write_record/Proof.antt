@@ -3,6 +3,7 @@ use mathlib.Core.Path.{_≡_, refl, sym, ap, _∙_, subst}
 use lib.ListN.{length}
 use Prim.Native.Nat.{ℕ, suc, _+_, _-_, _*_, _≤_, _<_}
 use native.Mathlib.Omega.{arith}
+use Rattle.rules.specs.Sizes.{memoryLength}
 use Rattle.rules.specs.Words.{put}
 use Rattle.rules.specs.Layout.{blockPlace}
 use Rattle.cell_changes.proofs.Parts.{record-digits}
@@ -35,7 +36,7 @@ returns : tie.Need-returns
 returns c =
     let s = c .before .before in
     let a = s .args in
-    let e : length (a .mem .now) ≡ 18424 = search needs in (
+    let e : length (a .mem .now) ≡ memoryLength = search needs in (
       c .write-word .ensures
           ∙ ap (put (a .mem .now) (blockPlace (a .k)))
           (record-digits (a .state) (a .first) (a .n) (s .fits .state .fits) (s .fits .first .fits)

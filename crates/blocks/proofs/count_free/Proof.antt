@@ -3,6 +3,7 @@ use mathlib.Core.Path.{_≡_, refl, sym, ap, _∙_, subst}
 use Prim.Native.Nat.{ℕ, suc, _+_, _-_, _*_, _≤_, _<_}
 use native.Mathlib.Omega.{arith}
 use mathlib.Core.Logic.{⊎-elim, inl, inr}
+use Rattle.rules.specs.Sizes.{cellCount}
 use Rattle.rules.specs.Layout.{memoryOf}
 use Rattle.rules.specs.Memory.{countFree}
 use Rattle.blocks.proofs.Runs.{freeFrom, count-start, count-end, count-turn}
@@ -13,10 +14,10 @@ use Rattle.blocks.proofs.count_free.Lts as lts
 use Rattle.blocks.proofs.is_free.Reads as is-free-reads
 
 abbrev Inv-loop : tie.InvT-loop
-Inv-loop mem n₀ i₀ n i = (i ≤ 1024) × (n ≤ i) × (n + freeFrom mem i ≡ countFree (memoryOf mem .cells))
+Inv-loop mem n₀ i₀ n i = (i ≤ cellCount) × (n ≤ i) × (n + freeFrom mem i ≡ countFree (memoryOf mem .cells))
 
 abbrev μ-loop : tie.MeasureT-loop
-μ-loop mem n₀ i₀ n i = 1024 - i
+μ-loop mem n₀ i₀ n i = cellCount - i
 
 loop-holds : tie.Need-loop-holds Inv-loop μ-loop
 loop-holds c = (omega arith, omega arith, count-start (c .args .mem .now))
@@ -48,7 +49,7 @@ returns : tie.Need-returns Inv-loop μ-loop
 returns c =
     let m = c .before .before .args .mem .now in
     let l = c .before .loop in
-    let all : l .i ≡ 1024 = omega arith in
+    let all : l .i ≡ cellCount = omega arith in
     let z : freeFrom m (l .i) ≡ 0 = ap (freeFrom m) all ∙ count-end m in
     omega (arith, l .inv .2, z)
 

@@ -5,6 +5,7 @@ use native.Mathlib.Omega.{arith}
 use mathlib.Core.Bool.{Bool, true, false}
 use mathlib.Core.List.{List}
 use mathlib.Core.Logic.{⊎-elim, inl, inr}
+use Rattle.rules.specs.Sizes.{cellCount}
 use Rattle.rules.specs.Layout.{memoryOf}
 use Rattle.rules.specs.Memory.{isFree, cellOf}
 use Rattle.blocks.proofs.Runs.{Scanned, scan-start, scan-free, scan-held, scan-found, scan-none}
@@ -21,7 +22,7 @@ abbrev Inv-loop : tie.InvT-loop
 Inv-loop mem n run₀ i₀ run i = Scanned (free-in mem) n i run
 
 abbrev μ-loop : tie.MeasureT-loop
-μ-loop mem n run₀ i₀ run i = 1024 - i
+μ-loop mem n run₀ i₀ run i = cellCount - i
 
 loop-holds : tie.Need-loop-holds Inv-loop μ-loop
 loop-holds c = scan-start (free-in (c .args .mem .now)) (c .args .n) (c .pre)
@@ -69,7 +70,7 @@ returns-2 : tie.Need-returns-2 Inv-loop μ-loop
 returns-2 c =
     let s = c .before .before in
     let l = c .before .loop in
-    let all : l .i ≡ 1024 = omega (arith, l .inv .within) in
+    let all : l .i ≡ cellCount = omega (arith, l .inv .within) in
     scan-none (free-in (s .args .mem .now)) (s .args .n) (l .run) (rw all at (l .inv))
 
 pub find-run-spec : {M : Type 1} → statement M

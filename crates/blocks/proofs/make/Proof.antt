@@ -43,7 +43,7 @@ cast-place c =
     let name : nextName m ≡ search.At (k .0 .0) =
     sym (c .before .before .before .before .before .before .before .before .before .next-name .ensures)
     ∙ k .1 in
-    omega (arith, name-bound m (k .0 .0) name .1)
+    omega (arith, name-bound m (k .0 .0) name)
 
 cast-place-2 : tie.Need-cast-place-2
 cast-place-2 c =
@@ -79,7 +79,7 @@ place-requires c κs =
     let name : nextName m ≡ search.At (k .0 .0) =
     sym (c .before .before .before .before .before .before .before .before .before .next-name .ensures)
     ∙ k .1 in
-    name-bound m (k .0 .0) name .1
+    omega (arith, name-bound m (k .0 .0) name)
 
 cast-t14 : tie.Need-cast-t14
 cast-t14 c =
@@ -89,7 +89,7 @@ cast-t14 c =
     let name : nextName m ≡ search.At (k .0 .0) =
     sym (c .before .before .before .before .before .before .before .before .before .before .next-name .ensures)
     ∙ k .1 in
-    omega (arith, name-bound m (k .0 .0) name .1)
+    omega (arith, name-bound m (k .0 .0) name)
 
 returns : tie.Need-returns
 returns c =

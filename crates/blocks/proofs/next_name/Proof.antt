@@ -4,6 +4,7 @@ use Prim.Native.Nat.{ℕ, suc, _+_, _-_, _*_, _≤_, _<_}
 use native.Mathlib.Omega.{arith}
 use mathlib.Core.Bool.{Bool, true, false}
 use mathlib.Core.List.{List}
+use Rattle.rules.specs.Sizes.{nameCount}
 use Rattle.rules.specs.Layout.{memoryOf}
 use Rattle.rules.specs.Memory.{isUnused, blockOf}
 use Rattle.blocks.proofs.Runs.{lowest-at, lowest-none, none-more}
@@ -17,14 +18,14 @@ use Rattle.blocks.proofs.is_unused.Reads as is-unused-reads
 abbrev unused : List ℕ → ℕ → Bool
 unused l k = isUnused (blockOf (memoryOf l) k)
 
-past : (k i : ℕ) → 256 ≤ k → i < 1 + 255 → i < k
+past : (k i : ℕ) → nameCount < k → i < 1 + nameCount → i < k
 past k i h b = omega arith
 
 abbrev Inv-loop : tie.InvT-loop
-Inv-loop mem k₀ k = (1 ≤ k) × (k ≤ 256) × ((j : ℕ) → 1 ≤ j → j < k → unused mem j ≡ false)
+Inv-loop mem k₀ k = (1 ≤ k) × (k ≤ suc nameCount) × ((j : ℕ) → 1 ≤ j → j < k → unused mem j ≡ false)
 
 abbrev μ-loop : tie.MeasureT-loop
-μ-loop mem k₀ k = 256 - k
+μ-loop mem k₀ k = suc nameCount - k
 
 loop-holds : tie.Need-loop-holds Inv-loop μ-loop
 loop-holds c = (omega arith, omega arith, λ j a b. absurd (omega arith))
@@ -37,7 +38,7 @@ returns c =
     let l = c .before .before .before .loop in
     let p = unused (c .before .before .before .before .args .mem .now) in
     let t : p (l .k) ≡ true = sym (c .before .is-unused .ensures) ∙ c .if1 .taken in
-    sym (lowest-at p 255 1 (l .k) (λ i a b. l .inv .2 i a b) t (l .inv .0)
+    sym (lowest-at p nameCount 1 (l .k) (λ i a b. l .inv .2 i a b) t (l .inv .0)
     (omega (arith, c .before .before .loop-test .taken)))
 
 add-k : tie.Need-add-k Inv-loop μ-loop
@@ -57,7 +58,7 @@ returns-2 : tie.Need-returns-2 Inv-loop μ-loop
 returns-2 c =
     let l = c .before .loop in
     let p = unused (c .before .before .args .mem .now) in
-    sym (lowest-none p 255 1 (λ i a b. l .inv .2 i a (past (l .k) i (c .loop-test .left) b)))
+    sym (lowest-none p nameCount 1 (λ i a b. l .inv .2 i a (past (l .k) i (c .loop-test .left) b)))
 
 pub next-name-spec : {M : Type 1} → statement M
 next-name-spec =

@@ -2,6 +2,7 @@
 use mathlib.Core.Path.{_≡_, refl, sym, ap, _∙_, subst}
 use Prim.Native.Nat.{ℕ, suc, _+_, _-_, _*_, _≤_, _<_}
 use lib.ListN.{length, replicate}
+use Rattle.rules.specs.Sizes.{memoryLength}
 use Rattle.cell_changes.proofs.Clearing.{empty-image}
 use borrow.Author.Needs.{needs}
 use Rattle.cell_changes.proofs.clear.Statement.{statement}
@@ -15,7 +16,7 @@ clear-bytes-requires c κs = search needs
 
 returns : tie.Need-returns
 returns c =
-    let e : length (c .before .before .args .mem .now) ≡ 18424 = search needs in
+    let e : length (c .before .before .args .mem .now) ≡ memoryLength = search needs in
     c .clear-bytes .ensures ∙ ap (λ (n : ℕ). replicate n 0) e ∙ empty-image
 
 pub clear-spec : {M : Type 1} → statement M

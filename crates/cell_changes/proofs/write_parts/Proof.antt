@@ -4,6 +4,7 @@ use Prim.Native.Nat.{ℕ, suc, _+_, _-_, _*_, _≤_, _<_}
 use native.Mathlib.Omega.{arith}
 use mir.Facts.{toZ-ofZ}
 use lib.ListN.{length}
+use Rattle.rules.specs.Sizes.{memoryLength}
 use Rattle.rules.specs.Layout.{cellPlace}
 use Rattle.cell_changes.proofs.Parts.{parts-put}
 use borrow.Author.Needs.{needs}
@@ -45,7 +46,7 @@ returns : tie.Need-returns
 returns c =
     let s = c .before .before .before .before in
     let a = s .args in
-    let e : length (a .mem .now) ≡ 18424 = search needs in
+    let e : length (a .mem .now) ≡ memoryLength = search needs in
     let room : cellPlace (a .i) + 16 ≤ length (a .mem .now) = omega (arith, s .pre .0) in (
       (rw (toZ-ofZ (s .fits .z), c .before .before .write-word .ensures) at (c .write-i64 .ensures))
           ∙ parts-put (a .mem .now) (cellPlace (a .i)) (a .kind) (a .owner) (a .name) (a .z) room (s .fits .kind .fits)

@@ -7,19 +7,20 @@ use native.Mathlib.Omega.{arith}
 use mathlib.Core.Path.{_≡_, ap, _∙_}
 use mathlib.Core.List.{List}
 use denote.Ref.{now}
+use Rattle.rules.specs.Sizes.{nameCount}
 use Rattle.rules.specs.Layout.{recordedAt, observationOf}
 use lib.ListN.{drop}
 use Rattle.rules.specs.declared.Recorded.{Recorded}
 use Rattle.free_marks.specs.Occupied.{occupy, occupyAll}
 use Rattle.free_marks.proofs.PlaceLaws.{cover-start, cover-more}
 
-covered : (p l d : List ℕ) (k : ℕ) (b : Recorded) → k < 255 → d ≡ occupyAll p (drop (suc k) (observationOf l .blocks))
-    → b ≡ recordedAt l k → occupy d b ≡ occupyAll p (drop k (observationOf l .blocks))
+covered : (p l d : List ℕ) (k : ℕ) (b : Recorded) → k < nameCount
+    → d ≡ occupyAll p (drop (suc k) (observationOf l .blocks)) → b ≡ recordedAt l k → occupy d b ≡ occupyAll p (drop k (observationOf l .blocks))
 covered p l d k b h e f = ap (λ (t : List ℕ). occupy t b) e ∙ ap
     (occupy (occupyAll p (drop (suc k) (observationOf l .blocks)))) f ∙ cover-more p l k h
 
 abbrev Inv-loop : tie.InvT-loop
-Inv-loop obs places₀ k₀ places k = (k ≤ 255) × (places ≡ occupyAll places₀ (drop k (observationOf obs .blocks)))
+Inv-loop obs places₀ k₀ places k = (k ≤ nameCount) × (places ≡ occupyAll places₀ (drop k (observationOf obs .blocks)))
 
 abbrev μ-loop : tie.MeasureT-loop
 μ-loop obs places₀ k₀ places k = k

@@ -12,6 +12,7 @@ use mathlib.Core.Logic.{⊎-elim}
 use lib.Dec.{eqb}
 use lib.ListN.{getD}
 use borrow.Author.Tests.{eq-eqb, ne-eqb}
+use Rattle.rules.specs.Sizes.{cellCount}
 use Rattle.rules.proofs.RunLaws.{Scanned, scan-start, scan-free, scan-held, scan-found, scan-none}
 
 abbrev free : List ℕ → ℕ → Bool
@@ -21,7 +22,7 @@ abbrev Inv-loop : tie.InvT-loop
 Inv-loop places n run₀ i₀ run i = Scanned (free places) n i run
 
 abbrev μ-loop : tie.MeasureT-loop
-μ-loop places n run₀ i₀ run i = 1024 - i
+μ-loop places n run₀ i₀ run i = cellCount - i
 
 loop-holds : tie.Need-loop-holds Inv-loop μ-loop
 loop-holds c = scan-start (free (now (c .args .places))) (c .args .n) (c .pre)
@@ -67,7 +68,7 @@ returns-2 : tie.Need-returns-2 Inv-loop μ-loop
 returns-2 c =
     let s = c .before .before in
     let l = c .before .loop in
-    let all : l .i ≡ 1024 = omega (arith, l .inv .within) in
+    let all : l .i ≡ cellCount = omega (arith, l .inv .within) in
     scan-none (free (now (s .args .places))) (s .args .n) (l .run) (rw all at (l .inv))
 
 pub find-run-spec : {M : Type 1} → statement M

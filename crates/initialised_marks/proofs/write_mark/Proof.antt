@@ -7,6 +7,7 @@ use mathlib.Core.Path.{_≡_}
 use denote.Ref.{now}
 use lib.ListN.{length}
 use Rattle.observation_blocks.proofs.BecomesLaws.{becomes-mark, becomes-as, becomes-out}
+use Rattle.rules.specs.Sizes.{observationLength}
 
 add-put-byte : tie.Need-add-put-byte
 add-put-byte c = search needs
@@ -18,7 +19,7 @@ returns : tie.Need-returns
 returns c =
     let s = c .before .before .before in
     let l = now (s .args .obs) in
-    let long : length l ≡ 3064 = search needs in
+    let long : length l ≡ observationLength = search needs in
     becomes-as (c .put-byte .ensures) (becomes-mark l (s .args .i) long)
 
 returns-2 : tie.Need-returns-2

@@ -7,6 +7,7 @@ use native.Mathlib.Omega.{arith}
 use mathlib.Core.Path.{_≡_, sym, ap, _∙_}
 use denote.Ref.{now}
 use lib.ListN.{length, replicate}
+use Rattle.rules.specs.Sizes.{observationLength}
 use Rattle.rules.proofs.FillLaws.{fill-all}
 use Rattle.observation_records.proofs.ObservationLaws.{empty-image}
 
@@ -16,8 +17,9 @@ fill-bytes-requires c κs = search needs
 returns : tie.Need-returns
 returns c =
     let l = now (c .before .before .args .obs) in
-    let long : length l ≡ 3064 = search needs in
-    c .fill-bytes .ensures ∙ fill-all 0 l 3064 (omega arith) ∙ ap (λ (n : ℕ). replicate n 0) long ∙ sym empty-image
+    let long : length l ≡ observationLength = search needs in
+    c .fill-bytes .ensures ∙ fill-all 0 l observationLength (omega arith) ∙ ap (λ (n : ℕ). replicate n 0) long
+    ∙ sym empty-image
 
 pub clear-spec : {M : Type 1} → statement M
 clear-spec = tie.close (tie.spec fill-bytes-requires returns)

@@ -1,4 +1,5 @@
 -- `observation_blocks::clear_marks` meets its contract. Assumes nothing.
+use Rattle.rules.specs.Sizes.{observationLength}
 use borrow.Author.Needs.{needs}
 use Rattle.observation_blocks.proofs.clear_marks.Statement.{statement}
 use Rattle.observation_blocks.proofs.clear_marks.Tie as tie
@@ -18,7 +19,7 @@ returns : tie.Need-returns
 returns c =
     let s = c .before .before in
     let l = now (s .args .obs) in
-    let long : length l ≡ 3064 = search needs in
+    let long : length l ≡ observationLength = search needs in
     becomes-as (c .fill-bytes .ensures) (becomes-fill l long (s .args .first) (s .args .n) false)
 
 pub clear-marks-spec : {M : Type 1} → statement M

@@ -7,6 +7,7 @@ use native.Mathlib.Omega.{arith}
 use mathlib.Core.Path.{_≡_, ap, _∙_}
 use denote.Ref.{now}
 use lib.ListN.{length}
+use Rattle.rules.specs.Sizes.{observationLength}
 use Rattle.rules.specs.Words.{put}
 use Rattle.rules.proofs.RecordLaws.{record-digits}
 use Rattle.observation_blocks.proofs.BecomesLaws.{becomes-record, becomes-as}
@@ -33,7 +34,7 @@ returns : tie.Need-returns
 returns c =
     let s = c .before .before in
     let l = now (s .args .obs) in
-    let long : length l ≡ 3064 = search needs in
+    let long : length l ≡ observationLength = search needs in
     becomes-as (c .write-word .ensures ∙ ap (put l (s .args .k * 8))
     (record-digits (s .args .state) (s .args .first) (s .args .n) (omega arith) (omega arith) (omega arith)))
     (becomes-record l long (s .args .k) (s .args .state) (s .args .first) (s .args .n) (s .pre .0) (omega arith)

@@ -1,6 +1,7 @@
-use Prim.Native.Nat.{ℕ, _≤_}
+use Prim.Native.Nat.{ℕ, _*_, _≤_}
 use mathlib.Core.Path.{sym, ap, subst}
 use lib.ListN.{length, replicate, length-replicate}
+use Rattle.rules.specs.Sizes.{targetLimit}
 use Rattle.rules.specs.Trees.{Statement}
 use Rattle.rules.specs.Flow.{ending}
 use Rattle.rules.specs.Plain.{run, startVariables}
@@ -11,20 +12,20 @@ use Rattle.plain.proofs.run_table.Statement.{statement}
 use Rattle.plain.proofs.run_table.Tie as tie
 
 slice-aggregate-copy : tie.Need-slice-aggregate-copy
-slice-aggregate-copy c = sym (length-replicate {A = ℕ} 65536 0)
+slice-aggregate-copy c = sym (length-replicate {A = ℕ} (targetLimit * 16) 0)
 
 copy-requires : tie.Need-copy-requires
 copy-requires c κs =
     let s = c .before .before in
     let T = s .args .table .now in
-    subst (λ (k : ℕ). length T ≤ k) (sym (length-replicate {A = ℕ} 65536 0)) (table-length T T (s .pre .0))
+    subst (λ (k : ℕ). length T ≤ k) (sym (length-replicate {A = ℕ} (targetLimit * 16) 0)) (table-length T T (s .pre .0))
 
 run-from-start-requires : tie.Need-run-from-start-requires
 run-from-start-requires c κs =
     let s = c .before .before .before .before .before .before in
     let T = s .args .table .now in
     rw (c .before .before .before .copy .ensures)
-    (ready-start T (replicate 65536 0) (s .pre .0) (memoryOf (s .args .mem .now)) (s .pre .1))
+    (ready-start T (replicate (targetLimit * 16) 0) (s .pre .0) (memoryOf (s .args .mem .now)) (s .pre .1))
 
 returns : tie.Need-returns
 returns c =
@@ -32,7 +33,7 @@ returns c =
     let T = s .args .table .now in
     ran-is
     (ap (λ (x : Statement). ending (run x startVariables (memoryOf (s .args .mem .now)) (s .args .fuel)))
-    (sym (same-program T (replicate 65536 0) (s .pre .0))))
+    (sym (same-program T (replicate (targetLimit * 16) 0) (s .pre .0))))
     (rw (c .before .before .before .before .copy .ensures) at (c .run-from-start .ensures))
 
 pub run-table-spec : {M : Type 1} → statement M

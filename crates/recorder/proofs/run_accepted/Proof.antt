@@ -2,6 +2,7 @@
 use borrow.Author.Needs.{needs}
 use mathlib.Core.Bool.{true, false, _||_}
 use mathlib.Core.Path.{_≡_, refl, sym, _∙_}
+use Rattle.rules.specs.Sizes.{memoryLength, observationLength}
 use Rattle.rules.specs.Checker.{inputsFault, memoryFault, observationFault}
 use Rattle.recorder.specs.BothRuns.{Lent, lent}
 use Rattle.recorder.proofs.BothLaws.{right-length, wrong-length, accepted-runs, refused-both}
@@ -37,7 +38,7 @@ returns-2 c =
     refused-both t i (s .args .fuel) x 21 0 (c .refuse-both2 .result)
     (accepted-runs t i (s .args .fuel) x false true _ _ (s .pre)
     (sym (c .before .before .before .has-inputs-fault .ensures) ∙ c .before .before .if1 .left)
-    (λ j. wrong-length (x .memory) 18424 (c .before .if2 .taken) j || memoryFault (x .second)) refl refl)
+    (λ j. wrong-length (x .memory) memoryLength (c .before .if2 .taken) j || memoryFault (x .second)) refl refl)
     (c .refuse-both2 .ensures)
 
 refuse-both-requires-3 : tie.Need-refuse-both-requires-3
@@ -52,8 +53,8 @@ returns-3 c =
     refused-both t i (s .args .fuel) x 21 0 (c .refuse-both3 .result)
     (accepted-runs t i (s .args .fuel) x false true _ _ (s .pre)
     (sym (c .before .before .before .before .has-inputs-fault .ensures) ∙ c .before .before .before .if1 .left)
-    (λ j. right-length (x .memory) 18424 (c .before .before .if2 .left) j || wrong-length (x .second) 18424
-    (c .before .if3 .taken) j)
+    (λ j. right-length (x .memory) memoryLength (c .before .before .if2 .left) j
+    || wrong-length (x .second) memoryLength (c .before .if3 .taken) j)
     refl refl)
     (c .refuse-both3 .ensures)
 
@@ -70,9 +71,9 @@ returns-4 c =
     (accepted-runs t i (s .args .fuel) x false false true _ (s .pre)
     (sym (c .before .before .before .before .before .has-inputs-fault .ensures)
     ∙ c .before .before .before .before .if1 .left)
-    (λ j. right-length (x .memory) 18424 (c .before .before .before .if2 .left) j || right-length (x .second) 18424
-    (c .before .before .if3 .left) j)
-    (wrong-length (x .observation) 3064 (c .before .if4 .taken)) refl)
+    (λ j. right-length (x .memory) memoryLength (c .before .before .before .if2 .left) j
+    || right-length (x .second) memoryLength (c .before .before .if3 .left) j)
+    (wrong-length (x .observation) observationLength (c .before .if4 .taken)) refl)
     (c .refuse-both4 .ensures)
 
 run-translated-requires : tie.Need-run-translated-requires

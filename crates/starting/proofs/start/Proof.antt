@@ -1,8 +1,9 @@
 -- `starting::start` meets its contract. Assumes nothing.
-use Prim.Native.Nat.{ℕ, _+_, _*_, _/_, _≤_, _<_}
+use Prim.Native.Nat.{ℕ, _+_, _-_, _*_, _/_, _≤_, _<_}
 use native.Mathlib.Omega.{arith}
 use mathlib.Core.Path.{_≡_, refl}
 use lib.ListN.{length}
+use Rattle.rules.specs.Sizes.{cellCount}
 use Rattle.starting.proofs.Starting.{start-bytes}
 use borrow.Author.Needs.{needs}
 use Rattle.starting.proofs.start.Statement.{statement}
@@ -29,7 +30,7 @@ returns : tie.Need-returns
 returns c =
     let s = c .before .before .before .before .before .before .before in
     let i = s .args .inputs .now in
-    let n : length i / 8 ≤ 1023 = omega (arith, s .pre) in
+    let n : length i / 8 ≤ cellCount - 1 = omega (arith, s .pre) in
     start-bytes _ _ _ i (length i / 8) refl n (c .before .before .before .before .clear .ensures)
     (c .before .before .put-start .ensures) (c .put-inputs .ensures)
 

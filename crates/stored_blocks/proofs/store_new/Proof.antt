@@ -6,6 +6,7 @@ use Prim.Native.Nat.{_+_, _≤_}
 use native.Mathlib.Omega.{arith}
 use mathlib.Core.Path.{_≡_, sym, ap, _∙_}
 use denote.Ref.{now}
+use Rattle.rules.specs.Sizes.{cellCount}
 use Rattle.rules.specs.Layout.{observationOf}
 use Rattle.rules.specs.Observation.{markRun, storeAt}
 use Rattle.rules.proofs.RunLaws.{run-bound}
@@ -17,7 +18,7 @@ run-is : (c : tie.After-first) → markRun (observationOf (now (c .before .befor
     (c .before .before .before .before .args .n) ≡ search.At (c .first .given .0 .0)
 run-is c = sym (c .before .before .find-marks .ensures) ∙ c .first .given .1
 
-low : (c : tie.After-first) → c .first .given .0 .0 + c .before .before .before .before .args .n ≤ 1024
+low : (c : tie.After-first) → c .first .given .0 .0 + c .before .before .before .before .args .n ≤ cellCount
 low c = run-bound _ (c .before .before .before .before .args .n) _ (run-is c)
 
 find-marks-requires : tie.Need-find-marks-requires

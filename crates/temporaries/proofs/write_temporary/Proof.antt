@@ -4,6 +4,7 @@ use mathlib.Core.Path.{_≡_}
 use lib.ListN.{length}
 use mir.Facts.{toZ-ofZ}
 use denote.Ref.{now}
+use Rattle.temporaries.specs.Bytes.{temporariesLength}
 use Rattle.temporaries.proofs.Writing.{temporary-written}
 use borrow.Author.Needs.{needs}
 use Rattle.temporaries.proofs.write_temporary.Statement.{statement}
@@ -31,7 +32,7 @@ returns : tie.Need-returns
 returns c =
     let s = c .before .before .before .before in
     let a = s .args in
-    let e : length (now (a .temporaries)) ≡ 1024 = search needs in
+    let e : length (now (a .temporaries)) ≡ temporariesLength = search needs in
     temporary-written (now (a .temporaries)) (a .n) (a .kind) (a .name) (a .z) e (s .pre) (s .fits .kind .fits)
     (s .fits .name .fits) (s .fits .z) (c .before .before .write-word .ensures)
     (rw (toZ-ofZ (s .fits .z)) at (c .write-i64 .ensures))

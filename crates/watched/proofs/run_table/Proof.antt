@@ -1,6 +1,7 @@
-use Prim.Native.Nat.{ℕ, _≤_}
+use Prim.Native.Nat.{ℕ, _*_, _≤_}
 use mathlib.Core.Path.{sym, ap, subst}
 use lib.ListN.{length, replicate, length-replicate}
+use Rattle.rules.specs.Sizes.{targetLimit}
 use Rattle.rules.specs.TargetTrees.{TargetStatement}
 use Rattle.rules.specs.Flow.{ending}
 use Rattle.rules.specs.Plain.{startVariables}
@@ -11,22 +12,21 @@ use Rattle.watched.proofs.run_table.Statement.{statement}
 use Rattle.watched.proofs.run_table.Tie as tie
 
 slice-aggregate-copy : tie.Need-slice-aggregate-copy
-slice-aggregate-copy c = sym (length-replicate {A = ℕ} 65536 0)
+slice-aggregate-copy c = sym (length-replicate {A = ℕ} (targetLimit * 16) 0)
 
 copy-requires : tie.Need-copy-requires
 copy-requires c κs =
     let s = c .before .before in
     let T = s .args .table .now in
-    subst (λ (k : ℕ). length T ≤ k) (sym (length-replicate {A = ℕ} 65536 0)) (table-length T T (s .pre .0))
+    subst (λ (k : ℕ). length T ≤ k) (sym (length-replicate {A = ℕ} (targetLimit * 16) 0)) (table-length T T (s .pre .0))
 
 run-from-start-requires : tie.Need-run-from-start-requires
 run-from-start-requires c κs =
     let after-copy = c .before .before .before .before in
     let s = after-copy .before .before .before in
     rw (after-copy .copy .ensures)
-    (ready-start (s .args .table .now) (replicate 65536 0) (s .pre .0) (s .args .mem .now) (s .args .obs .now)
-    (s .pre .1)
-    (s .pre .2))
+    (ready-start (s .args .table .now) (replicate (targetLimit * 16) 0) (s .pre .0) (s .args .mem .now)
+    (s .args .obs .now) (s .pre .1) (s .pre .2))
 
 returns : tie.Need-returns
 returns c =
@@ -36,7 +36,7 @@ returns c =
     let o = observationOf (s .args .obs .now) in
     leaves-is
     (ap (λ (x : TargetStatement). ending (watch x startVariables (watching m o startTemporaries) (s .args .fuel)))
-    (sym (same-program (s .args .table .now) (replicate 65536 0) (s .pre .0))))
+    (sym (same-program (s .args .table .now) (replicate (targetLimit * 16) 0) (s .pre .0))))
     (rw (after-copy .copy .ensures) at (c .run-from-start .ensures))
 
 pub run-table-spec : {M : Type 1} → statement M
