@@ -5,6 +5,7 @@ use mathlib.Core.List.{List}
 use mathlib.Core.Path.{_≡_}
 use lib.Dec.{eqb}
 use lib.IntN.{pos}
+use Rattle.rules.specs.Sizes.{sourceLimit}
 use Rattle.rules.specs.Kinds.{source}
 use Rattle.rules.specs.Nodes.{SourceNode, expressionNode, placeNode, termNode, predicateNode, statementNode, junk}
 use Rattle.rules.specs.Nodes.{nodeAt}
@@ -40,7 +41,7 @@ LevelsAt t n v = Levels (nodeAt source t n) v
 
 -- record n is one, under statement s, and there is room for its records
 abbrev pub Ready : List ℕ → ℕ → List ℕ → ℕ → ℕ → ℕ → Type 0
-Ready t n o at s v = LevelsAt t n v × (s ≤ 256) × Room o at (treeAt t n s v)
+Ready t n o at s v = LevelsAt t n v × (s ≤ sourceLimit) × Room o at (treeAt t n s v)
 
 -- "21–23, 30, 31: child at n+1; 64. .. 33: child at n+1; 65": the last record's kind, and its field C, the query
 abbrev pub lastKind : ℕ → ℕ

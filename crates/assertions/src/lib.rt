@@ -4,6 +4,7 @@ ghost use mathlib.Core.Path.{_≡_};
 ghost use mathlib.Core.Bool.{true};
 ghost use Prim.Native.Nat.{_+_, _*_, _≤_};
 ghost use lib.ListN.{length};
+ghost use Rattle.rules.specs.Sizes.{sourceLimit};
 ghost use Rattle.rules.specs.Records.{kindOf};
 ghost use Rattle.rules.specs.Checker.{isUnary};
 ghost use Rattle.emission.specs.Emission.{Room, Emitted};
@@ -26,7 +27,7 @@ fn query(kind: u8) -> usize
 
 // Kind 66 over the last two parts, behind the one that ends with record `first`.
 fn emit_branch(out: &mut [u8], at: usize, first: usize, yes: usize, mark: u8, s: usize) -> usize
-    requires { ⌜ s ≤ 256 ⌝ ∗ ⌜ 16 * (at + 2) ≤ length (now out) ⌝ }
+    requires { ⌜ s ≤ sourceLimit ⌝ ∗ ⌜ 16 * (at + 2) ≤ length (now out) ⌝ }
     ensures { λ r. ⌜ Branched (now (out .entry)) at first yes mark s (now (out .exit)) r ⌝ }
 {
     let x = emission::emit_record(out, at, 66, mark, 0, yes, at, s as i64);
@@ -117,7 +118,7 @@ fn emit_either(table: &[u8], n: usize, out: &mut [u8], at: usize, s: usize, leve
 
 // An assertion: its predicate at level 0, then 67.
 pub fn emit_assert(table: &[u8], a: usize, out: &mut [u8], at: usize, s: usize) -> usize
-    requires { ⌜ LevelsAt (now table) a 0 ⌝ ∗ ⌜ s ≤ 256 ⌝ ∗ ⌜ Room (now out) at (assertTree (now table) s a) ⌝ }
+    requires { ⌜ LevelsAt (now table) a 0 ⌝ ∗ ⌜ s ≤ sourceLimit ⌝ ∗ ⌜ Room (now out) at (assertTree (now table) s a) ⌝ }
     ensures { λ r. ⌜ Emitted (now (out .entry)) at (assertTree (now (table .entry)) s a) (now (out .exit)) r ⌝ }
 {
     let p = emit_test(table, a, out, at, s, 0);

@@ -10,6 +10,7 @@ use mir.Syntax.{w64}
 use mir.Val.{toZ, ofZ}
 use mir.Facts.{toZ-ofZ}
 use lib.ListN.{length}
+use Rattle.rules.specs.Sizes.{sourceLimit}
 use Rattle.rules.specs.Records.{kindOf, markOf, childA, childB, literalOf}
 use Rattle.rules.specs.Emission.{RecordTree, none, node, treeSize, rootNumber}
 use Rattle.emission.specs.Emission.{recordOf, withRecord, Room, Emitted, Copied, rootFrom, sequenceTree}
@@ -19,7 +20,7 @@ use Rattle.rules.proofs.RecordSizes.{none-at}
 use Rattle.emission.proofs.Copying.{CopyLaw, copied-at, copy-at}
 
 -- a statement's number as a literal
-pub number-literal : (s : ℕ) → s ≤ 256 → toZ w64 (ofZ w64 (pos s)) ≡ pos s
+pub number-literal : (s : ℕ) → s ≤ sourceLimit → toZ w64 (ofZ w64 (pos s)) ≡ pos s
 number-literal s h = toZ-ofZ {w = w64} {z = pos s} (record { sfits = omega arith })
 
 pub copy-none : (t : List ℕ) (n : ℕ) (o : List ℕ) (at : ℕ) → n ≡ 0 → Emitted o at (copyAt t n) o at

@@ -4,6 +4,7 @@ ghost use mathlib.Core.List.{_++_};
 ghost use Prim.Native.Nat.{_+_, _*_, _≤_};
 ghost use lib.IntN.{pos};
 ghost use lib.ListN.{length};
+ghost use Rattle.rules.specs.Sizes.{sourceLimit};
 ghost use Rattle.rules.specs.Words.{put, digits};
 ghost use Rattle.rules.specs.Records.{kindOf, markOf, literalOf};
 ghost use Rattle.rules.specs.Emission.{none, node};
@@ -91,7 +92,7 @@ pub fn emit_part(
     c: usize,
     s: usize,
 ) -> usize
-    requires { ⌜ Copied (now table) a ⌝ ∗ ⌜ Copied (now table) b ⌝ ∗ ⌜ s ≤ 256 ⌝
+    requires { ⌜ Copied (now table) a ⌝ ∗ ⌜ Copied (now table) b ⌝ ∗ ⌜ s ≤ sourceLimit ⌝
         ∗ ⌜ Room (now out) at (node kind mark (pos s) c (copyAt (now table) a) (copyAt (now table) b) none) ⌝ }
     ensures { λ r. ⌜ Emitted (now (out .entry)) at
         (node kind mark (pos s) c (copyAt (now (table .entry)) a) (copyAt (now (table .entry)) b) none)
@@ -104,7 +105,7 @@ pub fn emit_part(
 
 // A sequence of statement s: the part that ends with record `first`, then all behind it.
 pub fn emit_sequence(out: &mut [u8], at: usize, first: usize, s: usize) -> usize
-    requires { ⌜ s ≤ 256 ⌝ ∗ ⌜ 16 * (at + 1) ≤ length (now out) ⌝ }
+    requires { ⌜ s ≤ sourceLimit ⌝ ∗ ⌜ 16 * (at + 1) ≤ length (now out) ⌝ }
     ensures bytes { λ _. ⌜ now (out .exit) ≡ withRecord (now (out .entry)) at (recordOf 44 0 first at 0 (pos s)) ⌝ }
     ensures count { λ r. ⌜ r ≡ at + 1 ⌝ }
 {

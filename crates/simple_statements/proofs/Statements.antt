@@ -5,6 +5,7 @@ use mathlib.Core.Logic.{inr}
 use mathlib.Core.Path.{_≡_, refl, ap, _∙_, subst}
 use mathlib.Core.List.{List}
 use lib.IntN.{pos}
+use Rattle.rules.specs.Sizes.{sourceLimit}
 use Rattle.rules.specs.Records.{kindOf, childA, childB}
 use Rattle.rules.specs.Kinds.{source, Sort, sortNumber, expression, place, predicate, statement}
 use Rattle.rules.specs.Nodes.{SourceNode, expressionNode, placeNode, termNode, predicateNode, statementNode, junk}
@@ -109,7 +110,7 @@ statement-law t n l = size-law t n statement (stands source t n statement (state
 
 number-arm : (t : List ℕ) (n : ℕ) {r : Sort} {k : ℕ} → SourceKind r k → FormHolds source t n (formAt source k)
     → StatementAt t n
-    → n ≤ 256
+    → n ≤ sourceLimit
 number-arm t n literal h l = elim (subst StatementNode (h .node) l) [ ]
 number-arm t n read h l = elim (subst StatementNode (h .node) l) [ ]
 number-arm t n address h l = elim (subst StatementNode (h .node) l) [ ]
@@ -138,7 +139,7 @@ number-arm t n while h l = subst StatementNode (h .node) l .0
 number-arm t n letIn h l = subst StatementNode (h .node) l .0
 number-arm t n assert h l = subst StatementNode (h .node) l .0
 
-pub number-small : (t : List ℕ) (n : ℕ) → StatementAt t n → n ≤ 256
+pub number-small : (t : List ℕ) (n : ℕ) → StatementAt t n → n ≤ sourceLimit
 number-small t n l =
     let e = statement-sort t n l in
     number-arm t n (stands source t n statement e .kind) (stands-at source t n (kindOf t n) statement e refl) l

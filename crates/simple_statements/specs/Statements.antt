@@ -3,6 +3,7 @@ use Prim.Native.Nat.{ℕ, _≤_}
 use mathlib.Core.List.{List}
 use mathlib.Core.Path.{_≡_}
 use lib.IntN.{pos}
+use Rattle.rules.specs.Sizes.{sourceLimit}
 use Rattle.rules.specs.Kinds.{source}
 use Rattle.rules.specs.Nodes.{SourceNode, expressionNode, placeNode, termNode, predicateNode, statementNode, junk, nodeAt}
 use Rattle.rules.specs.Trees.{Statement}
@@ -31,17 +32,17 @@ newTree t s a b =
     sequenceTree s (partTree t s 60 0 a 0 0)
     (sequenceTree s (partTree t s 61 2 b 0 0) (sequenceTree s (partTree t s 42 0 a b 0) (storedTree t s)))
 
--- a statement's numbers are at most 256, and its assertions' temporaries below 64
+-- a statement's numbers are those of a source table, and its assertions' temporaries below 64
 abbrev pub StatementLevels : Statement → Type 0
-StatementLevels (tree.skip s) = s ≤ 256
-StatementLevels (tree.assign s p e) = s ≤ 256
-StatementLevels (tree.new s p e) = s ≤ 256
-StatementLevels (tree.free s e) = s ≤ 256
-StatementLevels (tree.sequence s a b) = (s ≤ 256) × StatementLevels a × StatementLevels b
-StatementLevels (tree.branch s e a b) = (s ≤ 256) × StatementLevels a × StatementLevels b
-StatementLevels (tree.while s e b) = (s ≤ 256) × StatementLevels b
-StatementLevels (tree.letIn s x b) = (s ≤ 256) × StatementLevels b
-StatementLevels (tree.assert s p) = (s ≤ 256) × PredicateLevels p 0
+StatementLevels (tree.skip s) = s ≤ sourceLimit
+StatementLevels (tree.assign s p e) = s ≤ sourceLimit
+StatementLevels (tree.new s p e) = s ≤ sourceLimit
+StatementLevels (tree.free s e) = s ≤ sourceLimit
+StatementLevels (tree.sequence s a b) = (s ≤ sourceLimit) × StatementLevels a × StatementLevels b
+StatementLevels (tree.branch s e a b) = (s ≤ sourceLimit) × StatementLevels a × StatementLevels b
+StatementLevels (tree.while s e b) = (s ≤ sourceLimit) × StatementLevels b
+StatementLevels (tree.letIn s x b) = (s ≤ sourceLimit) × StatementLevels b
+StatementLevels (tree.assert s p) = (s ≤ sourceLimit) × PredicateLevels p 0
 
 abbrev pub StatementNode : SourceNode → Type 0
 StatementNode (expressionNode e) = ⊥

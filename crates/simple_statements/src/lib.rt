@@ -1,5 +1,6 @@
 // The records of a statement that has no statement below it.
 ghost use Prim.Native.Nat.{_≤_};
+ghost use Rattle.rules.specs.Sizes.{sourceLimit};
 ghost use Rattle.rules.specs.Records.{kindOf};
 ghost use Rattle.emission.specs.Emission.{Room, Emitted, Copied};
 ghost use Rattle.sizes.specs.Trees.{copyAt};
@@ -7,7 +8,7 @@ ghost use Rattle.simple_statements.specs.Statements.{fetchTree, savedTre
 
 // The pointer that temporary 0 points to, into temporary 1.
 fn emit_fetch(out: &mut [u8], at: usize, s: usize) -> usize
-    requires { ⌜ s ≤ 256 ⌝ ∗ ⌜ Room (now out) at (fetchTree s) ⌝ }
+    requires { ⌜ s ≤ sourceLimit ⌝ ∗ ⌜ Room (now out) at (fetchTree s) ⌝ }
     ensures { λ r. ⌜ Emitted (now (out .entry)) at (fetchTree s) (now (out .exit)) r ⌝ }
 {
     let x = emission::emit_record(out, at, 12, 0, 0, 0, 0, 0);
@@ -27,7 +28,7 @@ fn emit_saved(
     last: u8,
     s: usize,
 ) -> usize
-    requires { ⌜ Copied (now table) a ⌝ ∗ ⌜ Copied (now table) b ⌝ ∗ ⌜ s ≤ 256 ⌝
+    requires { ⌜ Copied (now table) a ⌝ ∗ ⌜ Copied (now table) b ⌝ ∗ ⌜ s ≤ sourceLimit ⌝
         ∗ ⌜ Room (now out) at (savedTree (now table) s first kind last a b) ⌝ }
     ensures { λ r. ⌜ Emitted (now (out .entry)) at (savedTree (now (table .entry)) s first kind last a b)
         (now (out .exit)) r ⌝ }
@@ -41,7 +42,7 @@ fn emit_saved(
 
 // A new block is recorded: its pointer and its length.
 fn emit_stored(table: &[u8], out: &mut [u8], at: usize, s: usize) -> usize
-    requires { ⌜ s ≤ 256 ⌝ ∗ ⌜ Room (now out) at (storedTree (now table) s) ⌝ }
+    requires { ⌜ s ≤ sourceLimit ⌝ ∗ ⌜ Room (now out) at (storedTree (now table) s) ⌝ }
     ensures { λ r. ⌜ Emitted (now (out .entry)) at (storedTree (now (table .entry)) s) (now (out .exit)) r ⌝ }
 {
     let p = emit_fetch(out, at, s);
@@ -53,7 +54,7 @@ fn emit_stored(table: &[u8], out: &mut [u8], at: usize, s: usize) -> usize
 
 // Address and size are saved, the block is made, and then recorded.
 fn emit_new(table: &[u8], a: usize, b: usize, out: &mut [u8], at: usize, s: usize) -> usize
-    requires { ⌜ Copied (now table) a ⌝ ∗ ⌜ Copied (now table) b ⌝ ∗ ⌜ s ≤ 256 ⌝
+    requires { ⌜ Copied (now table) a ⌝ ∗ ⌜ Copied (now table) b ⌝ ∗ ⌜ s ≤ sourceLimit ⌝
         ∗ ⌜ Room (now out) at (newTree (now table) s a b) ⌝ }
     ensures { λ r. ⌜ Emitted (now (out .entry)) at (newTree (now (table .entry)) s a b) (now (out .exit)) r ⌝ }
 {

@@ -5,6 +5,7 @@ use mathlib.Core.Bool.{Bool, true, false, cond, _&&_}
 use mathlib.Core.Path.{_≡_, sym, ap, _∙_}
 use mathlib.Core.List.{List}
 use lib.Dec.{leb, eqb}
+use Rattle.rules.specs.Sizes.{targetLimit}
 use Rattle.rules.specs.Records.{kindOf, childA, childB, childC}
 use Rattle.rules.specs.Emission.{treeSize}
 use Rattle.rules.proofs.RecordTrees.{treeAt, Sorted, sizeFrom}
@@ -18,22 +19,22 @@ pub size-none : (t : List ℕ) (n : ℕ) → n ≡ 0 → _≡_ {A = ℕ} 0 (tree
 size-none t n e = ap treeSize (none-at t n 0 0 e)
 
 -- the room that a child's size leaves
-module _ (t : List ℕ) (n : ℕ) (l : SizeLaw t n) (small : treeSize (treeAt t n 0 0) ≤ 4096) where
-  least-a : treeSize (treeAt t (childA t n) 0 0) ≤ 4096
+module _ (t : List ℕ) (n : ℕ) (l : SizeLaw t n) (small : treeSize (treeAt t n 0 0) ≤ targetLimit) where
+  least-a : treeSize (treeAt t (childA t n) 0 0) ≤ targetLimit
   least-a =
       let k = kindOf t n in
       omega (arith, l .size 0 0, copies-least (leb 41 k && leb k 43) (treeSize (treeAt t (childA t n) 0 0)))
 
-  least-b : treeSize (treeAt t (childB t n) 0 0) ≤ 4096
+  least-b : treeSize (treeAt t (childB t n) 0 0) ≤ targetLimit
   least-b = omega (arith, l .size 0 0, copies-least (eqb (kindOf t n) 42) (treeSize (treeAt t (childB t n) 0 0)))
 
-  pub size-a : (x : ℕ) → x ≡ childA t n → (x < n) × Sorted t x × (treeSize (treeAt t x 0 0) ≤ 4096)
+  pub size-a : (x : ℕ) → x ≡ childA t n → (x < n) × Sorted t x × (treeSize (treeAt t x 0 0) ≤ targetLimit)
   size-a x e = rw e (l .a-below, l .a-sorted, least-a)
 
-  pub size-b : (x : ℕ) → x ≡ childB t n → (x < n) × Sorted t x × (treeSize (treeAt t x 0 0) ≤ 4096)
+  pub size-b : (x : ℕ) → x ≡ childB t n → (x < n) × Sorted t x × (treeSize (treeAt t x 0 0) ≤ targetLimit)
   size-b x e = rw e (l .b-below, l .b-sorted, least-b)
 
-  pub size-c : (x : ℕ) → x ≡ childC t n → (x < n) × Sorted t x × (treeSize (treeAt t x 0 0) ≤ 4096)
+  pub size-c : (x : ℕ) → x ≡ childC t n → (x < n) × Sorted t x × (treeSize (treeAt t x 0 0) ≤ targetLimit)
   size-c x e = rw e (l .c-below, l .c-sorted, omega (arith, l .size 0 0))
 
   -- the sizes found and the kind read

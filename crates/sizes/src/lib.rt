@@ -1,6 +1,7 @@
 // How many records a record is translated to, by recursion on the record number.
 ghost use mathlib.Core.Path.{_≡_};
 ghost use Prim.Native.Nat.{_≤_};
+ghost use Rattle.rules.specs.Sizes.{targetLimit};
 ghost use Rattle.rules.specs.Emission.{treeSize};
 ghost use Rattle.rules.specs.Origins.{ownRecords, copiesOfChild};
 ghost use Rattle.rules.proofs.RecordTrees.{treeAt, Sorted, sizeFrom};
@@ -41,7 +42,7 @@ fn copies_of_b(kind: u8) -> usize
 
 // The records that a record of a kind is translated to, with those of its children.
 fn total(kind: u8, a: usize, b: usize, c: usize) -> usize
-    requires { ⌜ sizeFrom kind a b c ≤ 4096 ⌝ }
+    requires { ⌜ sizeFrom kind a b c ≤ targetLimit ⌝ }
     ensures { λ r. ⌜ r ≡ sizeFrom kind a b c ⌝ }
 {
     own_records(kind) + copies_of_a(kind) * a + copies_of_b(kind) * b + c
@@ -49,7 +50,7 @@ fn total(kind: u8, a: usize, b: usize, c: usize) -> usize
 
 // How many records record n is translated to.
 pub fn tree_size(table: &[u8], n: usize) -> usize
-    requires { ⌜ Sorted (now table) n ⌝ ∗ ⌜ treeSize (treeAt (now table) n 0 0) ≤ 4096 ⌝ }
+    requires { ⌜ Sorted (now table) n ⌝ ∗ ⌜ treeSize (treeAt (now table) n 0 0) ≤ targetLimit ⌝ }
     ensures { λ r. ⌜ r ≡ treeSize (treeAt (now (table .entry)) n 0 0) ⌝ }
 {
     if n == 0 {

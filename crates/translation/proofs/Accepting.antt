@@ -8,6 +8,7 @@ use mathlib.Core.Logic.{inr}
 use borrow.Author.Tests.{lt-ltb, le-ltb}
 use lib.Dec.{ltb}
 use lib.ListN.{length}
+use Rattle.rules.specs.Sizes.{targetLimit}
 use Rattle.rules.specs.Records.{recordCount, tableBytes}
 use Rattle.rules.specs.Kinds.{source, statement}
 use Rattle.rules.specs.Checker.{refuseIf, check}
@@ -71,7 +72,7 @@ module _ (t : List ℕ) (a : check source t ≡ checked.Accepted) where
   accepted-tree =
       tree-as statement (nodeAt source t (recordCount t)) 0 0 (program .last .is)
 
-  pub accepted-size : treeSize (copyAt t (recordCount t)) ≤ 4096
+  pub accepted-size : treeSize (copyAt t (recordCount t)) ≤ targetLimit
   accepted-size =
       omega (arith, size-bound t a, ap treeSize accepted-tree, program .not-too-many)
 

@@ -3,6 +3,7 @@ use rules::Answer;
 ghost use mathlib.Core.Path.{_≡_};
 ghost use Prim.Native.Nat.{_+_, _*_, _≤_};
 ghost use lib.ListN.{length};
+ghost use Rattle.rules.specs.Sizes.{sourceLimit};
 ghost use Rattle.rules.specs.Translation.{translation};
 ghost use Rattle.rules.specs.Kinds.{source};
 ghost use Rattle.rules.specs.Records.{kindOf};
@@ -25,7 +26,7 @@ fn emit_over(
     mark: u8,
     s: usize,
 ) -> usize
-    requires { ⌜ s ≤ 256 ⌝ ∗ ⌜ Room (now out) at (overTree below place literal s kind mark) ⌝ }
+    requires { ⌜ s ≤ sourceLimit ⌝ ∗ ⌜ Room (now out) at (overTree below place literal s kind mark) ⌝ }
     ensures { λ r. ⌜ Emitted (now (out .entry)) at (overTree below place literal s kind mark) (now (out .exit)) r ⌝ }
 {
     let x = emission::emit_record(out, at, below, place, 0, 0, 0, literal);
@@ -34,7 +35,7 @@ fn emit_over(
 
 // At the end of a let its block is deleted.
 fn emit_ending(table: &[u8], out: &mut [u8], at: usize, variable: u8, s: usize) -> usize
-    requires { ⌜ s ≤ 256 ⌝ ∗ ⌜ Room (now out) at (endingTree (now table) s variable) ⌝ }
+    requires { ⌜ s ≤ sourceLimit ⌝ ∗ ⌜ Room (now out) at (endingTree (now table) s variable) ⌝ }
     ensures { λ r. ⌜ Emitted (now (out .entry)) at (endingTree (now (table .entry)) s variable) (now (out .exit)) r ⌝ }
 {
     let p = emit_over(out, at, 10, variable, 0, 60, 0, s);
@@ -44,7 +45,7 @@ fn emit_ending(table: &[u8], out: &mut [u8], at: usize, variable: u8, s: usize) 
 
 // In front of a let's body its block is recorded: five records.
 fn emit_opening(table: &[u8], out: &mut [u8], at: usize, variable: u8, s: usize) -> usize
-    requires { ⌜ s ≤ 256 ⌝ ∗ ⌜ 16 * (at + 5) ≤ length (now out) ⌝ }
+    requires { ⌜ s ≤ sourceLimit ⌝ ∗ ⌜ 16 * (at + 5) ≤ length (now out) ⌝ }
     ensures bytes { λ _. ⌜ now (out .exit) ≡ withOpening (now (table .entry)) (now (out .entry)) at s variable ⌝ }
     ensures count { λ r. ⌜ r ≡ at + 5 ⌝ }
 {
@@ -56,7 +57,7 @@ fn emit_opening(table: &[u8], out: &mut [u8], at: usize, variable: u8, s: usize)
 // Behind a let's body a sequence for each part in front of it, of which the first starts behind record `first`,
 // then the let's own record.
 fn emit_enclosing(out: &mut [u8], at: usize, first: usize, variable: u8, s: usize) -> usize
-    requires { ⌜ s ≤ 256 ⌝ ∗ ⌜ first + 5 ≤ at ⌝ ∗ ⌜ 16 * (at + 4) ≤ length (now out) ⌝ }
+    requires { ⌜ s ≤ sourceLimit ⌝ ∗ ⌜ first + 5 ≤ at ⌝ ∗ ⌜ 16 * (at + 4) ≤ length (now out) ⌝ }
     ensures bytes { λ _. ⌜ now (out .exit) ≡ withEnclosing (now (out .entry)) at first s variable ⌝ }
     ensures count { λ r. ⌜ r ≡ at + 4 ⌝ }
 {
