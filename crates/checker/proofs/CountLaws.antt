@@ -9,13 +9,14 @@ use mathlib.Core.Path.{_≡_, refl, sym, ap, subst, _∙_}
 use borrow.Author.Tests.{eqb-true}
 use lib.Dec.{eqb}
 use lib.ListN.{length, getD, List·getD-eq-default}
+use Rattle.rules.specs.Sizes.{targetLimit}
 use Rattle.rules.specs.Records.{Record, kindOf, childA, childB, childC, recordAt}
 use Rattle.rules.specs.Kinds.{Language, Form, fieldOf, formOf}
 use Rattle.rules.specs.Checker.{timesIn, timesOf, timesChildOf, timesChild}
 use Rattle.rules.proofs.ParentLaws.{times-in-all, times-suc, times-zero}
 use Rattle.forms.specs.Codes.{fieldFrom, entry, decoded, Coded}
 use Rattle.forms.proofs.FaultLaws.{field-asked}
-use Rattle.checker.specs.Searches.{countIn, countThree, Counted}
+use Rattle.checker.specs.Searches.{countIn, countThree, Counted, noteCount}
 use Rattle.checker.proofs.NoteLaws.{count-step, count-length, times-most, Room}
 
 abbrev inThree : ℕ → Record → ℕ → ℕ
@@ -64,23 +65,23 @@ times-bound : (l : Language) (t : List ℕ) (k j : ℕ) → timesChild l t k j �
 times-bound l t zero j = omega (arith, times-zero l t j)
 times-bound l t (suc k) j = omega (arith, times-suc l t j k, times-bound l t k j, times-of-most l t (suc k) j)
 
-pub counted-room : (l : Language) (t : List ℕ) (k : ℕ) (notes : List ℕ) → Counted l t k notes → k ≤ 4096
+pub counted-room : (l : Language) (t : List ℕ) (k : ℕ) (notes : List ℕ) → Counted l t k notes → k ≤ targetLimit
     → Room 65533 notes
-counted-room l t k notes h q = (h .size, λ j. go j (decLt j 4097))
+counted-room l t k notes h q = (h .size, λ j. go j (decLt j noteCount))
   where
-    go : (j : ℕ) → Dec (j < 4097) → getD notes j 0 < 65533
+    go : (j : ℕ) → Dec (j < noteCount) → getD notes j 0 < 65533
     go j (yes p) = omega (arith, h .counts j p, times-bound l t k j)
     go j (no p) = omega (arith, List·getD-eq-default notes 0 {n = j} (omega (arith, h .size)))
 
-three-counted : (x a b c : ℕ) (notes : List ℕ) (j : ℕ) → length notes ≡ 4097 → j < 4097
+three-counted : (x a b c : ℕ) (notes : List ℕ) (j : ℕ) → length notes ≡ noteCount → j < noteCount
     → getD (countThree x a b c notes) j 0
     ≡ getD notes j 0 + timesIn (fieldFrom (x / 4096 % 16)) a j + timesIn (fieldFrom (x / 256 % 16)) b j
     + timesIn (fieldFrom (x / 16 % 16)) c j
 three-counted x a b c notes j s h =
     let first = countIn (fieldFrom (x / 4096 % 16)) a notes in
     let second = countIn (fieldFrom (x / 256 % 16)) b first in
-    let s₁ : length first ≡ 4097 = count-length (fieldFrom (x / 4096 % 16)) a notes ∙ s in
-    let s₂ : length second ≡ 4097 = count-length (fieldFrom (x / 256 % 16)) b first ∙ s₁ in
+    let s₁ : length first ≡ noteCount = count-length (fieldFrom (x / 4096 % 16)) a notes ∙ s in
+    let s₂ : length second ≡ noteCount = count-length (fieldFrom (x / 256 % 16)) b first ∙ s₁ in
     omega (
       arith,
       count-step (fieldFrom (x / 4096 % 16)) a notes j (omega arith),

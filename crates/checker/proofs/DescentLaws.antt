@@ -8,13 +8,14 @@ use mathlib.Core.Path.{_≡_, refl, sym, ap, subst, _∙_}
 use borrow.Author.Tests.{eqb-true, ltb-false, lt-ltb, le-ltb}
 use lib.Dec.{eqb, ltb}
 use lib.ListN.{length, getD}
+use Rattle.rules.specs.Sizes.{targetLimit}
 use Rattle.rules.specs.Records.{recordCount, kindOf, childA, childB, childC, recordAt}
 use Rattle.rules.specs.Kinds.{Language, Field, unnamed, child, number}
 use Rattle.rules.specs.Checker.{recordFault, shapeFault, timesIn, timesChildOf}
 use Rattle.rules.proofs.ParentLaws.{Passed, IsParent, parent-above, has-parent}
 use Rattle.rules.proofs.CheckLaws.{each-passes}
 use Rattle.forms.specs.Codes.{fieldFrom, Coded}
-use Rattle.checker.specs.Searches.{putIn, putThree}
+use Rattle.checker.specs.Searches.{putIn, putThree, noteCount}
 use Rattle.checker.specs.Scopes.{Given, Kept}
 use Rattle.checker.proofs.NoteLaws.{put-step, put-length}
 use Rattle.checker.proofs.CountLaws.{times-as}
@@ -40,12 +41,12 @@ field-has (child s) y j h = go (eqb y j) refl h
 
 -- P of the last record, and of the children of the records above n
 pub record Known (P : ℕ → ℕ → Type 0) (l : Language) (t : List ℕ) (n : ℕ) (notes : List ℕ) : Type 0 where
-  pub size : length notes ≡ 4097
+  pub size : length notes ≡ noteCount
   pub last : P (recordCount t) (getD notes (recordCount t) 0)
   pub below : (m j : ℕ) → IsParent l t m j → n < m → P j (getD notes j 0)
 
 module _ (P : ℕ → ℕ → Type 0) (l : Language) (t : List ℕ) where
-  pub known-start : (notes : List ℕ) → length notes ≡ 4097 → P (recordCount t) (getD notes (recordCount t) 0)
+  pub known-start : (notes : List ℕ) → length notes ≡ noteCount → P (recordCount t) (getD notes (recordCount t) 0)
       → Known P l t (recordCount t) notes
   known-start notes s p = record {
     size = s;
@@ -65,7 +66,7 @@ module _ (P : ℕ → ℕ → Type 0) (l : Language) (t : List ℕ) where
           let same : recordCount t ≡ n = omega arith in
           subst (λ (k : ℕ). P k (getD notes k 0)) same (h .last)
 
-  pub known-down : Passed l t → recordCount t ≤ 4096 → (n : ℕ) (f : ℕ → ℕ) (notes notes' : List ℕ) → 0 < n
+  pub known-down : Passed l t → recordCount t ≤ targetLimit → (n : ℕ) (f : ℕ → ℕ) (notes notes' : List ℕ) → 0 < n
       → n ≤ recordCount t → Given l t n f notes notes' → ((j : ℕ) → IsParent l t n j → P j (f j))
       → Known P l t n notes → Known P l t (n - 1) notes'
   known-down keeps few n f notes notes' a b g c h = record {
@@ -76,7 +77,7 @@ module _ (P : ℕ → ℕ → Type 0) (l : Language) (t : List ℕ) where
         (λ e. go m j k q e (decLt n m));
   }
     where
-      at : (j : ℕ) → j < 4097 → (timesChildOf l t n j ≡ 0 → P j (getD notes j 0)) → P j (getD notes' j 0)
+      at : (j : ℕ) → j < noteCount → (timesChildOf l t n j ≡ 0 → P j (getD notes j 0)) → P j (getD notes' j 0)
       at j q base = subst (P j) (sym (g .values j q)) (pick (decLt 0 (timesChildOf l t n j)))
         where
           pick : Dec (0 < timesChildOf l t n j) → P j (cond (ltb 0 (timesChildOf l t n j)) (f j) (getD notes j 0))
@@ -95,7 +96,7 @@ module _ (P : ℕ → ℕ → Type 0) (l : Language) (t : List ℕ) where
 
 -- what is put by the fields of record n is given to its children
 module _ (l : Language) (t : List ℕ) (n x : ℕ) (k : Coded l (kindOf t n) x) (u v w : ℕ) (f : ℕ → ℕ) (notes : List ℕ)
-    (s : length notes ≡ 4097) (p : u ≡ f (childA t n)) (q : v ≡ f (childB t n)) (r : w ≡ f (childC t n)) where
+    (s : length notes ≡ noteCount) (p : u ≡ f (childA t n)) (q : v ≡ f (childB t n)) (r : w ≡ f (childC t n)) where
   abbrev Right : ℕ → ℕ → Type 0
   Right j y = y ≡ cond (ltb 0 (timesChildOf l t n j)) (f j) (getD notes j 0)
 
@@ -105,10 +106,10 @@ module _ (l : Language) (t : List ℕ) (n x : ℕ) (k : Coded l (kindOf t n) x) 
   abbrev second : List ℕ
   second = putIn (fieldFrom (x / 256 % 16)) (childB t n) v first
 
-  first-length : length first ≡ 4097
+  first-length : length first ≡ noteCount
   first-length = put-length (fieldFrom (x / 4096 % 16)) (childA t n) u notes ∙ s
 
-  second-length : length second ≡ 4097
+  second-length : length second ≡ noteCount
   second-length = put-length (fieldFrom (x / 256 % 16)) (childB t n) v first ∙ first-length
 
   its-child : (j : ℕ) (d : Field) (y z : ℕ) → z ≡ f y → timesIn d y j ≤ timesChildOf l t n j → 0 < timesIn d y j
@@ -117,7 +118,7 @@ module _ (l : Language) (t : List ℕ) (n x : ℕ) (k : Coded l (kindOf t n) x) 
       e ∙ ap f (field-has d y j g) ∙ sym (ap (λ (b : Bool). cond b (f j) (getD notes j 0))
       (lt-ltb 0 (timesChildOf l t n j) (omega arith)))
 
-  right : (j : ℕ) → j < 4097
+  right : (j : ℕ) → j < noteCount
       → Right j (getD (putThree x (childA t n) (childB t n) (childC t n) u v w notes) j 0)
   right j h =
       let times = times-as l t n x j k in

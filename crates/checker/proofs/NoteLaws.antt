@@ -12,7 +12,7 @@ use lib.Seq.{set-out, getD-set-same, getD-set-other}
 use Rattle.rules.specs.Kinds.{Field, unnamed, child, number}
 use Rattle.rules.specs.Checker.{timesIn}
 use Rattle.forms.specs.Codes.{sortFrom, testFrom, fieldFrom}
-use Rattle.checker.specs.Searches.{putIn, countIn}
+use Rattle.checker.specs.Searches.{putIn, countIn, noteCount}
 use Rattle.forms.proofs.FieldLaws.{field-none, field-child, field-number}
 
 -- ---- by the digit of the field
@@ -94,7 +94,7 @@ count-below f x l k h j = go (decLt j (length l))
 
 -- counts that may still grow
 abbrev pub Room : ℕ → List ℕ → Type 0
-Room k l = (length l ≡ 4097) × ((j : ℕ) → getD l j 0 < k)
+Room k l = (length l ≡ noteCount) × ((j : ℕ) → getD l j 0 < k)
 
 pub room-more : (f : Field) (x : ℕ) (l m : List ℕ) (k : ℕ) → m ≡ countIn f x l → Room k l → Room (suc k) m
 room-more f x l m k e h = subst (Room (suc k)) (sym e) (count-length f x l ∙ h .0, count-below f x l k (h .1))

@@ -7,6 +7,7 @@ use mathlib.Core.Path.{_≡_, refl, sym, ap, _∙_}
 use borrow.Author.Tests.{eq-eqb, ne-eqb, lt-ltb, le-ltb}
 use lib.Dec.{eqb, ltb}
 use lib.ListN.{length}
+use Rattle.rules.specs.Sizes.{targetLimit}
 use Rattle.rules.specs.declared.Search.{Search}
 use Rattle.rules.specs.declared.Search.the-variants as search
 use Rattle.rules.specs.declared.Checked.{Checked}
@@ -77,6 +78,6 @@ check-rest l t d e h =
     ∙ (λ i. inOrder (ne-eqb (length t) 0 d i || not (eq-eqb (length t % 16) 0 e i))
     (le-ltb (recordLimit l) (recordCount t) h i) (fromRecords l t)))
 
-pub limit-most : (b : Bool) → recordLimit (languageOf b) ≤ 4096
+pub limit-most : (b : Bool) → recordLimit (languageOf b) ≤ targetLimit
 limit-most true = omega arith
 limit-most false = omega arith

@@ -12,7 +12,7 @@ use Rattle.rules.specs.Kinds.{Language, statement, sortNumber}
 use Rattle.rules.specs.Checker.{sortOf, timesChild, shapeFault}
 use Rattle.rules.proofs.ParentLaws.{times-zero}
 use Rattle.forms.specs.Codes.{Coded}
-use Rattle.checker.specs.Searches.{Counted}
+use Rattle.checker.specs.Searches.{Counted, noteCount}
 
 abbrev pickShape : Bool → Bool → Bool → Bool
 pickShape b p q = elim b [ true ↦ p | false ↦ q ]
@@ -36,7 +36,7 @@ shape-other l t n times e h =
     sym (shape-as l t n
     ∙ (λ i. pickShape (ne-eqb n (recordCount t) e i) (not (eqb (sortOf l (kindOf t n)) 5)) (not (eqb (sym h i) 1))))
 
-pub counted-start : (l : Language) (t : List ℕ) (k : ℕ) → k ≡ 4097 → Counted l t 0 (replicate k 0)
+pub counted-start : (l : Language) (t : List ℕ) (k : ℕ) → k ≡ noteCount → Counted l t 0 (replicate k 0)
 counted-start l t k e = record {
   size = length-replicate k 0 ∙ e;
   counts = λ j h. getD-replicate k j 0 0 (omega arith) ∙ sym (times-zero l t j);

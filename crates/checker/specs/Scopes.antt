@@ -7,10 +7,11 @@ use lib.Dec.{eqb, ltb, leb}
 use lib.ListN.{length, getD}
 use Rattle.rules.specs.declared.Search.{Search}
 use Rattle.rules.specs.declared.Search.the-variants as search
-use Rattle.rules.specs.Sizes.{temporaryCount}
+use Rattle.rules.specs.Sizes.{temporaryCount, targetLimit}
 use Rattle.rules.specs.Records.{recordCount}
 use Rattle.rules.specs.Kinds.{Language}
 use Rattle.rules.specs.Checker.{lowestRecord, recordFault, timesChildOf, shapeFault, isTermOrPredicate, highestNamed}
+use Rattle.checker.specs.Searches.{noteCount}
 
 unfoldable pub bit : ℕ → ℕ → Bool
 bit s zero = eqb (s % 2) 1
@@ -26,12 +27,12 @@ outOfScope k v s =
 
 -- after record n the notes have f of its children, and what they had of the others
 pub record Given (l : Language) (t : List ℕ) (n : ℕ) (f : ℕ → ℕ) (before after : List ℕ) : Type 0 where
-  pub size : length after ≡ 4097
-  pub values : (j : ℕ) → j < 4097 → getD after j 0 ≡ cond (ltb 0 (timesChildOf l t n j)) (f j) (getD before j 0)
+  pub size : length after ≡ noteCount
+  pub values : (j : ℕ) → j < noteCount → getD after j 0 ≡ cond (ltb 0 (timesChildOf l t n j)) (f j) (getD before j 0)
 
 -- rules 2 to 6 are kept
 pub record Kept (l : Language) (t : List ℕ) : Type 0 where
-  pub few : recordCount t ≤ 4096
+  pub few : recordCount t ≤ targetLimit
   pub records : lowestRecord t (λ n. ltb 0 (recordFault l t n)) ≡ search.Nothing
   pub shapes : lowestRecord t (shapeFault l t) ≡ search.Nothing
 

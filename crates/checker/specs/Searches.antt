@@ -3,6 +3,7 @@ use Prim.Native.Nat.{ℕ, zero, suc, _+_, _/_, _%_, _<_}
 use mathlib.Core.List.{List}
 use mathlib.Core.Path.{_≡_}
 use lib.ListN.{length, getD, set}
+use Rattle.rules.specs.Sizes.{targetLimit}
 use Rattle.rules.specs.declared.Search.{Search}
 use Rattle.rules.specs.declared.Search.the-variants as search
 use Rattle.rules.specs.Kinds.{Language, Field, unnamed, child, number}
@@ -35,7 +36,11 @@ countThree form a b c l =
     countIn (fieldFrom (form / 16 % 16)) c
     (countIn (fieldFrom (form / 256 % 16)) b (countIn (fieldFrom (form / 4096 % 16)) a l))
 
+-- a note for each record of the longest table, and for 0
+abbrev pub noteCount : ℕ
+noteCount = suc targetLimit
+
 -- the notes have how often each record is a child of the records 1 .. k
 pub record Counted (l : Language) (t : List ℕ) (k : ℕ) (notes : List ℕ) : Type 0 where
-  pub size : length notes ≡ 4097
-  pub counts : (j : ℕ) → j < 4097 → getD notes j 0 ≡ timesChild l t k j
+  pub size : length notes ≡ noteCount
+  pub counts : (j : ℕ) → j < noteCount → getD notes j 0 ≡ timesChild l t k j

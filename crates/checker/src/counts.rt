@@ -1,14 +1,17 @@
 // How often each record is a child.
 ghost use Prim.Native.Nat.{_-_, _≤_};
+ghost use Rattle.rules.specs.Sizes.{targetLimit};
 ghost use Rattle.rules.specs.Records.{recordCount};
 ghost use Rattle.tables.specs.Within.{Within};
 ghost use Rattle.forms.specs.Codes.{languageOf};
 ghost use Rattle.checker.specs.Searches.{Counted};
+use super::notes::Notes;
 use super::notes::count_children;
 
 // The children of record n are counted after those of the records before it.
-fn count_record(target: bool, table: &[u8], n: usize, notes: &mut [u64; 4097])
-    requires { ⌜ Within (now table) n × (n ≤ 4096) × Counted (languageOf target) (now table) (n - 1) (now notes) ⌝ }
+fn count_record(target: bool, table: &[u8], n: usize, notes: &mut Notes)
+    requires { ⌜ Within (now table) n × (n ≤ targetLimit)
+        × Counted (languageOf target) (now table) (n - 1) (now notes) ⌝ }
     ensures { λ _. ⌜ Counted (languageOf target) (now (table .entry)) n (now (notes .exit)) ⌝ }
 {
     let form = forms::form_of(target, tables::kind(table, n));
@@ -18,8 +21,8 @@ fn count_record(target: bool, table: &[u8], n: usize, notes: &mut [u64; 4097])
     count_children(notes, form, a, b, c);
 }
 
-pub fn count_all(target: bool, table: &[u8], notes: &mut [u64; 4097])
-    requires { ⌜ (recordCount (now table) ≤ 4096) × Counted (languageOf target) (now table) 0 (now notes) ⌝ }
+pub fn count_all(target: bool, table: &[u8], notes: &mut Notes)
+    requires { ⌜ (recordCount (now table) ≤ targetLimit) × Counted (languageOf target) (now table) 0 (now notes) ⌝ }
     ensures { λ _. ⌜ Counted (languageOf target) (now (table .entry)) (recordCount (now (table .entry)))
         (now (notes .exit)) ⌝ }
 {

@@ -7,13 +7,15 @@ ghost use Rattle.rules.specs.Kinds.{source};
 ghost use Rattle.rules.specs.Checker.{levelBelow, positionIn};
 ghost use Rattle.tables.specs.Within.{Within};
 ghost use Rattle.forms.specs.Codes.{languageOf};
+ghost use Rattle.checker.specs.Searches.{noteCount};
 ghost use Rattle.checker.specs.Scopes.{Given};
 use super::levels::child_level;
+use super::notes::Notes;
 use super::notes::put_children;
 
 // The same number to each.
-pub fn pass_scope(target: bool, table: &[u8], n: usize, scope: u64, notes: &mut [u64; 4097])
-    requires { ⌜ Within (now table) n × (length (now notes) ≡ 4097) ⌝ }
+pub fn pass_scope(target: bool, table: &[u8], n: usize, scope: u64, notes: &mut Notes)
+    requires { ⌜ Within (now table) n × (length (now notes) ≡ noteCount) ⌝ }
     ensures { λ _. ⌜ Given (languageOf target) (now (table .entry)) n (λ (j : ℕ). scope)
         (now (notes .entry)) (now (notes .exit)) ⌝ }
 {
@@ -25,8 +27,8 @@ pub fn pass_scope(target: bool, table: &[u8], n: usize, scope: u64, notes: &mut 
 }
 
 // Its level to each.
-pub fn pass_level(table: &[u8], n: usize, level: u64, notes: &mut [u64; 4097])
-    requires { ⌜ Within (now table) n × (length (now notes) ≡ 4097) × (level < 65535) ⌝ }
+pub fn pass_level(table: &[u8], n: usize, level: u64, notes: &mut Notes)
+    requires { ⌜ Within (now table) n × (length (now notes) ≡ noteCount) × (level < 65535) ⌝ }
     ensures { λ _. ⌜ Given source (now (table .entry)) n
         (λ (j : ℕ). levelBelow (kindOf (now (table .entry)) n)
         (positionIn (fieldsOf (recordAt (now (table .entry)) n)) j) level)

@@ -10,6 +10,7 @@ mod searches;
 ghost use mathlib.Core.Path.{_≡_};
 ghost use Prim.Native.Nat.{_≤_};
 ghost use lib.Dec.{ltb};
+ghost use Rattle.rules.specs.Sizes.{targetLimit};
 ghost use Rattle.rules.specs.declared.Search.the-variants.{Nothing};
 ghost use Rattle.rules.specs.declared.Checked.the-variants.{Refused};
 ghost use Rattle.rules.specs.Records.{recordCount};
@@ -19,9 +20,11 @@ ghost use Rattle.forms.specs.Codes.{languageOf};
 ghost use Rattle.checker.specs.Scopes.{Kept};
 ghost use Rattle.checker.specs.Order.{fromScopes, fromShapes, fromRecords};
 use rules::Checked;
+use rules::SOURCE_LIMIT;
+use rules::TARGET_LIMIT;
 
 fn refuse(rule: u32, n: usize) -> Checked
-    requires { ⌜ n ≤ 4096 ⌝ }
+    requires { ⌜ n ≤ targetLimit ⌝ }
     ensures { λ r. ⌜ r ≡ Refused rule n ⌝ }
 {
     let record = n as u32;
@@ -57,7 +60,7 @@ fn check_scopes(target: bool, table: &[u8]) -> Checked
 
 // Rules 6 to 8.
 fn check_shapes(target: bool, table: &[u8]) -> Checked
-    requires { ⌜ (recordCount (now table) ≤ 4096)
+    requires { ⌜ (recordCount (now table) ≤ targetLimit)
         × (lowestRecord (now table) (λ n. ltb 0 (recordFault (languageOf target) (now table) n)) ≡ Nothing) ⌝ }
     ensures { λ r. ⌜ r ≡ fromShapes (languageOf target) (now (table .entry)) ⌝ }
 {
@@ -70,7 +73,7 @@ fn check_shapes(target: bool, table: &[u8]) -> Checked
 
 // Rules 3 to 8.
 fn check_records(target: bool, table: &[u8]) -> Checked
-    requires { ⌜ recordCount (now table) ≤ 4096 ⌝ }
+    requires { ⌜ recordCount (now table) ≤ targetLimit ⌝ }
     ensures { λ r. ⌜ r ≡ fromRecords (languageOf target) (now (table .entry)) ⌝ }
 {
     let n = searches::lowest_fault(target, table);
@@ -84,9 +87,9 @@ fn limit(target: bool) -> usize
     ensures { λ r. ⌜ r ≡ recordLimit (languageOf target) ⌝ }
 {
     if target {
-        return 4096;
+        return TARGET_LIMIT;
     }
-    256
+    SOURCE_LIMIT
 }
 
 // Rules 1 to 8.

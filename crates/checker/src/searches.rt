@@ -3,6 +3,7 @@ ghost use mathlib.Core.Path.{_≡_};
 ghost use mathlib.Core.Bool.{cond};
 ghost use Prim.Native.Nat.{ℕ, _≤_};
 ghost use lib.Dec.{ltb};
+ghost use Rattle.rules.specs.Sizes.{targetLimit};
 ghost use Rattle.rules.specs.Records.{recordCount};
 ghost use Rattle.rules.specs.Kinds.{source};
 ghost use Rattle.rules.specs.Checker.{lowestRecord, recordFault, timesChild, shapeFault, scopeFault, levelFault};
@@ -14,6 +15,7 @@ use super::counts::count_all;
 use super::descent::pass_level;
 use super::descent::pass_scope;
 use super::levels::is_too_deep;
+use super::notes::NOTE_COUNT;
 use super::scopes::is_out_of_scope;
 use super::scopes::scope_below;
 
@@ -53,11 +55,11 @@ fn is_misshapen(target: bool, table: &[u8], n: usize, times: u64) -> bool
 }
 
 pub fn lowest_misshapen(target: bool, table: &[u8]) -> usize
-    requires { ⌜ recordCount (now table) ≤ 4096 ⌝ }
+    requires { ⌜ recordCount (now table) ≤ targetLimit ⌝ }
     ensures { λ r. ⌜ lowestRecord (now (table .entry)) (shapeFault (languageOf target) (now (table .entry)))
         ≡ searchOf r ⌝ }
 {
-    let mut notes = [0u64; 4097];
+    let mut notes = [0u64; NOTE_COUNT];
     count_all(target, table, &mut notes);
     let mut found = 0;
     let mut n = table.len() / 16;
@@ -74,7 +76,7 @@ pub fn lowest_out_of_scope(target: bool, table: &[u8]) -> usize
         ≡ searchOf r ⌝ }
 {
     // Variable 0 alone, which is the scope of the last record; each other record's is put by its parent.
-    let mut notes = [1u64; 4097];
+    let mut notes = [1u64; NOTE_COUNT];
     let mut found = 0;
     let mut n = table.len() / 16;
     while 0 < n {
@@ -92,7 +94,7 @@ pub fn lowest_too_deep(table: &[u8]) -> usize
     requires { ⌜ Kept source (now table) ⌝ }
     ensures { λ r. ⌜ lowestRecord (now (table .entry)) (levelFault (now (table .entry))) ≡ searchOf r ⌝ }
 {
-    let mut notes = [0u64; 4097];
+    let mut notes = [0u64; NOTE_COUNT];
     let mut found = 0;
     let mut n = table.len() / 16;
     while 0 < n {

@@ -4,10 +4,11 @@ use borrow.Author.Needs.{needs}
 use native.Mathlib.Omega.{arith}
 use mathlib.Core.Path.{_≡_, refl}
 use lib.ListN.{length}
+use Rattle.rules.specs.Sizes.{targetLimit}
 use Rattle.rules.specs.Records.{recordCount}
 use Rattle.rules.specs.Checker.{shapeFault}
 use Rattle.forms.specs.Codes.{languageOf}
-use Rattle.checker.specs.Searches.{Counted}
+use Rattle.checker.specs.Searches.{Counted, noteCount}
 use Rattle.checker.proofs.ShapeLaws.{counted-start}
 use Rattle.checker.proofs.Lowest.{Lowest, lowest-start, lowest-down, lowest-end}
 use Rattle.checker.proofs.searches.lowest_misshapen.Statement.{statement}
@@ -24,7 +25,7 @@ abbrev μ-loop : tie.MeasureT-loop
 count-all-requires : tie.Need-count-all-requires Inv-loop μ-loop
 count-all-requires c κs =
     let s = c .before .before in
-    (s .pre, counted-start (languageOf (s .args .target)) (s .args .table .now) 4097 refl)
+    (s .pre, counted-start (languageOf (s .args .target)) (s .args .table .now) noteCount refl)
 
 loop-holds : tie.Need-loop-holds Inv-loop μ-loop
 loop-holds c =
@@ -62,7 +63,8 @@ loop-again : tie.Need-loop-again Inv-loop μ-loop
 loop-again c =
     let a = c .before .before .before .before .before .before .before .args in
     let l = c .before .before .before .loop in
-    let few : recordCount (a .table .now) ≤ 4096 = c .before .before .before .before .before .before .before .pre in (
+    let few : recordCount (a .table .now) ≤ targetLimit =
+    c .before .before .before .before .before .before .before .pre in (
       omega arith,
       l .inv .1,
       lowest-down (shapeFault (languageOf (a .target)) (a .table .now)) (recordCount (a .table .now)) (l .n) (l .found)

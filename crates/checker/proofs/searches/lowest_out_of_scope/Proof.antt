@@ -11,6 +11,7 @@ use Rattle.rules.specs.Records.{recordCount, kindOf, markOf, childB}
 use Rattle.rules.specs.Kinds.{source}
 use Rattle.rules.specs.Checker.{scopeFault, levelFault, recordFault, levelBelow, levelOf}
 use Rattle.forms.specs.Codes.{languageOf}
+use Rattle.checker.specs.Searches.{noteCount}
 use Rattle.checker.specs.Scopes.{bit, outOfScope, tooDeep, Kept}
 use Rattle.rules.proofs.ParentLaws.{Passed, IsParent}
 use Rattle.checker.proofs.DescentLaws.{passed-of, Known, known-start, known-here, known-down}
@@ -35,7 +36,7 @@ loop-holds c =
     let a = s .args in
     let l = languageOf (a .target) in
     let t = a .table .now in
-    (omega arith, scopes-start l t (s .pre) 4097 refl, lowest-start (scopeFault l t) (recordCount t))
+    (omega arith, scopes-start l t (s .pre) noteCount refl, lowest-start (scopeFault l t) (recordCount t))
 
 kind-requires : tie.Need-kind-requires Inv-loop μ-loop
 kind-requires c κs =

@@ -12,6 +12,7 @@ use Rattle.rules.specs.Records.{fieldsOf, recordCount, kindOf, markOf, recordAt
 use Rattle.rules.specs.Kinds.{source}
 use Rattle.rules.specs.Checker.{scopeFault, levelFault, recordFault, levelBelow, positionIn, levelOf}
 use Rattle.forms.specs.Codes.{languageOf}
+use Rattle.checker.specs.Searches.{noteCount}
 use Rattle.checker.specs.Scopes.{bit, outOfScope, tooDeep, Kept}
 use Rattle.rules.proofs.ParentLaws.{Passed, IsParent}
 use Rattle.checker.proofs.DescentLaws.{passed-of, Known, known-start, known-here, known-down}
@@ -37,7 +38,7 @@ loop-holds : tie.Need-loop-holds Inv-loop μ-loop
 loop-holds c =
     let s = c .before in
     let t = s .args .table .now in
-    (omega arith, levels-start t (s .pre) 4097 refl, lowest-start (levelFault t) (recordCount t))
+    (omega arith, levels-start t (s .pre) noteCount refl, lowest-start (levelFault t) (recordCount t))
 
 mul-level : tie.Need-mul-level Inv-loop μ-loop
 mul-level c =
