@@ -1,5 +1,5 @@
 // Cases of document 01 through the compiled leaves: what it prints is held to the file `stdout`.
-use blocks::Making;
+use memory_blocks::Making;
 use rules::Block;
 use rules::Evaluated;
 use rules::ExecutionMemory;
@@ -17,9 +17,9 @@ fn print_natural(n: u64) {
 fn print_integer(z: i64) {
     if z < 0 {
         io::write_all(1, b" -");
-        io::print_decimal(1, numbers::magnitude(z));
+        io::print_decimal(1, number::magnitude(z));
     } else {
-        print_natural(numbers::magnitude(z));
+        print_natural(number::magnitude(z));
     }
 }
 
@@ -38,33 +38,33 @@ fn end_line() {
 
 fn print_p2() {
     io::write_all(1, b"P2");
-    print_number(division::divide_nearest(7, 2));
-    print_number(division::divide_nearest(-7, 2));
-    print_number(division::divide_nearest(5, 2));
-    print_number(division::divide_nearest(1, 3));
+    print_number(number_division::divide_nearest(7, 2));
+    print_number(number_division::divide_nearest(-7, 2));
+    print_number(number_division::divide_nearest(5, 2));
+    print_number(number_division::divide_nearest(1, 3));
     end_line();
 }
 
 fn print_p3_p4() {
     io::write_all(1, b"P3");
-    print_number(division::divide(-7, 2));
+    print_number(number_division::divide(-7, 2));
     end_line();
     io::write_all(1, b"P4");
-    print_number(division::divide(-9223372036854775808, -1));
-    print_number(division::divide(-9223372036854775808, 0));
+    print_number(number_division::divide(-9223372036854775808, -1));
+    print_number(number_division::divide(-9223372036854775808, 0));
     end_line();
 }
 
 // The memory with inputs 7 and 9 and one let's block.
 fn begin(mem: &mut ExecutionMemory) {
     let inputs = [7u8, 0, 0, 0, 0, 0, 0, 0, 9, 0, 0, 0, 0, 0, 0, 0];
-    starting::start(mem, &inputs);
-    blocks::make(mem, false, 1);
+    memory_start::start(mem, &inputs);
+    memory_blocks::make(mem, false, 1);
 }
 
 // Name, first cell and length of a new block, or its ending.
 fn print_new(mem: &mut ExecutionMemory, n: usize) {
-    match blocks::make(mem, true, n) {
+    match memory_blocks::make(mem, true, n) {
         Making::Name(k) => print_block(&*mem, k),
         Making::Stopped(k) => print_natural(k as u64),
     }
@@ -72,7 +72,7 @@ fn print_new(mem: &mut ExecutionMemory, n: usize) {
 
 fn print_block(mem: &ExecutionMemory, name: u16) {
     print_natural(name as u64);
-    match cells::block(mem, name) {
+    match memory_cells::block(mem, name) {
         Block::Unused => print_natural(0),
         Block::Fixed(_, _) => print_natural(1),
         Block::Freeable(first, n) => {
@@ -87,7 +87,7 @@ fn print_block(mem: &ExecutionMemory, name: u16) {
 fn print_empty(mem: &mut ExecutionMemory) {
     let place = Found::Place(Pointer { name: 3, offset: 0 });
     let size = Evaluated::Value(Value::Integer(0));
-    print_natural(allocation::new_at(mem, place, size) as u64);
+    print_natural(run_allocation::new_at(mem, place, size) as u64);
 }
 
 fn print_p8() {
@@ -107,7 +107,7 @@ fn print_p9() {
     io::write_all(1, b"P9");
     begin(&mut mem);
     print_new(&mut mem, 6);
-    print_natural(freeing::free(&mut mem, Pointer { name: 4, offset: 0 }) as u64);
+    print_natural(memory_freeing::free(&mut mem, Pointer { name: 4, offset: 0 }) as u64);
     print_new(&mut mem, 6);
     print_block(&mem, 4);
     end_line();

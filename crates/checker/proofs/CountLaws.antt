@@ -14,8 +14,8 @@ use Rattle.rules.specs.Records.{Record, kindOf, childA, childB, childC, recordA
 use Rattle.rules.specs.Kinds.{Language, Form, fieldOf, formOf}
 use Rattle.rules.specs.Checker.{timesIn, timesOf, timesChildOf, timesChild}
 use Rattle.rules.proofs.ParentLaws.{times-in-all, times-suc, times-zero}
-use Rattle.forms.specs.Codes.{fieldFrom, entry, decoded, Coded}
-use Rattle.forms.proofs.FaultLaws.{field-asked}
+use Rattle.checker_forms.specs.Codes.{fieldFrom, entry, decoded, Coded}
+use Rattle.checker_forms.proofs.FaultLaws.{field-asked}
 use Rattle.checker.specs.Searches.{countIn, countThree, Counted, noteCount}
 use Rattle.checker.proofs.NoteLaws.{count-step, count-length, times-most, Room}
 

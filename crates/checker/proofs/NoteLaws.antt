@@ -11,9 +11,9 @@ use lib.ListN.{length, getD, set, length-set, List·getD-eq-default}
 use lib.Seq.{set-out, getD-set-same, getD-set-other}
 use Rattle.rules.specs.Kinds.{Field, unnamed, child, number}
 use Rattle.rules.specs.Checker.{timesIn}
-use Rattle.forms.specs.Codes.{sortFrom, testFrom, fieldFrom}
+use Rattle.checker_forms.specs.Codes.{sortFrom, testFrom, fieldFrom}
 use Rattle.checker.specs.Searches.{putIn, countIn, noteCount}
-use Rattle.forms.proofs.FieldLaws.{field-none, field-child, field-number}
+use Rattle.checker_forms.proofs.FieldLaws.{field-none, field-child, field-number}
 
 -- ---- by the digit of the field
 module _ (d x v : ℕ) (l : List ℕ) where

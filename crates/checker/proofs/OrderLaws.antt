@@ -16,7 +16,7 @@ use Rattle.rules.specs.Records.{recordCount}
 use Rattle.rules.specs.Kinds.{Language, source, target, recordLimit}
 use Rattle.rules.specs.Checker.{lowestRecord, lengthFault, countFault}
 use Rattle.rules.specs.Checker.{levelFault, refuseIf, refuseAt, _otherwise_, lastRule, check}
-use Rattle.forms.specs.Codes.{languageOf}
+use Rattle.checker_forms.specs.Codes.{languageOf}
 use Rattle.checker.specs.Searches.{searchOf}
 use Rattle.checker.specs.Order.{orNext, fromScopes, fromShapes, fromRecords}
 

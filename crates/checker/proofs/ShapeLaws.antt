@@ -11,7 +11,7 @@ use Rattle.rules.specs.Records.{recordCount, kindOf}
 use Rattle.rules.specs.Kinds.{Language, statement, sortNumber}
 use Rattle.rules.specs.Checker.{sortOf, timesChild, shapeFault}
 use Rattle.rules.proofs.ParentLaws.{times-zero}
-use Rattle.forms.specs.Codes.{Coded}
+use Rattle.checker_forms.specs.Codes.{Coded}
 use Rattle.checker.specs.Searches.{Counted, noteCount}
 
 abbrev pickShape : Bool → Bool → Bool → Bool

@@ -8,7 +8,7 @@ use Rattle.rules.specs.declared.Search.{Search}
 use Rattle.rules.specs.declared.Search.the-variants as search
 use Rattle.rules.specs.Kinds.{Language, Field, unnamed, child, number}
 use Rattle.rules.specs.Checker.{timesChild}
-use Rattle.forms.specs.Codes.{fieldFrom}
+use Rattle.checker_forms.specs.Codes.{fieldFrom}
 
 -- 0 is none
 abbrev pub searchOf : ℕ → Search

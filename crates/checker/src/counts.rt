@@ -2,8 +2,8 @@
 ghost use Prim.Native.Nat.{_-_, _≤_};
 ghost use Rattle.rules.specs.Sizes.{targetLimit};
 ghost use Rattle.rules.specs.Records.{recordCount};
-ghost use Rattle.tables.specs.Within.{Within};
-ghost use Rattle.forms.specs.Codes.{languageOf};
+ghost use Rattle.table.specs.Within.{Within};
+ghost use Rattle.checker_forms.specs.Codes.{languageOf};
 ghost use Rattle.checker.specs.Searches.{Counted};
 use super::notes::Notes;
 use super::notes::count_children;
@@ -14,10 +14,10 @@ fn count_record(target: bool, table: &[u8], n: usize, notes: &mut Notes)
         × Counted (languageOf target) (now table) (n - 1) (now notes) ⌝ }
     ensures { λ _. ⌜ Counted (languageOf target) (now (table .entry)) n (now (notes .exit)) ⌝ }
 {
-    let form = forms::form_of(target, tables::kind(table, n));
-    let a = tables::child_a(table, n);
-    let b = tables::child_b(table, n);
-    let c = tables::child_c(table, n);
+    let form = checker_forms::form_of(target, table::kind(table, n));
+    let a = table::child_a(table, n);
+    let b = table::child_b(table, n);
+    let c = table::child_c(table, n);
     count_children(notes, form, a, b, c);
 }
 

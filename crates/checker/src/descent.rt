@@ -5,8 +5,8 @@ ghost use lib.ListN.{length};
 ghost use Rattle.rules.specs.Records.{fieldsOf, kindOf, recordAt};
 ghost use Rattle.rules.specs.Kinds.{source};
 ghost use Rattle.rules.specs.Checker.{levelBelow, positionIn};
-ghost use Rattle.tables.specs.Within.{Within};
-ghost use Rattle.forms.specs.Codes.{languageOf};
+ghost use Rattle.table.specs.Within.{Within};
+ghost use Rattle.checker_forms.specs.Codes.{languageOf};
 ghost use Rattle.checker.specs.Searches.{noteCount};
 ghost use Rattle.checker.specs.Scopes.{Given};
 use super::levels::child_level;
@@ -19,10 +19,10 @@ pub fn pass_scope(target: bool, table: &[u8], n: usize, scope: u64, notes: &mut 
     ensures { λ _. ⌜ Given (languageOf target) (now (table .entry)) n (λ (j : ℕ). scope)
         (now (notes .entry)) (now (notes .exit)) ⌝ }
 {
-    let form = forms::form_of(target, tables::kind(table, n));
-    let a = tables::child_a(table, n);
-    let b = tables::child_b(table, n);
-    let c = tables::child_c(table, n);
+    let form = checker_forms::form_of(target, table::kind(table, n));
+    let a = table::child_a(table, n);
+    let b = table::child_b(table, n);
+    let c = table::child_c(table, n);
     put_children(notes, form, a, b, c, scope, scope, scope);
 }
 
@@ -34,12 +34,12 @@ pub fn pass_level(table: &[u8], n: usize, level: u64, notes: &mut Notes)
         (positionIn (fieldsOf (recordAt (now (table .entry)) n)) j) level)
         (now (notes .entry)) (now (notes .exit)) ⌝ }
 {
-    let kind = tables::kind(table, n);
-    let a = tables::child_a(table, n);
-    let b = tables::child_b(table, n);
-    let c = tables::child_c(table, n);
+    let kind = table::kind(table, n);
+    let a = table::child_a(table, n);
+    let b = table::child_b(table, n);
+    let c = table::child_c(table, n);
     let u = child_level(kind, a, b, c, a, level);
     let v = child_level(kind, a, b, c, b, level);
     let w = child_level(kind, a, b, c, c, level);
-    put_children(notes, forms::form_of(false, kind), a, b, c, u, v, w);
+    put_children(notes, checker_forms::form_of(false, kind), a, b, c, u, v, w);
 }

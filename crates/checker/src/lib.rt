@@ -16,7 +16,7 @@ ghost use Rattle.rules.specs.declared.Checked.the-variants.{Refused};
 ghost use Rattle.rules.specs.Records.{recordCount};
 ghost use Rattle.rules.specs.Kinds.{source, target, recordLimit};
 ghost use Rattle.rules.specs.Checker.{lowestRecord, recordFault, lastRule, check};
-ghost use Rattle.forms.specs.Codes.{languageOf};
+ghost use Rattle.checker_forms.specs.Codes.{languageOf};
 ghost use Rattle.checker.specs.Scopes.{Kept};
 ghost use Rattle.checker.specs.Order.{fromScopes, fromShapes, fromRecords};
 use rules::Checked;
@@ -80,7 +80,7 @@ fn check_records(target: bool, table: &[u8]) -> Checked
     if n == 0 {
         return check_shapes(target, table);
     }
-    refuse(forms::record_fault(target, table, n), n)
+    refuse(checker_forms::record_fault(target, table, n), n)
 }
 
 fn limit(target: bool) -> usize

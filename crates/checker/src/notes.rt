@@ -2,7 +2,7 @@
 ghost use mathlib.Core.Path.{_≡_};
 ghost use Prim.Native.Nat.{ℕ, _<_};
 ghost use lib.ListN.{length, getD};
-ghost use Rattle.forms.specs.Codes.{fieldFrom};
+ghost use Rattle.checker_forms.specs.Codes.{fieldFrom};
 ghost use Rattle.checker.specs.Searches.{putIn, putThree, countIn, countThree, noteCount};
 use rules::TARGET_LIMIT;
 

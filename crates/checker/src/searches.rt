@@ -7,8 +7,8 @@ ghost use Rattle.rules.specs.Sizes.{targetLimit};
 ghost use Rattle.rules.specs.Records.{recordCount};
 ghost use Rattle.rules.specs.Kinds.{source};
 ghost use Rattle.rules.specs.Checker.{lowestRecord, recordFault, timesChild, shapeFault, scopeFault, levelFault};
-ghost use Rattle.tables.specs.Within.{Within};
-ghost use Rattle.forms.specs.Codes.{languageOf};
+ghost use Rattle.table.specs.Within.{Within};
+ghost use Rattle.checker_forms.specs.Codes.{languageOf};
 ghost use Rattle.checker.specs.Searches.{searchOf};
 ghost use Rattle.checker.specs.Scopes.{Kept};
 use super::counts::count_all;
@@ -36,7 +36,7 @@ pub fn lowest_fault(target: bool, table: &[u8]) -> usize
     let mut found = 0;
     let mut n = table.len() / 16;
     while 0 < n {
-        found = lower(0 < forms::record_fault(target, table, n), n, found);
+        found = lower(0 < checker_forms::record_fault(target, table, n), n, found);
         n -= 1;
     }
     found
@@ -49,7 +49,7 @@ fn is_misshapen(target: bool, table: &[u8], n: usize, times: u64) -> bool
         → r ≡ shapeFault (languageOf target) (now (table .entry)) n) ⌝ }
 {
     if n == table.len() / 16 {
-        return forms::form_of(target, tables::kind(table, n)) / 1048576 != 5;
+        return checker_forms::form_of(target, table::kind(table, n)) / 1048576 != 5;
     }
     times != 1
 }
@@ -80,8 +80,8 @@ pub fn lowest_out_of_scope(target: bool, table: &[u8]) -> usize
     let mut found = 0;
     let mut n = table.len() / 16;
     while 0 < n {
-        let kind = tables::kind(table, n);
-        let mark = tables::mark(table, n);
+        let kind = table::kind(table, n);
+        let mark = table::mark(table, n);
         let scope = notes[n];
         found = lower(is_out_of_scope(kind, mark, scope), n, found);
         pass_scope(target, table, n, scope_below(kind, mark, scope), &mut notes);
@@ -99,7 +99,7 @@ pub fn lowest_too_deep(table: &[u8]) -> usize
     let mut n = table.len() / 16;
     while 0 < n {
         let level = notes[n];
-        found = lower(is_too_deep(tables::kind(table, n), level), n, found);
+        found = lower(is_too_deep(table::kind(table, n), level), n, found);
         pass_level(table, n, level, &mut notes);
         n -= 1;
     }

@@ -15,7 +15,7 @@ use Rattle.rules.proofs.KindViews.{TargetKind, literal, read, address, operatio
 use Rattle.rules.proofs.FormLaws.{FieldHolds}
 use Rattle.rules.proofs.Standing.{stands, stands-at}
 use Rattle.rules.proofs.SoundSource.{up-to}
-use Rattle.tables.specs.Within.{Within}
+use Rattle.table.specs.Within.{Within}
 use Rattle.rules.specs.declared.Evaluated.{Evaluated}
 use Rattle.rules.specs.declared.Evaluated.the-variants as evaluated
 use Rattle.rules.specs.declared.Value.the-variants as value

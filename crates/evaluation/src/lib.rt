@@ -8,7 +8,7 @@ ghost use Rattle.rules.specs.Evaluation.{evaluate, findPlace};
 ghost use Rattle.rules.specs.Watched.{temporaryOf};
 ghost use Rattle.rules.specs.declared.Evaluated.the-variants as evaluated;
 ghost use Rattle.evaluation.specs.State.{variablesOf, Settles};
-ghost use Rattle.temporaries.specs.Bytes.{temporariesOf};
+ghost use Rattle.evaluation_temporaries.specs.Bytes.{temporariesOf};
 use rules::Evaluated;
 use rules::ExecutionMemory;
 use rules::Found;
@@ -41,8 +41,8 @@ fn settle_read(table: &Table, n: usize, variables: &Variables, mem: &ExecutionMe
         (variablesOf (now (variables .entry))) (memoryOf (now (mem .entry)))) evaluated.Stopped
         (readCell (memoryOf (now (mem .entry))))) ⌝ }
 {
-    if tables::kind(&table[..], n) == 10 {
-        let v = tables::mark(&table[..], n) as usize;
+    if table::kind(&table[..], n) == 10 {
+        let v = table::mark(&table[..], n) as usize;
         let p = Pointer {
             name: variables[v],
             offset: 0,
@@ -59,9 +59,9 @@ fn settle(table: &Table, n: usize, variables: &Variables, mem: &ExecutionMemory)
     ensures { λ r. ⌜ Settles r (λ τ. evaluate (asExpression (nodeAt target (now (table .entry)) n)) τ
         (variablesOf (now (variables .entry))) (memoryOf (now (mem .entry)))) ⌝ }
 {
-    match tables::kind(&table[..], n) {
-        1 => Settled::Is(Evaluated::Value(Value::Integer(tables::literal(&table[..], n)))),
-        2 => settle_read(table, tables::child_a(&table[..], n), variables, mem),
+    match table::kind(&table[..], n) {
+        1 => Settled::Is(Evaluated::Value(Value::Integer(table::literal(&table[..], n)))),
+        2 => settle_read(table, table::child_a(&table[..], n), variables, mem),
         _ => Settled::Open,
     }
 }
@@ -104,13 +104,13 @@ pub fn evaluate(
         (temporaryOf (temporariesOf (now (temporaries .entry)))) (variablesOf (now (variables .entry)))
         (memoryOf (now (mem .entry))) ⌝ }
 {
-    match tables::kind(&table[..], n) {
-        1 => Evaluated::Value(Value::Integer(tables::literal(&table[..], n))),
+    match table::kind(&table[..], n) {
+        1 => Evaluated::Value(Value::Integer(table::literal(&table[..], n))),
         2 => fetch(
             mem,
             find_place(
                 table,
-                tables::child_a(&table[..], n),
+                table::child_a(&table[..], n),
                 variables,
                 temporaries,
                 mem,
@@ -118,27 +118,27 @@ pub fn evaluate(
         ),
         3 => evaluation_answers::address(find_place(
             table,
-            tables::child_a(&table[..], n),
+            table::child_a(&table[..], n),
             variables,
             temporaries,
             mem,
         )),
         _ => match evaluate_operand(
             table,
-            tables::child_a(&table[..], n),
+            table::child_a(&table[..], n),
             variables,
             temporaries,
             mem,
         ) {
             Evaluated::Value(a) => match evaluate_operand(
                 table,
-                tables::child_b(&table[..], n),
+                table::child_b(&table[..], n),
                 variables,
                 temporaries,
                 mem,
             ) {
-                Evaluated::Value(b) => evaluation_answers::restate(operators::operate(
-                    tables::mark(&table[..], n),
+                Evaluated::Value(b) => evaluation_answers::restate(value_operators::operate(
+                    table::mark(&table[..], n),
                     a,
                     b,
                 )),
@@ -162,9 +162,9 @@ pub fn find_place(
         (temporaryOf (temporariesOf (now (temporaries .entry)))) (variablesOf (now (variables .entry)))
         (memoryOf (now (mem .entry))) ⌝ }
 {
-    match tables::kind(&table[..], n) {
+    match table::kind(&table[..], n) {
         10 => {
-            let v = tables::mark(&table[..], n) as usize;
+            let v = table::mark(&table[..], n) as usize;
             Found::Place(Pointer {
                 name: variables[v],
                 offset: 0,
@@ -172,14 +172,14 @@ pub fn find_place(
         }
         11 => evaluation_answers::point(evaluate(
             table,
-            tables::child_a(&table[..], n),
+            table::child_a(&table[..], n),
             variables,
             temporaries,
             mem,
         )),
-        _ => evaluation_answers::point(temporaries::read_temporary(
+        _ => evaluation_answers::point(evaluation_temporaries::read_temporary(
             temporaries,
-            tables::mark(&table[..], n) as usize,
+            table::mark(&table[..], n) as usize,
         )),
     }
 }

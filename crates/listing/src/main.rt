@@ -1,5 +1,5 @@
 // Prints the listing of the source table on its standard input: a line for each target record, or the refusal.
-// Everything but reading and writing is `kept_input`'s.
+// Everything but reading and writing is `listing_input`'s.
 ghost use Prim.Native.Nat.{_≤_, _<_};
 ghost use lib.ListN.{length};
 
@@ -20,7 +20,7 @@ fn read_input(kept: &mut [u8]) -> usize
         if got == 0 {
             return count;
         }
-        count = kept_input::keep(kept, count, &part[..got]);
+        count = listing_input::keep(kept, count, &part[..got]);
     }
     count
 }
@@ -29,6 +29,6 @@ fn main() {
     let mut kept = [0u8; 4128];
     let count = read_input(&mut kept);
     let mut text = [0u8; 186368];
-    let length = kept_input::write_kept(&kept, count, &mut text);
+    let length = listing_input::write_kept(&kept, count, &mut text);
     io::write_all(1, &text[..length]);
 }

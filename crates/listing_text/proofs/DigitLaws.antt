@@ -11,7 +11,7 @@ use lib.Seq.{take-set-le, drop-set-lt, drop-cons, getD-set-same}
 use borrow.Author.Tests.{lt-ltb, le-ltb}
 use Rattle.rules.specs.Words.{put}
 use Rattle.rules.specs.Listing.{decimalDigits, natural}
-use Rattle.emission.proofs.Puts.{put-none}
+use Rattle.translation_emission.proofs.Puts.{put-none}
 use Rattle.listing_text.specs.Text.{lowDigits}
 
 -- none, one digit, or more

@@ -9,7 +9,7 @@ use Rattle.rules.specs.Words.{put, table}
 use Rattle.rules.specs.Records.{recordCount, recordAt}
 use Rattle.rules.specs.Listing.{recordLine, recordLines}
 use Rattle.rules.proofs.WordLaws.{length-put, put-put}
-use Rattle.emission.proofs.Puts.{put-none}
+use Rattle.translation_emission.proofs.Puts.{put-none}
 use Rattle.listing_text.specs.Text.{Room, Written, tableLines}
 
 -- to put the text that is left is to put the whole

@@ -11,7 +11,7 @@ ghost use Rattle.rules.specs.Kinds.{source};
 ghost use Rattle.rules.specs.Checker.{check};
 ghost use Rattle.rules.specs.declared.Checked.the-variants as checked;
 ghost use Rattle.rules.specs.Records.{recordAt};
-ghost use Rattle.tables.specs.Within.{Within};
+ghost use Rattle.table.specs.Within.{Within};
 ghost use Rattle.listing_text.specs.Text.{lowDigits, Room, Written, spaced, three, headText, childrenText};
 ghost use Rattle.listing_text.specs.Text.{literalText, refusalLine, tableLines, translatedLines};
 ghost use Rattle.listing_text.specs.Text.{longestText, listed};
@@ -66,9 +66,9 @@ fn write_integer(out: &mut [u8], at: usize, z: i64) -> usize
 {
     if z < 0 {
         let next = write_byte(out, at, 45);
-        write_natural(out, next, numbers::magnitude(z))
+        write_natural(out, next, number::magnitude(z))
     } else {
-        write_natural(out, at, numbers::magnitude(z))
+        write_natural(out, at, number::magnitude(z))
     }
 }
 
@@ -96,8 +96,8 @@ fn write_head(table: &[u8], n: usize, out: &mut [u8], at: usize) -> usize
     requires { ⌜ Within (now table) n × Room (now out) at (headText n (recordAt (now table) n)) ⌝ }
     ensures { λ r. ⌜ Written (now (out .entry)) at (headText n (recordAt (now (table .entry)) n)) (now (out .exit)) r ⌝ }
 {
-    let kind = tables::kind(table, n) as u64;
-    let mark = tables::mark(table, n) as u64;
+    let kind = table::kind(table, n) as u64;
+    let mark = table::mark(table, n) as u64;
     write_three(out, at, n as u64, kind, mark)
 }
 
@@ -105,9 +105,9 @@ fn write_children(table: &[u8], n: usize, out: &mut [u8], at: usize) -> usize
     requires { ⌜ Within (now table) n × Room (now out) at (childrenText (recordAt (now table) n)) ⌝ }
     ensures { λ r. ⌜ Written (now (out .entry)) at (childrenText (recordAt (now (table .entry)) n)) (now (out .exit)) r ⌝ }
 {
-    let a = tables::child_a(table, n) as u64;
-    let b = tables::child_b(table, n) as u64;
-    let c = tables::child_c(table, n) as u64;
+    let a = table::child_a(table, n) as u64;
+    let b = table::child_b(table, n) as u64;
+    let c = table::child_c(table, n) as u64;
     write_three(out, at, a, b, c)
 }
 
@@ -116,7 +116,7 @@ fn write_literal(table: &[u8], n: usize, out: &mut [u8], at: usize) -> usize
     requires { ⌜ Within (now table) n × Room (now out) at (literalText (recordAt (now table) n)) ⌝ }
     ensures { λ r. ⌜ Written (now (out .entry)) at (literalText (recordAt (now (table .entry)) n)) (now (out .exit)) r ⌝ }
 {
-    let next = write_integer(out, at, tables::literal(table, n));
+    let next = write_integer(out, at, table::literal(table, n));
     write_byte(out, next, 10)
 }
 

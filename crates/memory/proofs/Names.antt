@@ -13,7 +13,7 @@ use Rattle.rules.specs.Layout.{memoryOf, nameLimit}
 use Rattle.rules.specs.declared.Pointer.{Pointer}
 use Rattle.rules.specs.declared.Block.{Block}
 use Rattle.rules.specs.declared.Located.the-variants as located
-use Rattle.cells.proofs.Reading.{block-past}
+use Rattle.memory_cells.proofs.Reading.{block-past}
 
 pub located-name : (l : List ℕ) (p : Pointer) (i : ℕ) → locate (memoryOf l) p ≡ located.At i → p .name < nameLimit
 unfolding locate

@@ -2,7 +2,7 @@
 ghost use mathlib.Core.Path.{_≡_};
 ghost use Rattle.rules.specs.Memory.{defined, readCell, storeCell};
 ghost use Rattle.rules.specs.Layout.{memoryOf};
-ghost use Rattle.cells.specs.Changes.{Becomes, changeNumber, changeMemory, NamesFit, EvaluatedFits, CellFits};
+ghost use Rattle.memory_cells.specs.Changes.{Becomes, changeNumber, changeMemory, NamesFit, EvaluatedFits, CellFits};
 use rules::Cell;
 use rules::Evaluated;
 use rules::ExecutionMemory;
@@ -30,8 +30,8 @@ pub fn read(mem: &ExecutionMemory, p: Pointer) -> Evaluated
     ensures value { λ r. ⌜ r ≡ readCell (memoryOf (now (mem .entry))) p ⌝ }
     ensures names { λ r. ⌜ EvaluatedFits r ⌝ }
 {
-    match pointers::locate(mem, p) {
-        Located::At(i) => define(cells::cell(mem, i)),
+    match memory_pointers::locate(mem, p) {
+        Located::At(i) => define(memory_cells::cell(mem, i)),
         Located::Dead => Evaluated::Stopped(42),
         Located::Outside => Evaluated::Stopped(42),
     }
@@ -44,9 +44,9 @@ pub fn store(mem: &mut ExecutionMemory, p: Pointer, v: Value) -> u32
     ensures memory { λ _. ⌜ Becomes (now (mem .entry)) (now (mem .exit))
         (changeMemory (storeCell (memoryOf (now (mem .entry))) p v)) ⌝ }
 {
-    match pointers::locate(&*mem, p) {
+    match memory_pointers::locate(&*mem, p) {
         Located::At(i) => {
-            cell_changes::put_cell(mem, i, Cell::Holds(p.name, v));
+            memory_cell_changes::put_cell(mem, i, Cell::Holds(p.name, v));
             0
         }
         Located::Dead => 42,

@@ -2,16 +2,16 @@
 ghost use mathlib.Core.Path.{_≡_};
 ghost use Rattle.rules.specs.Observation.{emptyObservation};
 ghost use Rattle.rules.specs.Layout.{observationImage};
-pub use deleted_blocks::delete_block;
-pub use initialised_marks::initialise;
-pub use observed_blocks::base_address;
-pub use observed_blocks::block_length;
-pub use observed_blocks::offset;
-pub use observed_marks::is_initialised;
-pub use observed_marks::is_valid;
+pub use observation_block_queries::base_address;
+pub use observation_block_queries::block_length;
+pub use observation_block_queries::offset;
+pub use observation_deleting::delete_block;
+pub use observation_initialising::initialise;
+pub use observation_mark_queries::is_initialised;
+pub use observation_mark_queries::is_valid;
+pub use observation_storing::store_block;
 use rules::OBSERVATION_LENGTH;
 use rules::ObservationMemory;
-pub use stored_blocks::store_block;
 
 pub fn clear(obs: &mut ObservationMemory)
     ensures { λ _. ⌜ now (obs .exit) ≡ observationImage emptyObservation ⌝ }

@@ -18,7 +18,7 @@ fn write_record(obs: &mut ObservationMemory, k: usize, state: u8, first: u16, n:
     let s = state as u64;
     let f = first as u64;
     let l = n as u64;
-    words::write_word(&mut obs[..], k * 8, 8, s + f * 65536 + l * 4294967296);
+    byte_words::write_word(&mut obs[..], k * 8, 8, s + f * 65536 + l * 4294967296);
 }
 
 // Marks first, first + 1, .. are 0, n times or to the end.

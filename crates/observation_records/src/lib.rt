@@ -14,8 +14,8 @@ pub fn read_record(obs: &ObservationMemory, k: usize) -> Recorded
     ensures { λ r. ⌜ r ≡ recordedAt (now (obs .entry)) k ⌝ }
 {
     let at = k * 8;
-    let first = words::read_word(&obs[..], at + 2, 2) as u16;
-    let n = words::read_word(&obs[..], at + 4, 2) as u16;
+    let first = byte_words::read_word(&obs[..], at + 2, 2) as u16;
+    let n = byte_words::read_word(&obs[..], at + 4, 2) as u16;
     let state = obs[at];
     match state {
         0 => Recorded::Unused,

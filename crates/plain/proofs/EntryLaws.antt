@@ -29,7 +29,7 @@ use Rattle.rules.proofs.Reachable.{startVariables-fit}
 use Rattle.rules.proofs.ReachableRoundTrip.{start-inside, plain-round-trip}
 use Rattle.rules.proofs.Padding.{node-padded}
 use Rattle.rules.proofs.PlainArms.{statementAt}
-use Rattle.endings.specs.declared.Ended.{Ended}
+use Rattle.run_endings.specs.declared.Ended.{Ended}
 use Rattle.plain_runs.specs.Running.{Ready, Ran}
 use Rattle.plain_runs.proofs.Laws.{ran-is}
 use Rattle.plain.specs.Answering.{AnsweredBy}

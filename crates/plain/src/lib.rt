@@ -13,7 +13,6 @@ ghost use Rattle.rules.specs.Layout.{memoryOf};
 ghost use Rattle.rules.proofs.PlainArms.{statementAt};
 ghost use Rattle.plain_runs.specs.Running.{Ready, Ran};
 ghost use Rattle.plain.specs.Answering.{AnsweredBy};
-use endings::Ended;
 use rules::Answer;
 use rules::Checked;
 use rules::ExecutionMemory;
@@ -21,6 +20,7 @@ use rules::MEMORY_LENGTH;
 use rules::TABLE_LENGTH;
 use rules::TEMPORARIES_LENGTH;
 use rules::Table;
+use run_endings::Ended;
 
 // Runs statement n with the variables and temporaries of the start.
 fn run_from_start(table: &Table, n: usize, mem: &mut ExecutionMemory, fuel: u32) -> Ended
@@ -28,7 +28,7 @@ fn run_from_start(table: &Table, n: usize, mem: &mut ExecutionMemory, fuel: u32)
     ensures { λ r. ⌜ Ran (run (statementAt (now (table .entry)) n) startVariables (memoryOf (now (mem .entry))) fuel) r
         (now (mem .entry)) (now (mem .exit)) ⌝ }
 {
-    let variables = variables::start_variables();
+    let variables = run_variables::start_variables();
     let temporaries = [0u8; TEMPORARIES_LENGTH];
     plain_runs::run(table, n, &variables, &temporaries, mem, fuel)
 }
@@ -40,7 +40,7 @@ fn run_table(table: &[u8], mem: &mut ExecutionMemory, fuel: u32) -> Ended
         (now (mem .entry)) (now (mem .exit)) ⌝ }
 {
     let mut whole = [0u8; TABLE_LENGTH];
-    buffers::copy(&mut whole[..], table);
+    run_buffers::copy(&mut whole[..], table);
     run_from_start(&whole, table.len() / 16, mem, fuel)
 }
 
@@ -52,10 +52,10 @@ fn run_inputs(table: &[u8], inputs: &[u8], fuel: u32, memory: &mut [u8]) -> Answ
         (now (memory .exit)) ⌝ }
 {
     let mut mem = [0u8; MEMORY_LENGTH];
-    starting::start(&mut mem, inputs);
+    memory_start::start(&mut mem, inputs);
     let r = run_table(table, &mut mem, fuel);
-    let free_cells = blocks::count_free(&mem);
-    buffers::copy(memory, &mem[..]);
+    let free_cells = memory_blocks::count_free(&mem);
+    run_buffers::copy(memory, &mem[..]);
     Answer {
         number: r.number,
         record: r.statement,
@@ -70,11 +70,11 @@ fn run_accepted(table: &[u8], inputs: &[u8], fuel: u32, memory: &mut [u8]) -> An
     ensures { λ r. ⌜ AnsweredBy (plainBy checked.Accepted (now (table .entry)) (now (inputs .entry)) fuel
         (now (memory .entry))) r (now (memory .exit)) ⌝ }
 {
-    if buffers::has_inputs_fault(inputs) {
-        return endings::refuse(9, 0);
+    if run_buffers::has_inputs_fault(inputs) {
+        return run_endings::refuse(9, 0);
     }
     if memory.len() != MEMORY_LENGTH {
-        return endings::refuse(21, 0);
+        return run_endings::refuse(21, 0);
     }
     run_inputs(table, inputs, fuel, memory)
 }
@@ -86,6 +86,6 @@ pub fn run_plain(table: &[u8], inputs: &[u8], fuel: u32, memory: &mut [u8]) -> A
 {
     match checker::check_source(table) {
         Checked::Accepted => run_accepted(table, inputs, fuel, memory),
-        Checked::Refused(k, n) => endings::refuse(k, n),
+        Checked::Refused(k, n) => run_endings::refuse(k, n),
     }
 }

@@ -16,10 +16,10 @@ use Rattle.rules.specs.declared.Test.the-variants as test
 use Rattle.rules.specs.Answers.{plainEndings}
 use Rattle.rules.proofs.Among.{Among, among-not}
 use Rattle.rules.proofs.Endings.{EndsAmong, run-endings}
-use Rattle.endings.specs.declared.Ended.{Ended}
-use Rattle.statements.proofs.ChangeLaws.{becomes-same, becomes-then}
-use Rattle.endings.specs.Ending.{result, concluded, assertNumber}
-use Rattle.statements.specs.Changing.{Does}
+use Rattle.run_endings.specs.declared.Ended.{Ended}
+use Rattle.run_changes.proofs.ChangeLaws.{becomes-same, becomes-then}
+use Rattle.run_endings.specs.Ending.{result, concluded, assertNumber}
+use Rattle.run_changes.specs.Changing.{Does}
 use Rattle.plain_runs.specs.Running.{EndsSo, Ran}
 
 -- ---- outcomes: their endings count

@@ -19,13 +19,13 @@ use Rattle.rules.proofs.Outcomes.{into-ending, next-ending, decide-ending}
 use Rattle.rules.proofs.StatementArms.{let-child, sound-let}
 use Rattle.rules.proofs.PlainArms.{expressionAt, statementAt, run-sequence, run-branch, run-while-zero}
 use Rattle.rules.proofs.PlainArms.{run-while-suc, run-let}
-use Rattle.cells.specs.Changes.{Becomes}
-use Rattle.blocks.specs.Blocks.{makingOf, madeMemory}
-use Rattle.blocks.specs.declared.Making.the-variants as making
-use Rattle.endings.specs.declared.Ended.{Ended}
-use Rattle.endings.specs.Ending.{result}
+use Rattle.memory_cells.specs.Changes.{Becomes}
+use Rattle.memory_blocks.specs.Blocks.{makingOf, madeMemory}
+use Rattle.memory_blocks.specs.declared.Making.the-variants as making
+use Rattle.run_endings.specs.declared.Ended.{Ended}
+use Rattle.run_endings.specs.Ending.{result}
 use Rattle.plain_runs.specs.Running.{Ready, Inside, enclosed, EndsSo, Ran}
-use Rattle.statements.proofs.ChangeLaws.{becomes-same, becomes-is, becomes-then, made-by, unmade-by, name-fits}
+use Rattle.run_changes.proofs.ChangeLaws.{becomes-same, becomes-is, becomes-then, made-by, unmade-by, name-fits}
 use Rattle.plain_runs.proofs.Laws.{ran-is, run-finished, next-goes, next-stays}
 use Rattle.plain_runs.proofs.ReadyLaws.{ready-within, ready-inside, run-kept, made-kept}
 

@@ -26,10 +26,10 @@ use Rattle.rules.proofs.ReachableRoundTrip.{run-fits}
 use Rattle.rules.proofs.StatementArms.{statement-within, sequence-children, branch-children, while-children}
 use Rattle.rules.proofs.StatementArms.{let-child, sound-assign, sound-sequence, sound-branch, sound-while, sound-let}
 use Rattle.rules.proofs.PlainArms.{Under, expressionAt, statementAt}
-use Rattle.tables.specs.Within.{Within}
-use Rattle.cells.specs.Changes.{EvaluatedFits}
+use Rattle.table.specs.Within.{Within}
+use Rattle.memory_cells.specs.Changes.{EvaluatedFits}
 use Rattle.plain_runs.specs.Running.{Ready}
-use Rattle.statements.proofs.ChangeLaws.{names-fit}
+use Rattle.run_changes.proofs.ChangeLaws.{names-fit}
 
 module _ {t : List ℕ} {n : ℕ} {ρ : Variables} {m : Memory} (r : Ready t n ρ m) where
   pub ready-within : Within t n

@@ -12,10 +12,10 @@ use Rattle.rules.proofs.Sound.{Scope, SoundStatement}
 use Rattle.rules.proofs.Fits.{FitsMemory}
 use Rattle.rules.proofs.Reachable.{NamesFit}
 use Rattle.rules.proofs.PlainArms.{HasSort, statementAt}
-use Rattle.tables.specs.Within.{Within}
-use Rattle.cells.specs.Changes.{Becomes}
-use Rattle.endings.specs.declared.Ended.{Ended}
-use Rattle.endings.specs.Ending.{result}
+use Rattle.table.specs.Within.{Within}
+use Rattle.memory_cells.specs.Changes.{Becomes}
+use Rattle.run_endings.specs.declared.Ended.{Ended}
+use Rattle.run_endings.specs.Ending.{result}
 
 -- statement n may run: its numbers and names fit, and so do those that it finds
 pub record Ready (t : List ℕ) (n : ℕ) (ρ : Variables) (m : Memory) : Type 0 where

@@ -7,16 +7,16 @@ ghost use Rattle.rules.specs.Evaluation.{evaluateSource, evaluatePredicate, con
 ghost use Rattle.rules.specs.Plain.{run};
 ghost use Rattle.rules.specs.Layout.{memoryOf};
 ghost use Rattle.rules.proofs.PlainArms.{HasSort, expressionAt, predicateAt, statementAt};
-ghost use Rattle.tables.specs.Within.{Within};
+ghost use Rattle.table.specs.Within.{Within};
 ghost use Rattle.evaluation.specs.State.{variablesOf};
 ghost use Rattle.plain_runs.specs.Running.{Ready, Inside, enclosed, Ran};
-use blocks::Making;
-use endings::Ended;
+use memory_blocks::Making;
 use rules::ExecutionMemory;
 use rules::Table;
 use rules::Temporaries;
 use rules::Test;
 use rules::Variables;
+use run_endings::Ended;
 
 // What condition A says.
 fn test_a(
@@ -30,7 +30,7 @@ fn test_a(
     ensures { λ r. ⌜ r ≡ condition (evaluateSource (expressionAt (now (table .entry)) (childA (now (table .entry)) n))
         (variablesOf (now (variables .entry))) (memoryOf (now (mem .entry)))) ⌝ }
 {
-    children::test_a(table, n, variables, temporaries, mem)
+    run_children::test_a(table, n, variables, temporaries, mem)
 }
 
 // What predicate A says.
@@ -45,8 +45,8 @@ fn test_predicate(
     ensures { λ r. ⌜ r ≡ condition (evaluatePredicate (predicateAt (now (table .entry)) (childA (now (table .entry)) n))
         (variablesOf (now (variables .entry))) (memoryOf (now (mem .entry)))) ⌝ }
 {
-    let a = tables::child_a(&table[..], n);
-    values::test(predicates::evaluate_predicate(table, a, variables, temporaries, mem))
+    let a = table::child_a(&table[..], n);
+    value::test(evaluation_predicates::evaluate_predicate(table, a, variables, temporaries, mem))
 }
 
 // Place A takes expression B.
@@ -63,9 +63,9 @@ fn assign(
     ensures { λ r. ⌜ Ran (run (statementAt (now (table .entry)) n) (variablesOf (now (variables .entry)))
         (memoryOf (now (mem .entry))) fuel) r (now (mem .entry)) (now (mem .exit)) ⌝ }
 {
-    let f = children::find_a(table, n, variables, temporaries, &*mem);
-    let e = children::evaluate_b(table, n, variables, temporaries, &*mem);
-    endings::conclude(statements::store_at(mem, f, e), n as u32, fuel)
+    let f = run_children::find_a(table, n, variables, temporaries, &*mem);
+    let e = run_children::evaluate_b(table, n, variables, temporaries, &*mem);
+    run_endings::conclude(run_changes::store_at(mem, f, e), n as u32, fuel)
 }
 
 // Place A takes a new block of B cells.
@@ -82,9 +82,9 @@ fn allocate(
     ensures { λ r. ⌜ Ran (run (statementAt (now (table .entry)) n) (variablesOf (now (variables .entry)))
         (memoryOf (now (mem .entry))) fuel) r (now (mem .entry)) (now (mem .exit)) ⌝ }
 {
-    let f = children::find_a(table, n, variables, temporaries, &*mem);
-    let e = children::evaluate_b(table, n, variables, temporaries, &*mem);
-    endings::conclude(allocation::new_at(mem, f, e), n as u32, fuel)
+    let f = run_children::find_a(table, n, variables, temporaries, &*mem);
+    let e = run_children::evaluate_b(table, n, variables, temporaries, &*mem);
+    run_endings::conclude(run_allocation::new_at(mem, f, e), n as u32, fuel)
 }
 
 // What A points to is freed.
@@ -101,8 +101,8 @@ fn release(
     ensures { λ r. ⌜ Ran (run (statementAt (now (table .entry)) n) (variablesOf (now (variables .entry)))
         (memoryOf (now (mem .entry))) fuel) r (now (mem .entry)) (now (mem .exit)) ⌝ }
 {
-    let e = children::evaluate_a(table, n, variables, temporaries, &*mem);
-    endings::conclude(statements::free_at(mem, e), n as u32, fuel)
+    let e = run_children::evaluate_a(table, n, variables, temporaries, &*mem);
+    run_endings::conclude(run_changes::free_at(mem, e), n as u32, fuel)
 }
 
 // Predicate A is asserted.
@@ -120,7 +120,7 @@ fn assert(
         (memoryOf (now (mem .entry))) fuel) r (now (mem .entry)) (now (mem .exit)) ⌝ }
 {
     let t = test_predicate(table, n, variables, temporaries, &*mem);
-    endings::conclude(endings::assert_number(t), n as u32, fuel)
+    run_endings::conclude(run_endings::assert_number(t), n as u32, fuel)
 }
 
 // Runs statement n. Of a sequence A runs, and B where A finished; as B may be one again, they are a loop.
@@ -138,14 +138,14 @@ pub fn run(
 {
     let mut at = n;
     let mut left = fuel;
-    while tables::kind(&table[..], at) == 44 {
-        let first = tables::child_a(&table[..], at);
+    while table::kind(&table[..], at) == 44 {
+        let first = table::child_a(&table[..], at);
         let r = run(table, first, variables, temporaries, mem, left);
         if r.number != 0 {
             return r;
         }
         left = r.fuel;
-        at = tables::child_b(&table[..], at);
+        at = table::child_b(&table[..], at);
     }
     run_single(table, at, variables, temporaries, mem, left)
 }
@@ -164,7 +164,7 @@ fn run_single(
     ensures { λ r. ⌜ Ran (run (statementAt (now (table .entry)) n) (variablesOf (now (variables .entry)))
         (memoryOf (now (mem .entry))) fuel) r (now (mem .entry)) (now (mem .exit)) ⌝ }
 {
-    match tables::kind(&table[..], n) {
+    match table::kind(&table[..], n) {
         40 => Ended {
             number: 0,
             statement: 0,
@@ -197,7 +197,7 @@ fn branch(
     match test_a(table, n, variables, temporaries, &*mem) {
         Test::Yes => run(
             table,
-            tables::child_b(&table[..], n),
+            table::child_b(&table[..], n),
             variables,
             temporaries,
             mem,
@@ -205,7 +205,7 @@ fn branch(
         ),
         Test::No => run(
             table,
-            tables::child_c(&table[..], n),
+            table::child_c(&table[..], n),
             variables,
             temporaries,
             mem,
@@ -233,7 +233,7 @@ fn repeat(
     ensures { λ r. ⌜ Ran (run (statementAt (now (table .entry)) n) (variablesOf (now (variables .entry)))
         (memoryOf (now (mem .entry))) fuel) r (now (mem .entry)) (now (mem .exit)) ⌝ }
 {
-    let b = tables::child_b(&table[..], n);
+    let b = table::child_b(&table[..], n);
     let mut left = fuel;
     while left > 0 {
         left -= 1;
@@ -282,7 +282,7 @@ fn enclose(
     ensures { λ r. ⌜ Ran (run (statementAt (now (table .entry)) n) (variablesOf (now (variables .entry)))
         (memoryOf (now (mem .entry))) fuel) r (now (mem .entry)) (now (mem .exit)) ⌝ }
 {
-    match blocks::make(mem, false, 1) {
+    match memory_blocks::make(mem, false, 1) {
         Making::Name(k) => run_inside(table, n, variables, temporaries, mem, fuel, k),
         Making::Stopped(c) => Ended {
             number: c,
@@ -306,17 +306,17 @@ fn run_inside(
     ensures { λ r. ⌜ Ran (enclosed (now (table .entry)) n (variablesOf (now (variables .entry)))
         (memoryOf (now (mem .entry))) fuel k) r (now (mem .entry)) (now (mem .exit)) ⌝ }
 {
-    let inner = variables::name_variable(*variables, tables::mark(&table[..], n) as usize, k);
+    let inner = run_variables::name_variable(*variables, table::mark(&table[..], n) as usize, k);
     let r = run(
         table,
-        tables::child_a(&table[..], n),
+        table::child_a(&table[..], n),
         &inner,
         temporaries,
         mem,
         fuel,
     );
     if r.number == 0 {
-        freeing::end(mem, k);
+        memory_freeing::end(mem, k);
     }
     r
 }

@@ -22,7 +22,7 @@ fn answer_of(c: Checked) -> Answer
             fuel: 0,
             free_cells: 0,
         },
-        Checked::Refused(number, record) => endings::refuse(number, record),
+        Checked::Refused(number, record) => run_endings::refuse(number, record),
     }
 }
 
@@ -47,7 +47,7 @@ pub extern "C" fn recorder_translate(table: &[u8], out: &mut [u8]) -> Answer
 {
     match checker::check_source(table) {
         Checked::Accepted => translation::translate_accepted(table, out),
-        Checked::Refused(rule, record) => endings::refuse(rule, record),
+        Checked::Refused(rule, record) => run_endings::refuse(rule, record),
     }
 }
 
@@ -94,8 +94,8 @@ fn refuse_both(number: u32, record: u32) -> Both
     ensures { λ r. ⌜ r ≡ both (answer number «record» 0 0) (answer number «record» 0 0) ⌝ }
 {
     Both {
-        plain: endings::refuse(number, record),
-        watched: endings::refuse(number, record),
+        plain: run_endings::refuse(number, record),
+        watched: run_endings::refuse(number, record),
     }
 }
 
@@ -172,7 +172,7 @@ fn run_accepted(
         (r .plain) (r .watched)
         (lent (now (out .exit)) (now (memory .exit)) (now (second .exit)) (now (observation .exit))) ⌝ }
 {
-    if buffers::has_inputs_fault(inputs) {
+    if run_buffers::has_inputs_fault(inputs) {
         return refuse_both(9, 0);
     }
     if memory.len() != MEMORY_LENGTH {

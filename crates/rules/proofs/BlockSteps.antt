@@ -20,7 +20,8 @@ use Rattle.rules.proofs.BlockChanges.{onward-make}
 use Rattle.rules.proofs.MemoryLaws.{named-rename-same}
 use Rattle.rules.proofs.Mirror.{mirror-initialise, mirror-store, mirror-delete}
 use Rattle.rules.proofs.PredicateSimulation.{Full, put, full-put, put-same, put-other}
-use Rattle.rules.proofs.StatementSteps.{Watching, Running, Agree, both-finish, both-end, Agreeing, agree-within, stored}
+use Rattle.rules.proofs.StatementSteps.{Watching, Running, Agree, both-finish, both-end, Agreeing, agree-within}
+use Rattle.rules.proofs.StatementSteps.{stored}
 use Rattle.rules.proofs.StatementSteps.{changing}
 use Rattle.rules.specs.declared.Pointer.{Pointer}
 use Rattle.rules.specs.declared.Value.{Value}

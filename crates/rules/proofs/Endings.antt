@@ -24,7 +24,8 @@ use Rattle.rules.proofs.EvaluationEndings.{operated-among, addressOf-am
 use Rattle.rules.proofs.EvaluationEndings.{queried-among, evaluatePredicate-among}
 use Rattle.rules.proofs.ChangeEndings.{plainly, watchedly, ends-evaluated, ends-condition, ends-assigned}
 use Rattle.rules.proofs.ChangeEndings.{ends-makeBlock, ends-allocated, ends-freed}
-use Rattle.rules.proofs.Outcomes.{Reaches, Anything, AnyBlock, anywhere, asserted-keeps, change-in, made-in, made-more}
+use Rattle.rules.proofs.Outcomes.{Reaches, Anything, AnyBlock, anywhere, asserted-keeps, change-in, made-in}
+use Rattle.rules.proofs.Outcomes.{made-more}
 use Rattle.rules.proofs.SourceRuns.{MeaningKeeps, run-reaches}
 use Rattle.rules.proofs.TargetRuns.{NotedKeeps, WatchKeeps, watch-reaches, taken-keeps, observed-keeps}
 use Rattle.rules.proofs.TargetRuns.{operating, querying, negating, storing, deleting, initialising}

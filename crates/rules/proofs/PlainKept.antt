@@ -11,7 +11,8 @@ use Rattle.rules.proofs.Outcomes.{Onwards, outcomes-state, asserted-kee
 use Rattle.rules.proofs.SourceRuns.{MeaningKeeps, run-reaches}
 use Rattle.rules.proofs.Invariant.{Invariant, Onward, onward-itself, onward-then}
 use Rattle.rules.proofs.BlockChanges.{onward-end}
-use Rattle.rules.proofs.Changes.{change-kept, Given, onward-assigned, onward-made, onward-allocated, onward-freed}
+use Rattle.rules.proofs.Changes.{change-kept, Given, onward-assigned, onward-made, onward-allocated}
+use Rattle.rules.proofs.Changes.{onward-freed}
 use Rattle.rules.specs.declared.Block.the-variants as block
 
 -- a block that is made had an unused name

@@ -11,7 +11,8 @@ use Rattle.rules.specs.Trees as tree
 use Rattle.rules.specs.TargetTrees.{TargetStatement, skip, assign, new, free, sequence, branch, while, letIn}
 use Rattle.rules.specs.TargetTrees.{takeAddress, takeValue, takeOperation, takeQuery, takeNot, branchOn}
 use Rattle.rules.specs.TargetTrees.{assertOn, storeBlock, deleteBlock, initialise}
-use Rattle.rules.specs.Memory.{Memory, Change, changeIn, fixed, freeable, makeBlock, endBlock, assigned, allocated, freed, onValue}
+use Rattle.rules.specs.Memory.{Memory, Change, changeIn, fixed, freeable, makeBlock, endBlock, assigned}
+use Rattle.rules.specs.Memory.{allocated, freed, onValue}
 use Rattle.rules.specs.Evaluation.{Variables, Holding, noTemporaries, held, evaluate, findPlace, addressOf}
 use Rattle.rules.specs.Evaluation.{operated, opposite, evaluateSource, findSource, evaluatePredicate, condition}
 use Rattle.rules.specs.Evaluation.{extend}

@@ -23,7 +23,8 @@ use Rattle.rules.specs.Memory.{Memory}
 use Rattle.rules.specs.Evaluation.{Variables, evaluate, findPlace, evaluateSource, findSource}
 use Rattle.rules.specs.Watched.{Temporaries, temporaryOf}
 use Rattle.rules.specs.Translation.{embed, embedPlace}
-use Rattle.rules.proofs.KindViews.{formAt, SourceKind, literal, read, address, operation, shifted, variable, pointed}
+use Rattle.rules.proofs.KindViews.{formAt, SourceKind, literal, read, address, operation, shifted, variable}
+use Rattle.rules.proofs.KindViews.{pointed}
 use Rattle.rules.proofs.NodeLaws.{nodeBefore, node-earlier}
 use Rattle.rules.proofs.FormLaws.{FieldHolds, MarkHolds, LiteralHolds, FormHolds, nodeAs, nodesUnder, node-built}
 use Rattle.rules.proofs.Standing.{Stands, stands, stands-at}

@@ -13,7 +13,8 @@ use Rattle.rules.specs.Trees.{assign, new, free, sequence, branch, while
 use Rattle.rules.specs.Nodes.{sourceProgram}
 use Rattle.rules.specs.Emission.{expressionTree, treeSize, emit}
 use Rattle.rules.specs.Translation.{embed}
-use Rattle.rules.specs.SourceRecords.{sourceExpression, sourcePlace, termTree, predicateTree, sourceTree, numbered}
+use Rattle.rules.specs.SourceRecords.{sourceExpression, sourcePlace, termTree, predicateTree, sourceTree}
+use Rattle.rules.specs.SourceRecords.{numbered}
 use Rattle.rules.proofs.Sound.{Scope, startScope, adding, SoundExpression, SoundPlace, NoName, SoundTerm}
 use Rattle.rules.proofs.Sound.{SoundPredicate, SoundStatement}
 use Rattle.rules.proofs.FittingTrees.{rootKind, Fitting}

@@ -16,7 +16,8 @@ use Rattle.rules.specs.Nodes.{sourceStatement, sourceProgram}
 use Rattle.rules.specs.Emission.{operatorNumber, expressionTree, treeSize, emit}
 use Rattle.rules.specs.Emission as records
 use Rattle.rules.specs.Translation.{embed}
-use Rattle.rules.specs.SourceRecords.{sourceExpression, sourcePlace, termTree, predicateTree, sourceTree, numbered}
+use Rattle.rules.specs.SourceRecords.{sourceExpression, sourcePlace, termTree, predicateTree, sourceTree}
+use Rattle.rules.specs.SourceRecords.{numbered}
 use Rattle.rules.proofs.Sound.{Scope}
 use Rattle.rules.proofs.EmissionLaws.{Holds}
 use Rattle.rules.proofs.FittingTrees.{Fitting}

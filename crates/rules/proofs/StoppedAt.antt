@@ -9,7 +9,8 @@ use Rattle.rules.specs.TargetTrees.{TargetStatement}
 use Rattle.rules.specs.TargetTrees as target
 use Rattle.rules.specs.Memory.{Change, changed, stopped, Made, made, unmade}
 use Rattle.rules.specs.Evaluation.{Variables, addressOf, condition, extend}
-use Rattle.rules.specs.Flow.{TreePath, parts, ofChild, statementOn, Outcome, finished, ended, into, next, after, decide, turns}
+use Rattle.rules.specs.Flow.{TreePath, parts, ofChild, statementOn, Outcome, finished, ended, into, next, after}
+use Rattle.rules.specs.Flow.{decide, turns}
 use Rattle.rules.specs.Flow.{inLet, Meaning, runBy}
 use Rattle.rules.specs.Plain.{asserted}
 use Rattle.rules.specs.Watched.{targetParts, WatchedState, valueIn, placeIn, holding, taken, observed, watch}

@@ -6,7 +6,8 @@ use Rattle.rules.specs.TargetTrees.{TargetStatement, skip, assign, new, 
 use Rattle.rules.specs.TargetTrees.{takeAddress, takeValue, takeOperation, takeQuery, takeNot, branchOn}
 use Rattle.rules.specs.TargetTrees.{assertOn}
 use Rattle.rules.specs.TargetTrees as target
-use Rattle.rules.specs.Memory.{Memory, Change, changeIn, fixed, Made, madeIn, makeBlock, endBlock, assigned, allocated, freed}
+use Rattle.rules.specs.Memory.{Memory, Change, changeIn, fixed, Made, madeIn, makeBlock, endBlock, assigned}
+use Rattle.rules.specs.Memory.{allocated, freed}
 use Rattle.rules.specs.Memory.{onValue}
 use Rattle.rules.specs.Evaluation.{Variables, addressOf, operated, opposite, condition, extend}
 use Rattle.rules.specs.Observation.{Observation, Noted, noted, refused, storeBlock, deleteBlock, initialise}

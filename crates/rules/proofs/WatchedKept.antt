@@ -13,7 +13,8 @@ use Rattle.rules.proofs.TargetRuns.{WatchKeeps, watch-reaches, taken-ke
 use Rattle.rules.proofs.TargetRuns.{operating, querying, negating, storing, deleting, initialising}
 use Rattle.rules.proofs.Invariant.{Invariant, Onward, onward-itself, onward-then}
 use Rattle.rules.proofs.BlockChanges.{onward-end}
-use Rattle.rules.proofs.Changes.{change-kept, Given, onward-assigned, onward-made, onward-allocated, onward-freed}
+use Rattle.rules.proofs.Changes.{change-kept, Given, onward-assigned, onward-made, onward-allocated}
+use Rattle.rules.proofs.Changes.{onward-freed}
 use Rattle.rules.proofs.PlainKept.{WasUnused}
 use Rattle.rules.specs.declared.Evaluated.{Evaluated}
 

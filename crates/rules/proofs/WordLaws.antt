@@ -8,7 +8,8 @@ use mathlib.Core.Bool.{Bool, true, false}
 use mathlib.Core.List.{List, [], _∷_, _++_, append-assoc}
 use mathlib.Core.Logic.{_⊎_, ⊎-elim}
 use lib.Dec.{ltb}
-use lib.ListN.{List·getD-append, length, take, drop, getD, set, length-append, length-take, length-drop, take-append-drop}
+use lib.ListN.{List·getD-append, length, take, drop, getD, set, length-append, length-take, length-drop}
+use lib.ListN.{take-append-drop}
 use lib.Seq.{paste, paste-suc, take-all, drop-cons, take-at, drop-at, take-append-le, drop-append-le, drop-append-add}
 use lib.Seq.{drop-drop, getD-drop, length-take-le, getD-append-add, getD-take}
 use lib.IntN.{ℤ, pos, negsuc}

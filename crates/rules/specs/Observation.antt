@@ -7,7 +7,8 @@ use lib.IntN.{ℤ, pos, negsuc}
 use lib.ListN.{length, getD, set, replicate}
 use Rattle.rules.specs.Sizes.{nameCount, cellCount}
 use Rattle.rules.specs.Trees.{Query}
-use Rattle.rules.specs.Memory.{Memory, recordedOf, named, rename, locatedIn, lowestRun, fill, onInteger, onPointer}
+use Rattle.rules.specs.Memory.{Memory, recordedOf, named, rename, locatedIn, lowestRun, fill, onInteger}
+use Rattle.rules.specs.Memory.{onPointer}
 use Rattle.rules.specs.Evaluation.{isInitialised, queried}
 use Rattle.rules.specs.declared.Pointer.{Pointer}
 use Rattle.rules.specs.declared.Value.{Value}

@@ -24,11 +24,11 @@ use Rattle.rules.specs.Translation.{translate, translatedRecords, translation}
 use Rattle.rules.proofs.Sound.{Scope, startScope, adding, SoundTerm, SoundPredicate, SoundStatement}
 use Rattle.rules.proofs.AcceptedPrograms.{AcceptedProgram, accepted-program}
 use Rattle.rules.proofs.SizeBound.{size-bound}
-use Rattle.sizes.specs.Trees.{copyAt, Sorted}
-use Rattle.emission.specs.Emission.{Emitted}
-use Rattle.assertions.specs.Tests.{TermLevels, PredicateLevels}
-use Rattle.simple_statements.specs.Statements.{StatementLevels, StatementAt}
-use Rattle.emission.proofs.Emitting.{bytes-emit}
+use Rattle.translation_sizes.specs.Trees.{copyAt, Sorted}
+use Rattle.translation_emission.specs.Emission.{Emitted}
+use Rattle.translation_assertions.specs.Tests.{TermLevels, PredicateLevels}
+use Rattle.translation_statements.specs.Statements.{StatementLevels, StatementAt}
+use Rattle.translation_emission.proofs.Emitting.{bytes-emit}
 use Rattle.rules.proofs.RecordSizes.{tree-as}
 use Rattle.translation.proofs.Compounds.{statement-as}
 

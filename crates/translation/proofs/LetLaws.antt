@@ -6,11 +6,11 @@ use mathlib.Core.List.{List}
 use lib.IntN.{pos}
 use Rattle.rules.specs.Records.{childA}
 use Rattle.rules.specs.Emission.{treeSize}
-use Rattle.sizes.specs.Trees.{copyAt}
+use Rattle.translation_sizes.specs.Trees.{copyAt}
 use Rattle.rules.proofs.RecordSizes.{none-at}
-use Rattle.emission.specs.Emission.{recordOf, withRecord, withTree, Room, Emitted, partTree}
-use Rattle.emission.proofs.Emitting.{some}
-use Rattle.emission.proofs.Parts.{emitted-sequence, emitted-over}
+use Rattle.translation_emission.specs.Emission.{recordOf, withRecord, withTree, Room, Emitted, partTree}
+use Rattle.translation_emission.proofs.Emitting.{some}
+use Rattle.translation_emission.proofs.Parts.{emitted-sequence, emitted-over}
 use Rattle.translation.proofs.Rooms.{tree-length}
 use Rattle.translation.specs.Lets.{overTree, letTree, insideTree, withOpening, withSequence, withEnclosing}
 

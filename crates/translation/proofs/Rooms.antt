@@ -8,8 +8,8 @@ use lib.ListN.{length}
 use Rattle.rules.specs.Records.{tableBytes}
 use Rattle.rules.specs.Emission.{RecordTree, node, treeSize, emit}
 use Rattle.rules.proofs.WordLaws.{length-put}
-use Rattle.emission.specs.Emission.{withTree, Room, Emitted}
-use Rattle.emission.proofs.Emitting.{bytes-emit}
+use Rattle.translation_emission.specs.Emission.{withTree, Room, Emitted}
+use Rattle.translation_emission.proofs.Emitting.{bytes-emit}
 
 pub tree-length : (o : List ℕ) (at : ℕ) (w : RecordTree) → Room o at w → length (withTree o at w) ≡ length o
 tree-length o at w room =

@@ -4,8 +4,8 @@ use mathlib.Core.List.{List}
 use lib.IntN.{ℤ, pos}
 use Rattle.rules.specs.Emission.{RecordTree, none, node}
 use Rattle.rules.specs.Records.{childA}
-use Rattle.sizes.specs.Trees.{copyAt}
-use Rattle.emission.specs.Emission.{recordOf, withRecord, withTree, sequenceTree, partTree}
+use Rattle.translation_sizes.specs.Trees.{copyAt}
+use Rattle.translation_emission.specs.Emission.{recordOf, withRecord, withTree, sequenceTree, partTree}
 
 -- a record over a leaf
 abbrev pub overTree : ℕ → ℕ → ℤ → ℕ → ℕ → ℕ → RecordTree

@@ -10,10 +10,10 @@ ghost use Rattle.rules.specs.Records.{kindOf};
 ghost use Rattle.rules.specs.Checker.{check};
 ghost use Rattle.rules.specs.Answers.{translatedBy};
 ghost use Rattle.rules.specs.declared.Checked.the-variants as checked;
-ghost use Rattle.emission.specs.Emission.{Room, Emitted};
-ghost use Rattle.sizes.specs.Trees.{copyAt};
+ghost use Rattle.translation_emission.specs.Emission.{Room, Emitted};
+ghost use Rattle.translation_sizes.specs.Trees.{copyAt};
 ghost use Rattle.translation.specs.Lets.{overTree, endingTree, insideTree, withOpening, withEnclosing};
-ghost use Rattle.simple_statements.specs.Statements.{StatementAt};
+ghost use Rattle.translation_statements.specs.Statements.{StatementAt};
 
 // A record without children, then one of statement s over it.
 fn emit_over(
@@ -29,8 +29,8 @@ fn emit_over(
     requires { ⌜ s ≤ sourceLimit ⌝ ∗ ⌜ Room (now out) at (overTree below place literal s kind mark) ⌝ }
     ensures { λ r. ⌜ Emitted (now (out .entry)) at (overTree below place literal s kind mark) (now (out .exit)) r ⌝ }
 {
-    let x = emission::emit_record(out, at, below, place, 0, 0, 0, literal);
-    emission::emit_record(out, x, kind, mark, x, 0, 0, s as i64)
+    let x = translation_emission::emit_record(out, at, below, place, 0, 0, 0, literal);
+    translation_emission::emit_record(out, x, kind, mark, x, 0, 0, s as i64)
 }
 
 // At the end of a let its block is deleted.
@@ -39,8 +39,8 @@ fn emit_ending(table: &[u8], out: &mut [u8], at: usize, variable: u8, s: usize) 
     ensures { λ r. ⌜ Emitted (now (out .entry)) at (endingTree (now (table .entry)) s variable) (now (out .exit)) r ⌝ }
 {
     let p = emit_over(out, at, 10, variable, 0, 60, 0, s);
-    let q = emission::emit_part(table, out, p, 69, 0, 0, 0, 0, s);
-    emission::emit_sequence(out, q, p, s)
+    let q = translation_emission::emit_part(table, out, p, 69, 0, 0, 0, 0, s);
+    translation_emission::emit_sequence(out, q, p, s)
 }
 
 // In front of a let's body its block is recorded: five records.
@@ -51,7 +51,7 @@ fn emit_opening(table: &[u8], out: &mut [u8], at: usize, variable: u8, s: usize)
 {
     let p = emit_over(out, at, 10, variable, 0, 60, 0, s);
     let q = emit_over(out, p, 1, 0, 1, 61, 1, s);
-    emission::emit_part(table, out, q, 68, 0, 0, 0, 0, s)
+    translation_emission::emit_part(table, out, q, 68, 0, 0, 0, 0, s)
 }
 
 // Behind a let's body a sequence for each part in front of it, of which the first starts behind record `first`,
@@ -61,10 +61,10 @@ fn emit_enclosing(out: &mut [u8], at: usize, first: usize, variable: u8, s: usiz
     ensures bytes { λ _. ⌜ now (out .exit) ≡ withEnclosing (now (out .entry)) at first s variable ⌝ }
     ensures count { λ r. ⌜ r ≡ at + 4 ⌝ }
 {
-    let x = emission::emit_sequence(out, at, first + 5, s);
-    let y = emission::emit_sequence(out, x, first + 4, s);
-    let z = emission::emit_sequence(out, y, first + 2, s);
-    emission::emit_record(out, z, 47, variable, z, 0, 0, s as i64)
+    let x = translation_emission::emit_sequence(out, at, first + 5, s);
+    let y = translation_emission::emit_sequence(out, x, first + 4, s);
+    let z = translation_emission::emit_sequence(out, y, first + 2, s);
+    translation_emission::emit_record(out, z, 47, variable, z, 0, 0, s as i64)
 }
 
 // A statement.
@@ -72,12 +72,12 @@ fn emit_statement(table: &[u8], n: usize, out: &mut [u8], at: usize) -> usize
     requires { ⌜ StatementAt (now table) n ⌝ ∗ ⌜ Room (now out) at (copyAt (now table) n) ⌝ }
     ensures { λ r. ⌜ Emitted (now (out .entry)) at (copyAt (now (table .entry)) n) (now (out .exit)) r ⌝ }
 {
-    match tables::kind(table, n) {
+    match table::kind(table, n) {
         44 => emit_then(table, n, out, at),
         45 => emit_branch(table, n, out, at),
         46 => emit_repeat(table, n, out, at),
         47 => emit_let(table, n, out, at),
-        _ => simple_statements::emit_simple(table, n, out, at),
+        _ => translation_statements::emit_simple(table, n, out, at),
     }
 }
 
@@ -87,11 +87,11 @@ fn emit_then(table: &[u8], n: usize, out: &mut [u8], at: usize) -> usize
         ∗ ⌜ Room (now out) at (copyAt (now table) n) ⌝ }
     ensures { λ r. ⌜ Emitted (now (out .entry)) at (copyAt (now (table .entry)) n) (now (out .exit)) r ⌝ }
 {
-    let a = tables::child_a(table, n);
-    let b = tables::child_b(table, n);
+    let a = table::child_a(table, n);
+    let b = table::child_b(table, n);
     let x = emit_statement(table, a, out, at);
     let y = emit_statement(table, b, out, x);
-    emission::emit_sequence(out, y, x, n)
+    translation_emission::emit_sequence(out, y, x, n)
 }
 
 // B where condition A is true, else C.
@@ -100,13 +100,13 @@ fn emit_branch(table: &[u8], n: usize, out: &mut [u8], at: usize) -> usize
         ∗ ⌜ Room (now out) at (copyAt (now table) n) ⌝ }
     ensures { λ r. ⌜ Emitted (now (out .entry)) at (copyAt (now (table .entry)) n) (now (out .exit)) r ⌝ }
 {
-    let a = tables::child_a(table, n);
-    let b = tables::child_b(table, n);
-    let c = tables::child_c(table, n);
-    let x = emission::copy(table, a, out, at);
+    let a = table::child_a(table, n);
+    let b = table::child_b(table, n);
+    let c = table::child_c(table, n);
+    let x = translation_emission::copy(table, a, out, at);
     let y = emit_statement(table, b, out, x);
     let z = emit_statement(table, c, out, y);
-    emission::emit_record(out, z, 45, 0, x, y, z, n as i64)
+    translation_emission::emit_record(out, z, 45, 0, x, y, z, n as i64)
 }
 
 // B for as long as condition A is true.
@@ -115,11 +115,11 @@ fn emit_repeat(table: &[u8], n: usize, out: &mut [u8], at: usize) -> usize
         ∗ ⌜ Room (now out) at (copyAt (now table) n) ⌝ }
     ensures { λ r. ⌜ Emitted (now (out .entry)) at (copyAt (now (table .entry)) n) (now (out .exit)) r ⌝ }
 {
-    let a = tables::child_a(table, n);
-    let b = tables::child_b(table, n);
-    let x = emission::copy(table, a, out, at);
+    let a = table::child_a(table, n);
+    let b = table::child_b(table, n);
+    let x = translation_emission::copy(table, a, out, at);
     let y = emit_statement(table, b, out, x);
-    emission::emit_record(out, y, 46, 0, x, y, 0, n as i64)
+    translation_emission::emit_record(out, y, 46, 0, x, y, 0, n as i64)
 }
 
 // A, with a new block of one cell for the variable.
@@ -128,7 +128,7 @@ fn emit_let(table: &[u8], n: usize, out: &mut [u8], at: usize) -> usize
         ∗ ⌜ Room (now out) at (copyAt (now table) n) ⌝ }
     ensures { λ r. ⌜ Emitted (now (out .entry)) at (copyAt (now (table .entry)) n) (now (out .exit)) r ⌝ }
 {
-    let v = tables::mark(table, n);
+    let v = table::mark(table, n);
     let x = emit_opening(table, out, at, v, n);
     let y = emit_inside(table, n, out, x, v);
     emit_enclosing(out, y, at, v, n)
@@ -140,10 +140,10 @@ fn emit_inside(table: &[u8], n: usize, out: &mut [u8], at: usize, variable: u8) 
         ∗ ⌜ Room (now out) at (insideTree (now table) n variable) ⌝ }
     ensures { λ r. ⌜ Emitted (now (out .entry)) at (insideTree (now (table .entry)) n variable) (now (out .exit)) r ⌝ }
 {
-    let a = tables::child_a(table, n);
+    let a = table::child_a(table, n);
     let x = emit_statement(table, a, out, at);
     let y = emit_ending(table, out, x, variable, n);
-    emission::emit_sequence(out, y, x, n)
+    translation_emission::emit_sequence(out, y, x, n)
 }
 
 // An accepted table's translation: 20 where the output does not hold it.
@@ -154,7 +154,7 @@ pub fn translate_accepted(table: &[u8], out: &mut [u8]) -> Answer
         ≡ translatedBy checked.Accepted (now (table .entry)) (now (out .entry)) .out ⌝ }
 {
     let n = table.len() / 16;
-    let size = sizes::tree_size(table, n);
+    let size = translation_sizes::tree_size(table, n);
     if out.len() < 16 * size {
         return Answer {
             number: 20,

@@ -40,8 +40,9 @@ use Rattle.rules.proofs.ReachableRoundTrip.{start-inside, watched-round-trip}
 use Rattle.rules.proofs.Padding.{node-padded}
 use Rattle.rules.proofs.Inputs.{inputs-length}
 use Rattle.rules.proofs.TargetFields.{statementAt}
-use Rattle.temporaries.specs.Bytes.{temporaryIn, temporaryPlace, temporariesLength, temporaryAt, temporariesOf}
-use Rattle.endings.specs.declared.Ended.{Ended}
+use Rattle.evaluation_temporaries.specs.Bytes.{temporaryIn, temporaryPlace, temporariesLength, temporaryAt}
+use Rattle.evaluation_temporaries.specs.Bytes.{temporariesOf}
+use Rattle.run_endings.specs.declared.Ended.{Ended}
 use Rattle.watched_statements.specs.Watching.{lent, Ready, Ran, LeavesSo, Leaves, watchFrom, AnsweredBy}
 
 -- ---- the start

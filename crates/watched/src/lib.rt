@@ -13,9 +13,8 @@ ghost use Rattle.rules.specs.Answers.{watchedEnded, watchedOutcome, watchedBy, 
 ghost use Rattle.rules.specs.declared.Checked.the-variants as checked;
 ghost use Rattle.rules.proofs.Fits.{FitsMemory, FitsObservation};
 ghost use Rattle.rules.proofs.TargetFields.{statementAt};
-ghost use Rattle.temporaries.specs.Bytes.{temporariesLength};
+ghost use Rattle.evaluation_temporaries.specs.Bytes.{temporariesLength};
 ghost use Rattle.watched_statements.specs.Watching.{lent, Ready, Leaves, AnsweredBy};
-use endings::Ended;
 use rules::Answer;
 use rules::Checked;
 use rules::ExecutionMemory;
@@ -25,6 +24,7 @@ use rules::ObservationMemory;
 use rules::TABLE_LENGTH;
 use rules::TEMPORARIES_LENGTH;
 use rules::Table;
+use run_endings::Ended;
 
 // Runs statement n with the variables and temporaries of the start.
 fn run_from_start(
@@ -39,7 +39,7 @@ fn run_from_start(
         (observationOf (now (obs .entry))) startTemporaries) fuel) r
         (now (mem .entry)) (now (mem .exit)) (now (obs .entry)) (now (obs .exit)) ⌝ }
 {
-    let variables = variables::start_variables();
+    let variables = run_variables::start_variables();
     let mut temporaries = [0u8; TEMPORARIES_LENGTH];
     watched_runs::run(table, n, &variables, &mut temporaries, mem, obs, fuel)
 }
@@ -58,7 +58,7 @@ fn run_table(
         (now (mem .entry)) (now (mem .exit)) (now (obs .entry)) (now (obs .exit)) ⌝ }
 {
     let mut whole = [0u8; TABLE_LENGTH];
-    buffers::copy(&mut whole[..], table);
+    run_buffers::copy(&mut whole[..], table);
     run_from_start(&whole, table.len() / 16, mem, obs, fuel)
 }
 
@@ -74,10 +74,10 @@ fn run_memories(
     ensures { λ r. ⌜ AnsweredBy (watchedEnded (ending (watchedOutcome (now (table .entry)) (now (inputs .entry)) fuel))) r
         (now (mem .exit)) (now (obs .exit)) ⌝ }
 {
-    starting::start(mem, inputs);
-    noting::start_observation(obs, inputs.len() / 8);
+    memory_start::start(mem, inputs);
+    watched_noting::start_observation(obs, inputs.len() / 8);
     let r = run_table(table, mem, obs, fuel);
-    let free_cells = blocks::count_free(&*mem);
+    let free_cells = memory_blocks::count_free(&*mem);
     Answer {
         number: r.number,
         record: r.statement,
@@ -102,8 +102,8 @@ fn run_inputs(
     let mut mem = [0u8; MEMORY_LENGTH];
     let mut obs = [0u8; OBSERVATION_LENGTH];
     let answer = run_memories(table, inputs, fuel, &mut mem, &mut obs);
-    buffers::copy(memory, &mem[..]);
-    buffers::copy(observation, &obs[..]);
+    run_buffers::copy(memory, &mem[..]);
+    run_buffers::copy(observation, &obs[..]);
     answer
 }
 
@@ -119,14 +119,14 @@ fn run_accepted(
     ensures { λ r. ⌜ AnsweredBy (watchedBy checked.Accepted (now (table .entry)) (now (inputs .entry)) fuel
         (now (memory .entry)) (now (observation .entry))) r (now (memory .exit)) (now (observation .exit)) ⌝ }
 {
-    if buffers::has_inputs_fault(inputs) {
-        return endings::refuse(9, 0);
+    if run_buffers::has_inputs_fault(inputs) {
+        return run_endings::refuse(9, 0);
     }
     if memory.len() != MEMORY_LENGTH {
-        return endings::refuse(21, 0);
+        return run_endings::refuse(21, 0);
     }
     if observation.len() != OBSERVATION_LENGTH {
-        return endings::refuse(22, 0);
+        return run_endings::refuse(22, 0);
     }
     run_inputs(table, inputs, fuel, memory, observation)
 }
@@ -144,6 +144,6 @@ pub fn run_watched(
 {
     match checker::check_target(table) {
         Checked::Accepted => run_accepted(table, inputs, fuel, memory, observation),
-        Checked::Refused(k, n) => endings::refuse(k, n),
+        Checked::Refused(k, n) => run_endings::refuse(k, n),
     }
 }

@@ -20,17 +20,17 @@ use Rattle.rules.proofs.StatementArms.{sequence-children, while-children}
 use Rattle.rules.proofs.TargetFields.{Under, expressionAt, statementAt, numberAt}
 use Rattle.rules.proofs.TargetArms.{watch-sequence, watch-branch, watch-branch-on, watch-while-zero, watch-while-suc}
 use Rattle.rules.proofs.TargetArms.{watch-let}
-use Rattle.cells.specs.Changes.{Becomes}
-use Rattle.blocks.specs.Blocks.{makingOf, madeMemory}
-use Rattle.blocks.specs.declared.Making.the-variants as making
-use Rattle.temporaries.specs.Bytes.{temporariesOf}
-use Rattle.endings.specs.declared.Ended.{Ended}
-use Rattle.endings.specs.Ending.{result}
-use Rattle.statements.proofs.ChangeLaws.{becomes-is, made-by, unmade-by}
+use Rattle.memory_cells.specs.Changes.{Becomes}
+use Rattle.memory_blocks.specs.Blocks.{makingOf, madeMemory}
+use Rattle.memory_blocks.specs.declared.Making.the-variants as making
+use Rattle.evaluation_temporaries.specs.Bytes.{temporariesOf}
+use Rattle.run_endings.specs.declared.Ended.{Ended}
+use Rattle.run_endings.specs.Ending.{result}
+use Rattle.run_changes.proofs.ChangeLaws.{becomes-is, made-by, unmade-by}
 use Rattle.watched_statements.specs.Watching.{Lent, lent, stateOf, watchFrom, LentFits, Ready, Inside, enclosed}
 use Rattle.watched_statements.specs.Watching.{Ran}
-use Rattle.choices.specs.Branches.{IsBranch, choice}
-use Rattle.choices.proofs.Choices.{choice-on, choice-of}
+use Rattle.watched_choices.specs.Branches.{IsBranch, choice}
+use Rattle.watched_choices.proofs.Choices.{choice-on, choice-of}
 use Rattle.watched_statements.proofs.Laws.{observation-same, Kept, kept-then, ran-kept, ran-is, ran-from}
 use Rattle.watched_statements.proofs.Laws.{watch-finished, next-goes, next-stays}
 use Rattle.watched_statements.proofs.ReadyLaws.{run-kept}

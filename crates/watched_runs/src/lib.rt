@@ -3,16 +3,16 @@ ghost use mathlib.Core.Logic.{_≢_};
 ghost use mathlib.Core.Path.{_≡_};
 ghost use Rattle.rules.specs.Records.{kindOf};
 ghost use Rattle.evaluation.specs.State.{variablesOf};
-ghost use Rattle.choices.specs.Branches.{IsBranch};
+ghost use Rattle.watched_choices.specs.Branches.{IsBranch};
 ghost use Rattle.watched_statements.specs.Watching.{lent, Ready, Inside, enclosed, Ran, Runs};
-use blocks::Making;
-use endings::Ended;
+use memory_blocks::Making;
 use rules::ExecutionMemory;
 use rules::ObservationMemory;
 use rules::Table;
 use rules::Temporaries;
 use rules::Test;
 use rules::Variables;
+use run_endings::Ended;
 
 // Runs statement n. Of a sequence A runs, and B where A finished; as B may be one again, they are a loop.
 pub fn run(
@@ -31,14 +31,14 @@ pub fn run(
 {
     let mut at = n;
     let mut left = fuel;
-    while tables::kind(&table[..], at) == 44 {
-        let first = tables::child_a(&table[..], at);
+    while table::kind(&table[..], at) == 44 {
+        let first = table::child_a(&table[..], at);
         let r = run(table, first, variables, temporaries, mem, obs, left);
         if r.number != 0 {
             return r;
         }
         left = r.fuel;
-        at = tables::child_b(&table[..], at);
+        at = table::child_b(&table[..], at);
     }
     run_single(table, at, variables, temporaries, mem, obs, left)
 }
@@ -59,7 +59,7 @@ fn run_single(
         (lent (now (mem .entry)) (now (obs .entry)) (now (temporaries .entry)))
         (lent (now (mem .exit)) (now (obs .exit)) (now (temporaries .exit))) ⌝ }
 {
-    match tables::kind(&table[..], n) {
+    match table::kind(&table[..], n) {
         45 | 66 => branch(table, n, variables, temporaries, mem, obs, fuel),
         46 => repeat(table, n, variables, temporaries, mem, obs, fuel),
         47 => enclose(table, n, variables, temporaries, mem, obs, fuel),
@@ -83,14 +83,14 @@ fn branch(
         (lent (now (mem .entry)) (now (obs .entry)) (now (temporaries .entry)))
         (lent (now (mem .exit)) (now (obs .exit)) (now (temporaries .exit))) ⌝ }
 {
-    let then = tables::child_b(&table[..], n);
-    let other = tables::child_c(&table[..], n);
-    match choices::test(table, n, variables, &*temporaries, &*mem) {
+    let then = table::child_b(&table[..], n);
+    let other = table::child_c(&table[..], n);
+    match watched_choices::test(table, n, variables, &*temporaries, &*mem) {
         Test::Yes => run(table, then, variables, temporaries, mem, obs, fuel),
         Test::No => run(table, other, variables, temporaries, mem, obs, fuel),
         Test::Stopped(k) => Ended {
             number: k,
-            statement: choices::statement_of(table, n),
+            statement: watched_choices::statement_of(table, n),
             fuel,
         },
     }
@@ -112,11 +112,11 @@ fn repeat(
         (lent (now (mem .entry)) (now (obs .entry)) (now (temporaries .entry)))
         (lent (now (mem .exit)) (now (obs .exit)) (now (temporaries .exit))) ⌝ }
 {
-    let b = tables::child_b(&table[..], n);
+    let b = table::child_b(&table[..], n);
     let mut left = fuel;
     while left > 0 {
         left -= 1;
-        match children::test_a(table, n, variables, &*temporaries, &*mem) {
+        match run_children::test_a(table, n, variables, &*temporaries, &*mem) {
             Test::Yes => {
                 let r = run(table, b, variables, temporaries, mem, obs, left);
                 if r.number != 0 {
@@ -134,7 +134,7 @@ fn repeat(
             Test::Stopped(k) => {
                 return Ended {
                     number: k,
-                    statement: choices::statement_of(table, n),
+                    statement: watched_choices::statement_of(table, n),
                     fuel: left,
                 };
             }
@@ -142,7 +142,7 @@ fn repeat(
     }
     Ended {
         number: 32,
-        statement: choices::statement_of(table, n),
+        statement: watched_choices::statement_of(table, n),
         fuel: 0,
     }
 }
@@ -163,11 +163,11 @@ fn enclose(
         (lent (now (mem .entry)) (now (obs .entry)) (now (temporaries .entry)))
         (lent (now (mem .exit)) (now (obs .exit)) (now (temporaries .exit))) ⌝ }
 {
-    match blocks::make(mem, false, 1) {
+    match memory_blocks::make(mem, false, 1) {
         Making::Name(k) => run_inside(table, n, variables, temporaries, mem, obs, fuel, k),
         Making::Stopped(c) => Ended {
             number: c,
-            statement: choices::statement_of(table, n),
+            statement: watched_choices::statement_of(table, n),
             fuel,
         },
     }
@@ -190,11 +190,11 @@ fn run_inside(
         (lent (now (mem .entry)) (now (obs .entry)) (now (temporaries .entry)))
         (lent (now (mem .exit)) (now (obs .exit)) (now (temporaries .exit))) ⌝ }
 {
-    let inner = variables::name_variable(*variables, tables::mark(&table[..], n) as usize, k);
-    let body = tables::child_a(&table[..], n);
+    let inner = run_variables::name_variable(*variables, table::mark(&table[..], n) as usize, k);
+    let body = table::child_a(&table[..], n);
     let r = run(table, body, &inner, temporaries, mem, obs, fuel);
     if r.number == 0 {
-        freeing::end(mem, k);
+        memory_freeing::end(mem, k);
     }
     r
 }

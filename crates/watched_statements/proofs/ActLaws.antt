@@ -27,14 +27,14 @@ use Rattle.rules.proofs.Endings.{EndsAmong, watch-endings}
 use Rattle.rules.proofs.TargetFields.{HasSort, statementAt, numberAt, statement-kinds}
 use Rattle.rules.proofs.TargetArms.{watch-operation, watch-query, watch-not, watch-store-block, watch-delete-block}
 use Rattle.rules.proofs.TargetArms.{watch-initialise}
-use Rattle.temporaries.specs.Bytes.{temporariesOf}
-use Rattle.endings.specs.Ending.{result, concluded, assertNumber}
-use Rattle.statements.specs.Changing.{Does}
-use Rattle.statements.proofs.ChangeLaws.{becomes-same}
-use Rattle.steps.specs.Steps.{Takes, IsTake, takenOf}
-use Rattle.steps.proofs.StepLaws.{take-operation-is, take-query-is, take-not-is}
-use Rattle.noting.specs.Calls.{Observes, IsNote, noteOf}
-use Rattle.noting.proofs.CallLaws.{note-record, note-delete, note-mark}
+use Rattle.evaluation_temporaries.specs.Bytes.{temporariesOf}
+use Rattle.run_endings.specs.Ending.{result, concluded, assertNumber}
+use Rattle.run_changes.specs.Changing.{Does}
+use Rattle.run_changes.proofs.ChangeLaws.{becomes-same}
+use Rattle.watched_steps.specs.Steps.{Takes, IsTake, takenOf}
+use Rattle.watched_steps.proofs.StepLaws.{take-operation-is, take-query-is, take-not-is}
+use Rattle.watched_noting.specs.Calls.{Observes, IsNote, noteOf}
+use Rattle.watched_noting.proofs.CallLaws.{note-record, note-delete, note-mark}
 use Rattle.watched_statements.specs.Watching.{lent, stateOf, watchFrom, IsAct, Ran}
 use Rattle.watched_statements.proofs.Laws.{observation-same, ran-is, ends-above}
 

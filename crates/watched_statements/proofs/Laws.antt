@@ -13,12 +13,12 @@ use Rattle.rules.specs.Layout.{memoryOf, observationOf, observationImage}
 use Rattle.rules.specs.Answers.{watchedEndings}
 use Rattle.rules.proofs.Among.{Among, among-not}
 use Rattle.rules.proofs.Endings.{EndsAmong, watch-endings}
-use Rattle.cells.specs.Changes.{Becomes, Exact}
+use Rattle.memory_cells.specs.Changes.{Becomes, Exact}
 use Rattle.observation.specs.Calls.{ObservationBecomes}
-use Rattle.temporaries.specs.Bytes.{temporariesOf}
-use Rattle.endings.specs.declared.Ended.{Ended}
-use Rattle.endings.specs.Ending.{result}
-use Rattle.statements.proofs.ChangeLaws.{becomes-same}
+use Rattle.evaluation_temporaries.specs.Bytes.{temporariesOf}
+use Rattle.run_endings.specs.declared.Ended.{Ended}
+use Rattle.run_endings.specs.Ending.{result}
+use Rattle.run_changes.proofs.ChangeLaws.{becomes-same}
 use Rattle.watched_statements.specs.Watching.{Lent, lent, stateOf, watchFrom, EndsSo, Ran}
 
 -- ---- the bytes

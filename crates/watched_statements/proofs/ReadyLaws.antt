@@ -23,14 +23,14 @@ use Rattle.rules.proofs.ReachableRoundTrip.{watch-fits}
 use Rattle.rules.proofs.StatementArms.{statement-within, sequence-children, branch-children, while-children}
 use Rattle.rules.proofs.StatementArms.{let-child, sound-assign, sound-sequence, sound-branch, sound-while, sound-let}
 use Rattle.rules.proofs.TargetFields.{Under, expressionAt, statementAt, branch-on-fields, sound-branch-on}
-use Rattle.tables.specs.Within.{Within}
-use Rattle.cells.specs.Changes.{Becomes, EvaluatedFits}
-use Rattle.blocks.specs.Blocks.{makingOf, madeMemory}
-use Rattle.blocks.specs.declared.Making.the-variants as making
-use Rattle.temporaries.specs.Bytes.{temporariesOf}
-use Rattle.endings.specs.declared.Ended.{Ended}
-use Rattle.statements.proofs.ChangeLaws.{names-fit, made-by, name-fits}
-use Rattle.choices.specs.Branches.{IsBranch}
+use Rattle.table.specs.Within.{Within}
+use Rattle.memory_cells.specs.Changes.{Becomes, EvaluatedFits}
+use Rattle.memory_blocks.specs.Blocks.{makingOf, madeMemory}
+use Rattle.memory_blocks.specs.declared.Making.the-variants as making
+use Rattle.evaluation_temporaries.specs.Bytes.{temporariesOf}
+use Rattle.run_endings.specs.declared.Ended.{Ended}
+use Rattle.run_changes.proofs.ChangeLaws.{names-fit, made-by, name-fits}
+use Rattle.watched_choices.specs.Branches.{IsBranch}
 use Rattle.watched_statements.specs.Watching.{Lent, lent, stateOf, watchFrom, LentFits, Ready, Inside}
 use Rattle.watched_statements.specs.Watching.{EndsSo, Ran}
 

@@ -18,12 +18,12 @@ use Rattle.rules.proofs.Sound.{Scope, SoundTarget}
 use Rattle.rules.proofs.Fits.{FitsTemporary, FitsMemory, FitsObservation}
 use Rattle.rules.proofs.Reachable.{NamesFit}
 use Rattle.rules.proofs.TargetFields.{HasSort, statementAt, numberAt}
-use Rattle.tables.specs.Within.{Within}
-use Rattle.cells.specs.Changes.{Becomes}
+use Rattle.table.specs.Within.{Within}
+use Rattle.memory_cells.specs.Changes.{Becomes}
 use Rattle.observation.specs.Calls.{ObservationBecomes}
-use Rattle.temporaries.specs.Bytes.{temporariesOf}
-use Rattle.endings.specs.declared.Ended.{Ended}
-use Rattle.endings.specs.Ending.{result, concluded}
+use Rattle.evaluation_temporaries.specs.Bytes.{temporariesOf}
+use Rattle.run_endings.specs.declared.Ended.{Ended}
+use Rattle.run_endings.specs.Ending.{result, concluded}
 
 -- the bytes that a run changes: both memories and the temporaries
 pub record Lent : Type 0 where

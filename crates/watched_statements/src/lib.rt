@@ -7,20 +7,20 @@ ghost use Rattle.rules.specs.Evaluation.{addressOf, condition};
 ghost use Rattle.rules.specs.Watched.{heldIn};
 ghost use Rattle.rules.specs.Layout.{memoryOf};
 ghost use Rattle.rules.proofs.TargetFields.{HasSort, numberAt};
-ghost use Rattle.cells.specs.Changes.{EvaluatedFits};
+ghost use Rattle.memory_cells.specs.Changes.{EvaluatedFits};
 ghost use Rattle.evaluation.specs.State.{variablesOf};
-ghost use Rattle.temporaries.specs.Bytes.{temporariesOf};
-ghost use Rattle.children.specs.Children.{foundIn, valueIn};
-ghost use Rattle.endings.specs.Ending.{assertNumber};
-ghost use Rattle.statements.specs.Changing.{Does};
-ghost use Rattle.steps.specs.Steps.{Takes};
+ghost use Rattle.evaluation_temporaries.specs.Bytes.{temporariesOf};
+ghost use Rattle.run_children.specs.Children.{foundIn, valueIn};
+ghost use Rattle.run_endings.specs.Ending.{assertNumber};
+ghost use Rattle.run_changes.specs.Changing.{Does};
+ghost use Rattle.watched_steps.specs.Steps.{Takes};
 ghost use Rattle.watched_statements.specs.Watching.{lent, Ready, IsAct, Runs, Acts};
-use endings::Ended;
 use rules::ExecutionMemory;
 use rules::ObservationMemory;
 use rules::Table;
 use rules::Temporaries;
 use rules::Variables;
+use run_endings::Ended;
 
 // 41: place A takes expression B.
 fn assign(
@@ -39,9 +39,9 @@ fn assign(
         (now (temporaries .entry)) (now (mem .entry))))
         r (now (mem .entry)) (now (mem .exit)) ⌝ }
 {
-    let f = children::find_a(table, n, variables, temporaries, &*mem);
-    let e = children::evaluate_b(table, n, variables, temporaries, &*mem);
-    statements::store_at(mem, f, e)
+    let f = run_children::find_a(table, n, variables, temporaries, &*mem);
+    let e = run_children::evaluate_b(table, n, variables, temporaries, &*mem);
+    run_changes::store_at(mem, f, e)
 }
 
 // 42: place A takes a new block of B cells.
@@ -60,9 +60,9 @@ fn allocate(
         (now (temporaries .entry)) (now (mem .entry))))
         r (now (mem .entry)) (now (mem .exit)) ⌝ }
 {
-    let f = children::find_a(table, n, variables, temporaries, &*mem);
-    let e = children::evaluate_b(table, n, variables, temporaries, &*mem);
-    allocation::new_at(mem, f, e)
+    let f = run_children::find_a(table, n, variables, temporaries, &*mem);
+    let e = run_children::evaluate_b(table, n, variables, temporaries, &*mem);
+    run_allocation::new_at(mem, f, e)
 }
 
 // 43: what A points to is freed.
@@ -79,8 +79,8 @@ fn release(
         (now (temporaries .entry)) (now (mem .entry))))
         r (now (mem .entry)) (now (mem .exit)) ⌝ }
 {
-    let e = children::evaluate_a(table, n, variables, temporaries, &*mem);
-    statements::free_at(mem, e)
+    let e = run_children::evaluate_a(table, n, variables, temporaries, &*mem);
+    run_changes::free_at(mem, e)
 }
 
 // 60: the temporary takes the address of place A.
@@ -96,9 +96,9 @@ fn take_address(
         (addressOf (foundIn (now (table .entry)) (childA (now (table .entry)) n) (now (variables .entry))
         (now (temporaries .entry)) (now (mem .entry)))) ⌝ }
 {
-    let f = children::find_a(table, n, variables, &*temporaries, mem);
+    let f = run_children::find_a(table, n, variables, &*temporaries, mem);
     let e = evaluation_answers::address(f);
-    steps::take_evaluated(temporaries, tables::mark(&table[..], n) as usize, e)
+    watched_steps::take_evaluated(temporaries, table::mark(&table[..], n) as usize, e)
 }
 
 // 61: the temporary takes expression A.
@@ -114,8 +114,8 @@ fn take_value(
         (valueIn (now (table .entry)) (childA (now (table .entry)) n) (now (variables .entry))
         (now (temporaries .entry)) (now (mem .entry))) ⌝ }
 {
-    let e = children::evaluate_a(table, n, variables, &*temporaries, mem);
-    steps::take_evaluated(temporaries, tables::mark(&table[..], n) as usize, e)
+    let e = run_children::evaluate_a(table, n, variables, &*temporaries, mem);
+    watched_steps::take_evaluated(temporaries, table::mark(&table[..], n) as usize, e)
 }
 
 // 67: the temporary is asserted.
@@ -124,8 +124,8 @@ fn assert(table: &Table, n: usize, temporaries: &Temporaries) -> u32
     ensures { λ r. ⌜ r ≡ assertNumber (condition (heldIn (temporariesOf (now (temporaries .entry)))
         (markOf (now (table .entry)) n))) ⌝ }
 {
-    let t = steps::test_temporary(temporaries, tables::mark(&table[..], n) as usize);
-    endings::assert_number(t)
+    let t = watched_steps::test_temporary(temporaries, table::mark(&table[..], n) as usize);
+    run_endings::assert_number(t)
 }
 
 // A statement that runs no other: the number that it ends with, 0 where it finished.
@@ -143,16 +143,16 @@ fn act(
         (lent (now (mem .entry)) (now (obs .entry)) (now (temporaries .entry)))
         (lent (now (mem .exit)) (now (obs .exit)) (now (temporaries .exit))) ⌝ }
 {
-    match tables::kind(&table[..], n) {
+    match table::kind(&table[..], n) {
         40 => 0,
         41 => assign(table, n, variables, &*temporaries, mem),
         42 => allocate(table, n, variables, &*temporaries, mem),
         43 => release(table, n, variables, &*temporaries, mem),
         60 => take_address(table, n, variables, temporaries, &*mem),
         61 => take_value(table, n, variables, temporaries, &*mem),
-        63..=65 => steps::take(table, n, temporaries, &*obs),
+        63..=65 => watched_steps::take(table, n, temporaries, &*obs),
         67 => assert(table, n, &*temporaries),
-        _ => noting::note(table, n, &*temporaries, obs),
+        _ => watched_noting::note(table, n, &*temporaries, obs),
     }
 }
 
@@ -173,5 +173,5 @@ pub fn step(
         (lent (now (mem .exit)) (now (obs .exit)) (now (temporaries .exit))) ⌝ }
 {
     let number = act(table, n, variables, temporaries, mem, obs);
-    endings::conclude(number, choices::statement_of(table, n), fuel)
+    run_endings::conclude(number, watched_choices::statement_of(table, n), fuel)
 }

@@ -5,7 +5,7 @@ use mathlib.Core.Bool.{Bool, false}
 use mathlib.Core.Path.{subst, _∙_}
 use Rattle.rules.specs.Records.{recordCount}
 use Rattle.rules.specs.Checker.{levelFault}
-use Rattle.forms.specs.Codes.{languageOf}
+use Rattle.checker_forms.specs.Codes.{languageOf}
 use Rattle.checker.specs.Scopes.{Kept}
 use Rattle.checker.proofs.OrderLaws.{last-target, last-none, last-at}
 use Rattle.checker.proofs.Lowest.{found-in}

@@ -2,7 +2,7 @@
 use mathlib.Core.Bool.{Bool}
 use mathlib.Core.Path.{sym, ap}
 use Rattle.rules.specs.Kinds.{recordLimit}
-use Rattle.forms.specs.Codes.{languageOf}
+use Rattle.checker_forms.specs.Codes.{languageOf}
 use Rattle.checker.proofs.limit.Statement.{statement}
 use Rattle.checker.proofs.limit.Tie as tie
 

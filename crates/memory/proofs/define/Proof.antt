@@ -6,7 +6,7 @@ use Rattle.rules.specs.Memory.{defined}
 use Rattle.rules.specs.declared.Cell.the-variants as cell
 use Rattle.rules.specs.declared.Value.the-variants as value
 use Rattle.rules.specs.declared.Evaluated.the-variants as evaluated
-use Rattle.cells.specs.Changes.{CellFits}
+use Rattle.memory_cells.specs.Changes.{CellFits}
 use mathlib.Core.Path.{_≡_, refl, sym, ap, _∙_, subst}
 use borrow.Author.Needs.{needs}
 use Rattle.memory.proofs.define.Statement.{statement}

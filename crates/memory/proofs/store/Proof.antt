@@ -5,14 +5,14 @@ use Rattle.rules.specs.declared.Located.the-variants as located
 use Rattle.rules.specs.Memory.{locate}
 use Rattle.rules.specs.Layout.{memoryOf}
 use Rattle.memory.proofs.Names.{located-name}
-use Rattle.cell_changes.proofs.Writing.{unchanged}
+use Rattle.memory_cell_changes.proofs.Writing.{unchanged}
 use borrow.Author.Needs.{needs}
 use Rattle.memory.proofs.store.Statement.{statement}
 use Rattle.memory.proofs.store.Tie as tie
 use Rattle.memory.proofs.store.Reads as reads
 use Rattle.memory.proofs.store.Lts as lts
-use Rattle.pointers.proofs.locate.Reads as locate-reads
-use Rattle.cell_changes.proofs.put_cell.Reads as put-cell-reads
+use Rattle.memory_pointers.proofs.locate.Reads as locate-reads
+use Rattle.memory_cell_changes.proofs.put_cell.Reads as put-cell-reads
 
 locate-requires : tie.Need-locate-requires
 locate-requires c κs = search needs

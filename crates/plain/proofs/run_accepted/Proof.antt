@@ -1,6 +1,6 @@
 use borrow.Author.Needs.{needs}
 use mathlib.Core.Path.{sym, _∙_}
-use Rattle.buffers.proofs.EntryLaws.{memory-refused, memory-accepted}
+use Rattle.run_buffers.proofs.EntryLaws.{memory-refused, memory-accepted}
 use Rattle.plain.proofs.EntryLaws.{refuse-inputs, refuse-memory, run-both}
 use Rattle.plain.proofs.run_accepted.Statement.{statement}
 use Rattle.plain.proofs.run_accepted.Tie as tie

@@ -1,7 +1,7 @@
 use borrow.Author.Needs.{needs}
 use native.Mathlib.Omega.{arith}
 use mathlib.Core.Path.{sym, _∙_}
-use Rattle.buffers.proofs.EntryLaws.{put-all, memory-whole, inputs-short}
+use Rattle.run_buffers.proofs.EntryLaws.{put-all, memory-whole, inputs-short}
 use Rattle.plain.proofs.EntryLaws.{start-ready, exit-length, entry-ends}
 use Rattle.plain.proofs.run_inputs.Statement.{statement}
 use Rattle.plain.proofs.run_inputs.Tie as tie

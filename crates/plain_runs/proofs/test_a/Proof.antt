@@ -4,7 +4,7 @@ use Rattle.rules.specs.Evaluation.{condition}
 use Rattle.rules.specs.Layout.{memoryOf}
 use Rattle.rules.proofs.SharedExpressions.{target-expression, evaluated-alike}
 use Rattle.evaluation.specs.State.{variablesOf}
-use Rattle.temporaries.specs.Bytes.{temporariesOf}
+use Rattle.evaluation_temporaries.specs.Bytes.{temporariesOf}
 use Rattle.plain_runs.proofs.test_a.Statement.{statement}
 use Rattle.plain_runs.proofs.test_a.Tie as tie
 

@@ -1,7 +1,7 @@
 -- `translation::emit_enclosing` meets its contract. Assumes nothing.
 use borrow.Author.Needs.{needs}
 use denote.Ref.{now}
-use Rattle.emission.proofs.Parts.{number-literal}
+use Rattle.translation_emission.proofs.Parts.{number-literal}
 use Rattle.translation.proofs.LetLaws.{enclosing-done}
 use Rattle.translation.proofs.emit_enclosing.Statement.{statement}
 use Rattle.translation.proofs.emit_enclosing.Tie as tie

@@ -2,8 +2,8 @@
 use native.Mathlib.Omega.{arith}
 use mathlib.Core.Logic.{inl}
 use mathlib.Core.Path.{refl, _∙_}
-use Rattle.emission.proofs.Emitting.{some}
-use Rattle.emission.proofs.Parts.{emitted-sequence}
+use Rattle.translation_emission.proofs.Emitting.{some}
+use Rattle.translation_emission.proofs.Parts.{emitted-sequence}
 use Rattle.translation.proofs.emit_ending.Statement.{statement}
 use Rattle.translation.proofs.emit_ending.Tie as tie
 

@@ -3,14 +3,14 @@ use native.Mathlib.Omega.{arith}
 use denote.Ref.{now}
 use lib.IntN.{pos}
 use mir.Facts.{toZ-ofZ}
-use Rattle.emission.proofs.Emitting.{some}
-use Rattle.emission.proofs.Parts.{number-literal, emitted-over, emitted-leaf}
+use Rattle.translation_emission.proofs.Emitting.{some}
+use Rattle.translation_emission.proofs.Parts.{number-literal, emitted-over, emitted-leaf}
 use borrow.Author.Needs.{needs}
 use Rattle.translation.proofs.emit_over.Statement.{statement}
 use Rattle.translation.proofs.emit_over.Tie as tie
 use Rattle.translation.proofs.emit_over.Reads as reads
 use Rattle.translation.proofs.emit_over.Lts as lts
-use Rattle.emission.proofs.emit_record.Reads as emit-record-reads
+use Rattle.translation_emission.proofs.emit_record.Reads as emit-record-reads
 
 emit-record-requires : tie.Need-emit-record-requires
 emit-record-requires c κs = search needs

@@ -9,7 +9,7 @@ use Rattle.translation.proofs.translate_accepted.Tie as tie
 use Rattle.translation.proofs.translate_accepted.Reads as reads
 use Rattle.translation.proofs.translate_accepted.Lts as lts
 use Rattle.translation.proofs.emit_statement.Reads as emit-statement-reads
-use Rattle.sizes.proofs.tree_size.Reads as tree-size-reads
+use Rattle.translation_sizes.proofs.tree_size.Reads as tree-size-reads
 
 tree-size-requires : tie.Need-tree-size-requires
 tree-size-requires c κs =

@@ -1,5 +1,5 @@
 use mathlib.Core.Path.{sym, _∙_}
-use Rattle.buffers.proofs.EntryLaws.{memory-refused, memory-accepted}
+use Rattle.run_buffers.proofs.EntryLaws.{memory-refused, memory-accepted}
 use Rattle.watched.proofs.EntryLaws.{observation-refused, observation-accepted, refuse-inputs, refuse-memory}
 use Rattle.watched.proofs.EntryLaws.{refuse-observation, run-both}
 use borrow.Author.Needs.{needs}

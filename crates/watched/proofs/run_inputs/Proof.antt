@@ -1,6 +1,6 @@
 use native.Mathlib.Omega.{arith}
 use mathlib.Core.Path.{sym, _∙_}
-use Rattle.buffers.proofs.EntryLaws.{put-all, memory-whole}
+use Rattle.run_buffers.proofs.EntryLaws.{put-all, memory-whole}
 use Rattle.watched.proofs.EntryLaws.{exit-lengths, observation-whole}
 use borrow.Author.Needs.{needs}
 use Rattle.watched.proofs.run_inputs.Statement.{statement}

@@ -1,5 +1,5 @@
 use native.Mathlib.Omega.{arith}
-use Rattle.buffers.proofs.EntryLaws.{inputs-short}
+use Rattle.run_buffers.proofs.EntryLaws.{inputs-short}
 use Rattle.watched.proofs.EntryLaws.{start-ready, entry-ends}
 use borrow.Author.Needs.{needs}
 use Rattle.watched.proofs.run_memories.Statement.{statement}

@@ -9,7 +9,7 @@ use Rattle.rules.proofs.TargetFields.{statementAt, numberAt}
 use Rattle.rules.proofs.TargetArms.{watch-skip, watch-assign, watch-new, watch-free, watch-address, watch-value}
 use Rattle.rules.proofs.TargetArms.{watch-assert-on}
 use Rattle.evaluation.specs.State.{variablesOf}
-use Rattle.temporaries.specs.Bytes.{temporariesOf}
+use Rattle.evaluation_temporaries.specs.Bytes.{temporariesOf}
 use Rattle.watched_statements.specs.Watching.{lent, stateOf}
 use Rattle.watched_statements.proofs.Laws.{ran-is, ran-finished}
 use Rattle.watched_statements.proofs.ActLaws.{watch-take, watch-note, take-between, last-act, acts-change}

@@ -6,8 +6,8 @@ use Rattle.rules.specs.Evaluation.{condition}
 use Rattle.rules.specs.Watched.{heldIn}
 use Rattle.rules.proofs.StatementArms.{statement-within}
 use Rattle.rules.proofs.TargetFields.{assert-on-fields}
-use Rattle.temporaries.specs.Bytes.{temporariesOf}
-use Rattle.endings.specs.Ending.{assertNumber}
+use Rattle.evaluation_temporaries.specs.Bytes.{temporariesOf}
+use Rattle.run_endings.specs.Ending.{assertNumber}
 use borrow.Author.Needs.{needs}
 use Rattle.watched_statements.proofs.assert.Statement.{statement}
 use Rattle.watched_statements.proofs.assert.Tie as tie

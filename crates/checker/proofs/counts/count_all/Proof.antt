@@ -3,7 +3,7 @@ use Prim.Native.Nat.{ℕ, _+_, _-_, _≤_}
 use native.Mathlib.Omega.{arith}
 use mathlib.Core.Path.{_≡_, subst}
 use Rattle.rules.specs.Records.{recordCount}
-use Rattle.forms.specs.Codes.{languageOf}
+use Rattle.checker_forms.specs.Codes.{languageOf}
 use Rattle.checker.specs.Searches.{Counted}
 use Rattle.checker.proofs.counts.count_all.Statement.{statement}
 use Rattle.checker.proofs.counts.count_all.Tie as tie

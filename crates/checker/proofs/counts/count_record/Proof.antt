@@ -4,7 +4,7 @@ use Prim.Native.Nat.{ℕ, _-_}
 use native.Mathlib.Omega.{arith}
 use mathlib.Core.Path.{subst}
 use Rattle.rules.specs.Records.{kindOf}
-use Rattle.forms.specs.Codes.{languageOf, Coded}
+use Rattle.checker_forms.specs.Codes.{languageOf, Coded}
 use Rattle.checker.proofs.CountLaws.{counted-room, counted-more}
 use Rattle.checker.proofs.counts.count_record.Statement.{statement}
 use Rattle.checker.proofs.counts.count_record.Tie as tie

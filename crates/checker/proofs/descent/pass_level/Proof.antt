@@ -6,7 +6,7 @@ use mathlib.Core.Path.{_≡_, sym, subst, _∙_}
 use Rattle.rules.specs.Records.{fieldsOf, kindOf, childA, childB, childC, recordAt}
 use Rattle.rules.specs.Kinds.{source}
 use Rattle.rules.specs.Checker.{levelBelow, positionIn}
-use Rattle.forms.specs.Codes.{Coded}
+use Rattle.checker_forms.specs.Codes.{Coded}
 use Rattle.checker.specs.Searches.{putThree}
 use Rattle.checker.specs.Scopes.{Given}
 use Rattle.checker.proofs.DescentLaws.{given-three}

@@ -4,7 +4,7 @@ use Prim.Native.Nat.{ℕ}
 use mathlib.Core.List.{List}
 use mathlib.Core.Path.{_≡_, refl, sym, subst, _∙_}
 use Rattle.rules.specs.Records.{kindOf, childA, childB, childC}
-use Rattle.forms.specs.Codes.{languageOf, Coded}
+use Rattle.checker_forms.specs.Codes.{languageOf, Coded}
 use Rattle.checker.specs.Searches.{putThree}
 use Rattle.checker.specs.Scopes.{Given}
 use Rattle.checker.proofs.DescentLaws.{given-three}

@@ -1,7 +1,7 @@
 -- `checker::notes::count_child` meets its contract. Assumes nothing.
 use borrow.Author.Needs.{needs}
 use native.Mathlib.Omega.{arith}
-use Rattle.forms.specs.Codes.{fieldFrom}
+use Rattle.checker_forms.specs.Codes.{fieldFrom}
 use Rattle.checker.proofs.NoteLaws.{put-out}
 use Rattle.checker.proofs.notes.count_child.Statement.{statement}
 use Rattle.checker.proofs.notes.count_child.Tie as tie

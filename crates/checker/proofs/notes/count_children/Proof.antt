@@ -3,7 +3,7 @@ use Prim.Native.Nat.{ℕ, _/_, _%_}
 use native.Mathlib.Omega.{arith}
 use mathlib.Core.Path.{ap, _∙_}
 use mathlib.Core.List.{List}
-use Rattle.forms.specs.Codes.{fieldFrom}
+use Rattle.checker_forms.specs.Codes.{fieldFrom}
 use Rattle.checker.specs.Searches.{countIn}
 use Rattle.checker.proofs.NoteLaws.{Room, room-more}
 use Rattle.checker.proofs.notes.count_children.Statement.{statement}

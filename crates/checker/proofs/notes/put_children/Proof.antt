@@ -4,7 +4,7 @@ use Prim.Native.Nat.{ℕ, _/_, _%_}
 use mathlib.Core.Path.{ap, _∙_}
 use mathlib.Core.List.{List}
 use lib.ListN.{length}
-use Rattle.forms.specs.Codes.{fieldFrom}
+use Rattle.checker_forms.specs.Codes.{fieldFrom}
 use Rattle.checker.specs.Searches.{putIn}
 use Rattle.checker.proofs.NoteLaws.{put-length}
 use Rattle.checker.proofs.notes.put_children.Statement.{statement}

@@ -3,7 +3,7 @@ use borrow.Author.Needs.{needs}
 use Prim.Native.Nat.{ℕ}
 use mathlib.Core.Path.{subst}
 use Rattle.rules.specs.Records.{kindOf}
-use Rattle.forms.specs.Codes.{languageOf, Coded}
+use Rattle.checker_forms.specs.Codes.{languageOf, Coded}
 use Rattle.checker.proofs.ShapeLaws.{shape-last, shape-other}
 use Rattle.checker.proofs.searches.is_misshapen.Statement.{statement}
 use Rattle.checker.proofs.searches.is_misshapen.Tie as tie

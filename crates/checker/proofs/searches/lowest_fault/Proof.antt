@@ -7,7 +7,7 @@ use mathlib.Core.Path.{ap, _∙_}
 use lib.Dec.{ltb}
 use Rattle.rules.specs.Records.{recordCount}
 use Rattle.rules.specs.Checker.{recordFault}
-use Rattle.forms.specs.Codes.{languageOf}
+use Rattle.checker_forms.specs.Codes.{languageOf}
 use Rattle.checker.proofs.Lowest.{Lowest, lowest-start, lowest-down, lowest-end}
 use Rattle.checker.proofs.searches.lowest_fault.Statement.{statement}
 use Rattle.checker.proofs.searches.lowest_fault.Tie as tie

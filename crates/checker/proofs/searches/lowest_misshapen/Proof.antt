@@ -7,7 +7,7 @@ use lib.ListN.{length}
 use Rattle.rules.specs.Sizes.{targetLimit}
 use Rattle.rules.specs.Records.{recordCount}
 use Rattle.rules.specs.Checker.{shapeFault}
-use Rattle.forms.specs.Codes.{languageOf}
+use Rattle.checker_forms.specs.Codes.{languageOf}
 use Rattle.checker.specs.Searches.{Counted, noteCount}
 use Rattle.checker.proofs.ShapeLaws.{counted-start}
 use Rattle.checker.proofs.Lowest.{Lowest, lowest-start, lowest-down, lowest-end}

@@ -10,7 +10,7 @@ use lib.Dec.{eqb}
 use Rattle.rules.specs.Records.{recordCount, kindOf, markOf, childB}
 use Rattle.rules.specs.Kinds.{source}
 use Rattle.rules.specs.Checker.{scopeFault, levelFault, recordFault, levelBelow, levelOf}
-use Rattle.forms.specs.Codes.{languageOf}
+use Rattle.checker_forms.specs.Codes.{languageOf}
 use Rattle.checker.specs.Searches.{noteCount}
 use Rattle.checker.specs.Scopes.{bit, outOfScope, tooDeep, Kept}
 use Rattle.rules.proofs.ParentLaws.{Passed, IsParent}

@@ -11,7 +11,7 @@ use lib.Seq.{getD-set-same}
 use Rattle.rules.specs.Records.{fieldsOf, recordCount, kindOf, markOf, recordAt}
 use Rattle.rules.specs.Kinds.{source}
 use Rattle.rules.specs.Checker.{scopeFault, levelFault, recordFault, levelBelow, positionIn, levelOf}
-use Rattle.forms.specs.Codes.{languageOf}
+use Rattle.checker_forms.specs.Codes.{languageOf}
 use Rattle.checker.specs.Searches.{noteCount}
 use Rattle.checker.specs.Scopes.{bit, outOfScope, tooDeep, Kept}
 use Rattle.rules.proofs.ParentLaws.{Passed, IsParent}

@@ -17,9 +17,9 @@ use Rattle.rules.specs.Layout.{memoryOf}
 use Rattle.rules.specs.Evaluation.{Variables, Holding, operated}
 use Rattle.rules.specs.Watched.{temporaryOf}
 use Rattle.rules.specs.declared.Evaluated.{Evaluated}
-use Rattle.tables.specs.Within.{Within}
+use Rattle.table.specs.Within.{Within}
 use Rattle.evaluation.specs.State.{variablesOf}
-use Rattle.temporaries.specs.Bytes.{temporariesOf}
+use Rattle.evaluation_temporaries.specs.Bytes.{temporariesOf}
 use Rattle.evaluation.proofs.Arms.{within, read-below, address-below, valueAt, literal-arm, read-arm}
 use Rattle.evaluation.proofs.Arms.{address-arm, Binary, binary, operation-arm}
 use Rattle.evaluation.proofs.+evaluate+evaluate_operand+find_place.Proof.Cycle.{μ-evaluate}
@@ -31,13 +31,13 @@ use Rattle.evaluation.proofs.evaluate_operand.Reads as evaluate-operand
 use Rattle.evaluation.proofs.find_place.Reads as find-place
 use Rattle.evaluation_answers.proofs.address.Reads as address-reads
 use Rattle.evaluation.proofs.fetch.Reads as fetch-reads
-use Rattle.operators.proofs.operate.Reads as operate-reads
+use Rattle.value_operators.proofs.operate.Reads as operate-reads
 use Rattle.evaluation_answers.proofs.restate.Reads as restate-reads
-use Rattle.tables.proofs.child_a.Reads as child-a-reads
-use Rattle.tables.proofs.child_b.Reads as child-b-reads
-use Rattle.tables.proofs.kind.Reads as kind-reads
-use Rattle.tables.proofs.literal.Reads as literal-reads
-use Rattle.tables.proofs.mark.Reads as mark-reads
+use Rattle.table.proofs.child_a.Reads as child-a-reads
+use Rattle.table.proofs.child_b.Reads as child-b-reads
+use Rattle.table.proofs.kind.Reads as kind-reads
+use Rattle.table.proofs.literal.Reads as literal-reads
+use Rattle.table.proofs.mark.Reads as mark-reads
 
 module _ (t : ℕ) where
   abbrev entry : In 4 kinds.ps

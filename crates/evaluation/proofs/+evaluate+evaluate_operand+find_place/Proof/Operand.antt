@@ -11,7 +11,7 @@ use Rattle.rules.specs.Evaluation.{Holding}
 use Rattle.rules.specs.Watched.{temporaryOf}
 use Rattle.rules.specs.declared.Evaluated.{Evaluated}
 use Rattle.evaluation.specs.State.{variablesOf}
-use Rattle.temporaries.specs.Bytes.{temporariesOf}
+use Rattle.evaluation_temporaries.specs.Bytes.{temporariesOf}
 use Rattle.evaluation.proofs.Arms.{valueAt, settled-as}
 use Rattle.evaluation.proofs.+evaluate+evaluate_operand+find_place.Proof.Cycle.{μ-operand, evaluate-deeper}
 use Rattle.evaluation.proofs.evaluate_operand.Reads as reads

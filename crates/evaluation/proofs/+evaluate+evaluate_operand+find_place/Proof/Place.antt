@@ -12,9 +12,9 @@ use Rattle.rules.specs.Memory.{Memory}
 use Rattle.rules.specs.Layout.{memoryOf}
 use Rattle.rules.specs.Evaluation.{Variables, Holding}
 use Rattle.rules.specs.Watched.{temporaryOf}
-use Rattle.tables.specs.Within.{Within}
+use Rattle.table.specs.Within.{Within}
 use Rattle.evaluation.specs.State.{variablesOf}
-use Rattle.temporaries.specs.Bytes.{temporariesOf}
+use Rattle.evaluation_temporaries.specs.Bytes.{temporariesOf}
 use Rattle.evaluation.proofs.Arms.{within, pointer-below, variable-mark, is-temporary, temporary-mark}
 use Rattle.evaluation.proofs.Arms.{variable-arm, pointer-arm, temporary-arm}
 use Rattle.evaluation.proofs.+evaluate+evaluate_operand+find_place.Proof.Cycle.{μ-place, evaluate-deeper}
@@ -23,10 +23,10 @@ use Rattle.evaluation.proofs.find_place.Kinds as kinds
 use Rattle.evaluation.proofs.+evaluate+evaluate_operand+find_place.Lts-find_place as lts
 use Rattle.evaluation.proofs.evaluate.Reads as evaluate
 use Rattle.evaluation_answers.proofs.point.Reads as point-reads
-use Rattle.temporaries.proofs.read_temporary.Reads as read-temporary-reads
-use Rattle.tables.proofs.child_a.Reads as child-a-reads
-use Rattle.tables.proofs.kind.Reads as kind-reads
-use Rattle.tables.proofs.mark.Reads as mark-reads
+use Rattle.evaluation_temporaries.proofs.read_temporary.Reads as read-temporary-reads
+use Rattle.table.proofs.child_a.Reads as child-a-reads
+use Rattle.table.proofs.kind.Reads as kind-reads
+use Rattle.table.proofs.mark.Reads as mark-reads
 
 module _ (t : ℕ) where
   abbrev entry : In 4 kinds.ps

@@ -20,19 +20,19 @@ use Rattle.plain_runs.proofs.+branch+enclose+repeat+run+run_inside+run_
 use Rattle.plain_runs.proofs.run_single.Reads as run-single
 use Rattle.plain_runs.proofs.run_single.Kinds as run-single-kinds
 use Rattle.plain_runs.proofs.+branch+enclose+repeat+run+run_inside+run_single.Lts-run_single as run-single-lts
-use Rattle.freeing.proofs.end.Reads as end-reads
-use Rattle.blocks.proofs.make.Reads as make-reads
+use Rattle.memory_freeing.proofs.end.Reads as end-reads
+use Rattle.memory_blocks.proofs.make.Reads as make-reads
 use Rattle.plain_runs.proofs.allocate.Reads as allocate-reads
 use Rattle.plain_runs.proofs.assert.Reads as assert-reads
 use Rattle.plain_runs.proofs.assign.Reads as assign-reads
-use Rattle.variables.proofs.name_variable.Reads as name-variable-reads
+use Rattle.run_variables.proofs.name_variable.Reads as name-variable-reads
 use Rattle.plain_runs.proofs.release.Reads as release-reads
 use Rattle.plain_runs.proofs.test_a.Reads as test-a-reads
-use Rattle.tables.proofs.child_a.Reads as child-a-reads
-use Rattle.tables.proofs.child_b.Reads as child-b-reads
-use Rattle.tables.proofs.child_c.Reads as child-c-reads
-use Rattle.tables.proofs.kind.Reads as kind-reads
-use Rattle.tables.proofs.mark.Reads as mark-reads
+use Rattle.table.proofs.child_a.Reads as child-a-reads
+use Rattle.table.proofs.child_b.Reads as child-b-reads
+use Rattle.table.proofs.child_c.Reads as child-c-reads
+use Rattle.table.proofs.kind.Reads as kind-reads
+use Rattle.table.proofs.mark.Reads as mark-reads
 
 abbrev pub μ-branch : Measures 4 branch-kinds.ps ℕ
 μ-branch κs a = a .1 .0 * 4 + 1

@@ -7,7 +7,7 @@ use Rattle.rules.specs.Records.{childB}
 use Rattle.rules.specs.Layout.{memoryOf}
 use Rattle.rules.specs.declared.Test.the-variants as test
 use Rattle.evaluation.specs.State.{variablesOf}
-use Rattle.statements.proofs.ChangeLaws.{becomes-same}
+use Rattle.run_changes.proofs.ChangeLaws.{becomes-same}
 use Rattle.plain_runs.proofs.Laws.{ran-is}
 use Rattle.plain_runs.proofs.ReadyLaws.{ready-within, ready-number, while-parts, ready-turn}
 use Rattle.plain_runs.proofs.MemberLaws.{ran-from, ran-finished, ran-ended, turn-by, turn-out, Remaining}

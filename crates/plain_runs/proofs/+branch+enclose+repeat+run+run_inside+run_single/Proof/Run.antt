@@ -5,7 +5,7 @@ use mathlib.Core.Path.{refl, sym, _∙_}
 use Rattle.rules.specs.Records.{childA, childB}
 use Rattle.rules.specs.Layout.{memoryOf}
 use Rattle.evaluation.specs.State.{variablesOf}
-use Rattle.statements.proofs.ChangeLaws.{becomes-same}
+use Rattle.run_changes.proofs.ChangeLaws.{becomes-same}
 use Rattle.plain_runs.specs.Running.{Ready}
 use Rattle.plain_runs.proofs.Laws.{ran-is}
 use Rattle.plain_runs.proofs.ReadyLaws.{ready-within, sequence-parts, ready-first, ready-second}

@@ -6,12 +6,12 @@ use mathlib.Core.Path.{_≡_, _∙_, subst}
 use denote.Ref.{now}
 use lib.IntN.{pos}
 use Rattle.rules.specs.Emission.{node}
-use Rattle.emission.specs.Emission.{Room}
-use Rattle.sizes.specs.Trees.{copyAt, sortAt}
-use Rattle.simple_statements.specs.Statements.{StatementAt}
-use Rattle.emission.proofs.Emitting.{emitted-as, emitted-node, root-some, field-some}
-use Rattle.emission.proofs.Parts.{number-literal}
-use Rattle.simple_statements.proofs.Statements.{statement-law, number-small}
+use Rattle.translation_emission.specs.Emission.{Room}
+use Rattle.translation_sizes.specs.Trees.{copyAt, sortAt}
+use Rattle.translation_statements.specs.Statements.{StatementAt}
+use Rattle.translation_emission.proofs.Emitting.{emitted-as, emitted-node, root-some, field-some}
+use Rattle.translation_emission.proofs.Parts.{number-literal}
+use Rattle.translation_statements.proofs.Statements.{statement-law, number-small}
 use Rattle.translation.proofs.Compounds.{branch-read, statement-has, copy-has}
 use Rattle.translation.proofs.Rooms.{room-a, room-b, room-c, room-own}
 use Rattle.translation.proofs.+emit_branch+emit_inside+emit_let+emit_repeat+emit_statement+emit_then as cycle
@@ -19,11 +19,11 @@ use cycle.Lts-emit_branch as lts
 use cycle.Proof.Cycle.{branch-at, statement-below}
 use Rattle.translation.proofs.emit_branch.Reads as emit-branch
 use Rattle.translation.proofs.emit_statement.Reads as emit-statement
-use Rattle.tables.proofs.child_a.Reads as child-a-reads
-use Rattle.tables.proofs.child_b.Reads as child-b-reads
-use Rattle.tables.proofs.child_c.Reads as child-c-reads
-use Rattle.emission.proofs.copy.Reads as copy-reads
-use Rattle.emission.proofs.emit_record.Reads as emit-record-reads
+use Rattle.table.proofs.child_a.Reads as child-a-reads
+use Rattle.table.proofs.child_b.Reads as child-b-reads
+use Rattle.table.proofs.child_c.Reads as child-c-reads
+use Rattle.translation_emission.proofs.copy.Reads as copy-reads
+use Rattle.translation_emission.proofs.emit_record.Reads as emit-record-reads
 
 abbrev claims : ℕ → lts.Claims
 claims t = (

@@ -5,11 +5,11 @@ use mathlib.Core.Path.{_≡_, ap, _∙_, subst}
 use denote.Ref.{now}
 use Rattle.rules.specs.Records.{childA}
 use Rattle.rules.specs.Emission.{treeSize}
-use Rattle.emission.specs.Emission.{Room}
-use Rattle.sizes.specs.Trees.{copyAt}
+use Rattle.translation_emission.specs.Emission.{Room}
+use Rattle.translation_sizes.specs.Trees.{copyAt}
 use Rattle.translation.specs.Lets.{letTree}
-use Rattle.emission.proofs.Emitting.{emitted-as}
-use Rattle.simple_statements.proofs.Statements.{statement-law, number-small}
+use Rattle.translation_emission.proofs.Emitting.{emitted-as}
+use Rattle.translation_statements.proofs.Statements.{statement-law, number-small}
 use Rattle.translation.proofs.Compounds.{let-read}
 use Rattle.translation.proofs.LetLaws.{let-done}
 use Rattle.translation.proofs.+emit_branch+emit_inside+emit_let+emit_repeat+emit_statement+emit_then as cycle
@@ -17,7 +17,7 @@ use cycle.Lts-emit_let as lts
 use cycle.Proof.Cycle.{let-at, inside-below}
 use Rattle.translation.proofs.emit_let.Reads as emit-let
 use Rattle.translation.proofs.emit_inside.Reads as emit-inside
-use Rattle.tables.proofs.mark.Reads as mark-reads
+use Rattle.table.proofs.mark.Reads as mark-reads
 use Rattle.translation.proofs.emit_opening.Reads as emit-opening-reads
 use Rattle.translation.proofs.emit_enclosing.Reads as emit-enclosing-reads
 

@@ -4,8 +4,8 @@ use native.Mathlib.Omega.{arith}
 use mathlib.Core.Path.{_≡_, sym, _∙_}
 use denote.Ref.{now}
 use Rattle.rules.specs.Records.{kindOf}
-use Rattle.simple_statements.specs.Statements.{Simple}
-use Rattle.simple_statements.proofs.Statements.{statement-law}
+use Rattle.translation_statements.specs.Statements.{Simple}
+use Rattle.translation_statements.proofs.Statements.{statement-law}
 use Rattle.translation.proofs.+emit_branch+emit_inside+emit_let+emit_repeat+emit_statement+emit_then as cycle
 use cycle.Lts-emit_statement as lts
 use cycle.Proof.Cycle.{statement-at, then-below, branch-below, repeat-below, let-below}
@@ -14,8 +14,8 @@ use Rattle.translation.proofs.emit_then.Reads as emit-then
 use Rattle.translation.proofs.emit_branch.Reads as emit-branch
 use Rattle.translation.proofs.emit_repeat.Reads as emit-repeat
 use Rattle.translation.proofs.emit_let.Reads as emit-let
-use Rattle.tables.proofs.kind.Reads as kind-reads
-use Rattle.simple_statements.proofs.emit_simple.Reads as emit-simple-reads
+use Rattle.table.proofs.kind.Reads as kind-reads
+use Rattle.translation_statements.proofs.emit_simple.Reads as emit-simple-reads
 
 abbrev claims : ℕ → lts.Claims
 claims t = (

@@ -20,18 +20,18 @@ use Rattle.watched_runs.proofs.+branch+enclose+repeat+run+run_inside+ru
 use Rattle.watched_runs.proofs.run_single.Reads as run-single
 use Rattle.watched_runs.proofs.run_single.Kinds as run-single-kinds
 use Rattle.watched_runs.proofs.+branch+enclose+repeat+run+run_inside+run_single.Lts-run_single as run-single-lts
-use Rattle.freeing.proofs.end.Reads as end-reads
-use Rattle.blocks.proofs.make.Reads as make-reads
-use Rattle.variables.proofs.name_variable.Reads as name-variable-reads
-use Rattle.children.proofs.test_a.Reads as test-a-reads
-use Rattle.tables.proofs.child_a.Reads as child-a-reads
-use Rattle.tables.proofs.child_b.Reads as child-b-reads
-use Rattle.tables.proofs.child_c.Reads as child-c-reads
-use Rattle.tables.proofs.kind.Reads as kind-reads
-use Rattle.tables.proofs.mark.Reads as mark-reads
-use Rattle.choices.proofs.statement_of.Reads as statement-of-reads
+use Rattle.memory_freeing.proofs.end.Reads as end-reads
+use Rattle.memory_blocks.proofs.make.Reads as make-reads
+use Rattle.run_variables.proofs.name_variable.Reads as name-variable-reads
+use Rattle.run_children.proofs.test_a.Reads as test-a-reads
+use Rattle.table.proofs.child_a.Reads as child-a-reads
+use Rattle.table.proofs.child_b.Reads as child-b-reads
+use Rattle.table.proofs.child_c.Reads as child-c-reads
+use Rattle.table.proofs.kind.Reads as kind-reads
+use Rattle.table.proofs.mark.Reads as mark-reads
+use Rattle.watched_choices.proofs.statement_of.Reads as statement-of-reads
 use Rattle.watched_statements.proofs.step.Reads as step-reads
-use Rattle.choices.proofs.test.Reads as test-reads
+use Rattle.watched_choices.proofs.test.Reads as test-reads
 
 abbrev pub μ-branch : Measures 5 branch-kinds.ps ℕ
 μ-branch κs a = a .1 .0 * 4 + 1

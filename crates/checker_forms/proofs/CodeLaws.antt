@@ -1,0 +1,131 @@
+-- The tables of forms are those of the rules: one computation for each language.
+use Prim.Native.Nat.{ℕ, zero, suc, _+_, _/_, _<_, _≤_}
+use native.Mathlib.Omega.{arith}
+use mathlib.Core.Bool.{Bool, true, false, cond, _&&_}
+use mathlib.Core.List.{List, [], _∷_}
+use mathlib.Core.Option.{Option, none, some}
+use mathlib.Core.Path.{_≡_, refl, sym, ap, subst, _∙_}
+use borrow.Author.Tests.{eq-eqb, ne-eqb, eqb-true}
+use native.Mathlib.Nat.{zero-add}
+use lib.Dec.{eqb}
+use lib.ListN.{getD}
+use Rattle.rules.specs.Kinds.{Language, source, target, sortNumber, Form, forms, lookUp, formOf}
+use Rattle.rules.specs.Checker.{formSort}
+use Rattle.rules.proofs.ParentLaws.{two-pass}
+use Rattle.checker_forms.specs.Codes.{sortFrom, lows, highs, testFrom, fieldFrom, literalFrom, entry, decoded}
+use Rattle.checker_forms.specs.Codes.{Coded}
+
+abbrev pub sourceCodes : List ℕ
+sourceCodes =
+    0x000000 ∷ 0x100001 ∷ 0x102000 ∷ 0x102000 ∷ 0x161100 ∷ 0x101100 ∷ 0x000000 ∷ 0x000000 ∷ 0x000000 ∷ 0x000000 ∷
+    0x270000 ∷ 0x201000 ∷ 0x000000 ∷ 0x000000 ∷ 0x000000 ∷ 0x000000 ∷ 0x000000 ∷ 0x000000 ∷ 0x000000 ∷ 0x000000 ∷
+    0x301000 ∷ 0x303000 ∷ 0x303000 ∷ 0x303000 ∷ 0x383300 ∷ 0x000000 ∷ 0x000000 ∷ 0x000000 ∷ 0x000000 ∷ 0x000000 ∷
+    0x403000 ∷ 0x403000 ∷ 0x493300 ∷ 0x404000 ∷ 0x404400 ∷ 0x404400 ∷ 0x000000 ∷ 0x000000 ∷ 0x000000 ∷ 0x000000 ∷
+    0x500000 ∷ 0x502100 ∷ 0x502100 ∷ 0x501000 ∷ 0x505500 ∷ 0x501550 ∷ 0x501500 ∷ 0x575000 ∷ 0x504000 ∷ []
+
+abbrev pub targetCodes : List ℕ
+targetCodes =
+    0x000000 ∷ 0x100001 ∷ 0x102000 ∷ 0x102000 ∷ 0x161100 ∷ 0x101100 ∷ 0x000000 ∷ 0x000000 ∷ 0x000000 ∷ 0x000000 ∷
+    0x270000 ∷ 0x201000 ∷ 0x270000 ∷ 0x000000 ∷ 0x000000 ∷ 0x000000 ∷ 0x000000 ∷ 0x000000 ∷ 0x000000 ∷ 0x000000 ∷
+    0x000000 ∷ 0x000000 ∷ 0x000000 ∷ 0x000000 ∷ 0x000000 ∷ 0x000000 ∷ 0x000000 ∷ 0x000000 ∷ 0x000000 ∷ 0x000000 ∷
+    0x000000 ∷ 0x000000 ∷ 0x000000 ∷ 0x000000 ∷ 0x000000 ∷ 0x000000 ∷ 0x000000 ∷ 0x000000 ∷ 0x000000 ∷ 0x000000 ∷
+    0x500002 ∷ 0x502102 ∷ 0x502102 ∷ 0x501002 ∷ 0x505502 ∷ 0x501552 ∷ 0x501502 ∷ 0x575002 ∷ 0x000000 ∷ 0x000000 ∷
+    0x000000 ∷ 0x000000 ∷ 0x000000 ∷ 0x000000 ∷ 0x000000 ∷ 0x000000 ∷ 0x000000 ∷ 0x000000 ∷ 0x000000 ∷ 0x000000 ∷
+    0x572002 ∷ 0x571002 ∷ 0x000000 ∷ 0x5a00c2 ∷ 0x5b00d2 ∷ 0x5b0002 ∷ 0x570552 ∷ 0x570002 ∷ 0x5b0002 ∷ 0x570002 ∷
+    0x570002 ∷ []
+
+abbrev pub codes : Language → List ℕ
+codes source = sourceCodes
+codes target = targetCodes
+
+-- the forms of a table, its first entry being that of kind j
+abbrev listed : ℕ → List ℕ → List Form
+listed j [] = []
+listed j (x ∷ xs) = elim (eqb x 0) [ true ↦ listed (suc j) xs | false ↦ entry j x ∷ listed (suc j) xs ]
+
+every-form : (l : Language) → listed 0 (codes l) ≡ forms l
+unfolding sortFrom testFrom fieldFrom literalFrom
+every-form source = refl
+every-form target = refl
+
+-- a kind that stands before a table's first has no form there, and one of the table the one of its entry
+look-below : (xs : List ℕ) (j k : ℕ) → k < j → lookUp k (listed j xs) ≡ none
+unfolding lookUp
+look-below [] j k h = refl
+look-below (x ∷ xs) j k h = go (eqb x 0) (look-below xs (suc j) k (omega arith))
+  where
+    go : (b : Bool) → lookUp k (listed (suc j) xs) ≡ none
+        → lookUp k (elim b as (λ q. List Form) [
+          | true ↦ listed (suc j) xs
+          | false ↦ entry j x ∷ listed (suc j) xs
+        ]) ≡ none
+    go true r = r
+    go false r = rw (ne-eqb k j (omega arith), lookUp) r
+
+look-listed : (xs : List ℕ) (j i : ℕ) → lookUp (j + i) (listed j xs) ≡ decoded (j + i) (getD xs i 0)
+unfolding lookUp decoded
+look-listed [] j i = refl
+look-listed (x ∷ xs) j zero = go (eqb x 0)
+  where
+    go : (b : Bool) → lookUp (j + 0) (elim b as (λ q. List Form) [
+      | true ↦ listed (suc j) xs
+      | false ↦ entry j x ∷ listed (suc j) xs
+    ])
+        ≡ elim b as (λ q. Option Form) [ true ↦ none | false ↦ some (entry (j + 0) x) ]
+    go true = look-below xs (suc j) (j + 0) (omega arith)
+    go false = rw (eq-eqb (j + 0) j (omega arith), lookUp) (ap (λ (k : ℕ). some (entry k x)) (omega arith))
+look-listed (x ∷ xs) j (suc i) = go (eqb x 0) (look-listed xs (suc j) i)
+  where
+    same : suc j + i ≡ j + suc i
+    same = omega arith
+
+    go : (b : Bool) → lookUp (suc j + i) (listed (suc j) xs) ≡ decoded (suc j + i) (getD xs i 0)
+        → lookUp (j + suc i) (elim b as (λ q. List Form) [
+          | true ↦ listed (suc j) xs
+          | false ↦ entry j x ∷ listed (suc j) xs
+        ]) ≡ decoded (j + suc i) (getD xs i 0)
+    go true r = subst (λ (k : ℕ). lookUp k (listed (suc j) xs) ≡ decoded k (getD xs i 0)) same r
+    go false r =
+        rw (ne-eqb (j + suc i) j (omega arith), lookUp)
+        (subst (λ (k : ℕ). lookUp k (listed (suc j) xs) ≡ decoded k (getD xs i 0)) same r)
+
+-- what holds of 0 and of each entry holds wherever the table is read
+abbrev every : (ℕ → Bool) → List ℕ → Bool
+every p [] = true
+every p (x ∷ xs) = p x && every p xs
+
+each : (p : ℕ → Bool) (xs : List ℕ) → every p xs ≡ true → p 0 ≡ true → (i : ℕ) → p (getD xs i 0) ≡ true
+each p [] h z i = z
+each p (x ∷ xs) h z zero = two-pass (p x) (every p xs) h .0
+each p (x ∷ xs) h z (suc i) = each p xs (two-pass (p x) (every p xs) h .1) z i
+
+abbrev rightSort : ℕ → Bool
+rightSort x = eqb (cond (eqb x 0) 0 (sortNumber (sortFrom (x / 1048576)))) (x / 1048576)
+
+every-sort : (l : Language) → every rightSort (codes l) ≡ true
+unfolding sortFrom
+every-sort source = refl
+every-sort target = refl
+
+decoded-sort : (k x : ℕ) → formSort (decoded k x) ≡ cond (eqb x 0) 0 (sortNumber (sortFrom (x / 1048576)))
+unfolding decoded
+decoded-sort k x = go (eqb x 0)
+  where
+    go : (b : Bool) → formSort (elim b as (λ q. Option Form) [ true ↦ none | false ↦ some (entry k x) ])
+        ≡ cond b 0 (sortNumber (sortFrom (x / 1048576)))
+    go true = refl
+    go false = refl
+
+-- the table of a language has what each kind asks
+asks-of : (l : Language) (k : ℕ) → formOf l k ≡ decoded k (getD (codes l) k 0)
+unfolding formOf
+asks-of l k =
+    ap (λ fs. lookUp k fs) (sym (every-form l))
+    ∙ subst (λ (n : ℕ). lookUp n (listed 0 (codes l)) ≡ decoded n (getD (codes l) k 0)) (zero-add k)
+    (look-listed (codes l) 0 k)
+
+pub coded : (l : Language) (k x : ℕ) → x ≡ getD (codes l) k 0 → Coded l k x
+coded l k x e =
+    let asks : formOf l k ≡ decoded k x = asks-of l k ∙ ap (decoded k) (sym e) in
+    let right : rightSort x ≡ true = ap rightSort e ∙ each rightSort (codes l) (every-sort l) refl k in
+    record { asks = asks; sort = ap formSort asks ∙ decoded-sort k x ∙ eqb-true _ (x / 1048576) right }

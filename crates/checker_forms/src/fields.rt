@@ -1,0 +1,64 @@
+// What a digit of a form asks of a field: 0 none, 1 to 5 a child of that sort, 6 on a number in a range; and of a
+// literal: 0 zero, 1 any, 2 a statement.
+ghost use mathlib.Core.Path.{_≡_};
+ghost use Prim.Native.Nat.{_<_};
+ghost use Rattle.rules.specs.Kinds.{between};
+ghost use Rattle.rules.specs.Checker.{fieldFits, literalFits};
+ghost use Rattle.checker_forms.specs.Codes.{testFrom, fieldFrom, literalFrom};
+
+fn is_between(low: usize, high: usize, x: usize) -> bool
+    ensures { λ r. ⌜ r ≡ between low high x ⌝ }
+{
+    if low <= x {
+        return x <= high;
+    }
+    false
+}
+
+const LOWS: [usize; 16] = [0, 0, 0, 0, 0, 0, 1, 0, 0, 6, 0, 0, 1, 1, 0, 0];
+
+const HIGHS: [usize; 16] = [0, 0, 0, 0, 0, 0, 7, 63, 0, 7, 61, 62, 8, 5, 0, 0];
+
+fn number_fits(digit: usize, x: usize) -> bool
+    requires { ⌜ digit < 16 ⌝ }
+    ensures { λ r. ⌜ r ≡ testFrom digit x ⌝ }
+{
+    if digit == 8 {
+        if x == 8 {
+            return true;
+        }
+        return is_between(1, 5, x);
+    }
+    is_between(LOWS[digit], HIGHS[digit], x)
+}
+
+pub fn field_fits(digit: usize, x: usize) -> bool
+    requires { ⌜ digit < 16 ⌝ }
+    ensures { λ r. ⌜ r ≡ fieldFits (fieldFrom digit) x ⌝ }
+{
+    if digit == 0 {
+        return x == 0;
+    }
+    if digit < 6 {
+        return 0 < x;
+    }
+    number_fits(digit, x)
+}
+
+pub fn literal_fits(digit: usize, z: i64) -> bool
+    ensures { λ r. ⌜ r ≡ literalFits (literalFrom digit) z ⌝ }
+{
+    if digit == 0 {
+        if z <= 0 {
+            return 0 <= z;
+        }
+        return false;
+    }
+    if digit == 1 {
+        return true;
+    }
+    if 1 <= z {
+        return z <= 256;
+    }
+    false
+}

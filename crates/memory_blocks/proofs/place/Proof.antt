@@ -1,0 +1,41 @@
+-- `memory_blocks::place` meets its contract. Assumes nothing.
+use mathlib.Core.Path.{_≡_, refl, sym, ap, _∙_, subst}
+use Rattle.rules.specs.Layout.{memoryOf}
+use Rattle.rules.specs.declared.Block.{Block}
+use Rattle.rules.specs.declared.Block.the-variants as block
+use Rattle.rules.specs.Memory.{Memory}
+use Rattle.rules.specs.declared.Cell.the-variants as cell
+use Rattle.rules.specs.declared.Value.the-variants as value
+use Rattle.memory_cells.specs.Changes.{setBlock}
+use Rattle.memory_cell_fills.specs.Filling.{fillCells}
+use Rattle.memory_cell_changes.proofs.Writing.{becomes-then, becomes-as}
+use borrow.Author.Needs.{needs}
+use Rattle.memory_blocks.proofs.place.Statement.{statement}
+use Rattle.memory_blocks.proofs.place.Tie as tie
+use Rattle.memory_blocks.proofs.place.Reads as reads
+use Rattle.memory_blocks.proofs.place.Lts as lts
+use Rattle.memory_cell_fills.proofs.fill.Reads as fill-reads
+use Rattle.memory_blocks.proofs.live.Reads as live-reads
+use Rattle.memory_block_changes.proofs.put_block.Reads as put-block-reads
+
+fill-requires : tie.Need-fill-requires
+fill-requires c κs = search needs
+
+live-requires : tie.Need-live-requires
+live-requires c κs = search needs
+
+put-block-requires : tie.Need-put-block-requires
+put-block-requires c κs = search needs
+
+returns : tie.Need-returns
+returns c =
+    let s = c .before .before .before .before .before in
+    let a = s .args in
+    let m = fillCells (memoryOf (a .mem .now)) (a .first) (a .n) (cell.Holds (a .k) value.Undefined) in
+    becomes-as (ap (setBlock m (a .k)) (c .before .live .ensures))
+    (becomes-then (λ (x : Memory). setBlock x (a .k) (c .before .live .result))
+    (c .before .before .before .fill .ensures)
+    (c .put-block .ensures))
+
+pub place-spec : {M : Type 1} → statement M
+place-spec = tie.close (tie.spec fill-requires live-requires put-block-requires returns)

@@ -1,0 +1,33 @@
+-- Cleared bytes are the image of the empty memory.
+use Prim.Native.Nat.{ℕ, _*_}
+use mathlib.Core.Path.{_≡_, refl, sym, ap₂, _∙_}
+use mathlib.Core.List.{List, _++_}
+use lib.ListN.{replicate, length-replicate, replicate-append-replicate}
+use Rattle.rules.specs.Sizes.{nameCount, cellCount, memoryLength, blocksLength}
+use Rattle.rules.specs.Words.{digits}
+use Rattle.rules.specs.Layout.{memoryOf, memoryImage, blockBytes, cellBytes}
+use Rattle.rules.proofs.Rows.{flat-all}
+use Rattle.rules.proofs.Lists.{all-replicate}
+use Rattle.rules.proofs.Fits.{FitsMemory}
+use Rattle.rules.proofs.LayoutLaws.{memory-back}
+use Rattle.rules.specs.declared.Block.the-variants as block
+use Rattle.rules.specs.declared.Cell.the-variants as cell
+use Rattle.memory_cells.specs.Changes.{emptyMemory}
+
+pub empty-image : replicate memoryLength 0 ≡ memoryImage emptyMemory
+unfolding memoryImage blockBytes cellBytes digits
+empty-image =
+    sym (ap₂ (λ (x y : List ℕ). x ++ y) (flat-all blockBytes block.Unused 8 nameCount refl)
+    (flat-all cellBytes cell.Free 16 cellCount refl)
+    ∙ replicate-append-replicate blocksLength (cellCount * 16) 0)
+
+empty-fits : FitsMemory emptyMemory
+empty-fits = record {
+  block-count = length-replicate nameCount block.Unused;
+  cell-count = length-replicate cellCount cell.Free;
+  blocks-fit = all-replicate nameCount block.Unused tt;
+  cells-fit = all-replicate cellCount cell.Free tt;
+}
+
+pub empty-view : memoryOf (memoryImage emptyMemory) ≡ emptyMemory
+empty-view = memory-back emptyMemory empty-fits

@@ -1,0 +1,240 @@
+-- What bytes stand for after one record is put, and that exact bytes stay exact.
+use Prim.Native.Nat.{ℕ, zero, suc, _+_, _-_, _*_, _<_, _≤_}
+use native.Mathlib.Nat.{add-zero, le-trans, le-of-eq}
+use native.Mathlib.Omega.{arith}
+use mathlib.Core.Path.{_≡_, refl, sym, ap, ap₂, _∙_, subst}
+use mathlib.Core.Logic.{_≢_, _⊎_, inl, inr, ⊎-elim}
+use mathlib.Core.List.{List, [], _∷_, _++_}
+use lib.IntN.{ℤ}
+use lib.ListN.{length, getD, set}
+use lib.Seq.{set-out}
+use mir.Syntax.{w64}
+use mir.Val.{toZ}
+use Rattle.rules.specs.Sizes.{nameCount, cellCount, memoryLength}
+use Rattle.rules.specs.Words.{little, digits, part, put, wordAt, integerAt}
+use Rattle.rules.specs.Memory.{Memory, setCell, rename}
+use Rattle.rules.specs.Layout.{memoryOf, memoryImage, blockRecord, blockBytes, cellBytes, blockPlace, cellPlace}
+use Rattle.rules.specs.Layout.{blockAt, cellAt, blockFrom, cellFrom}
+use Rattle.rules.proofs.WordLaws.{digits-value, integer-value, part-put-in, getD-put-in, getD-put-apart}
+use Rattle.rules.proofs.WordLaws.{word-put-apart, fits-range}
+use Rattle.rules.proofs.Rows.{table-same, table-set}
+use Rattle.rules.proofs.Fits.{FitsBlock, FitsCell}
+use Rattle.rules.proofs.LayoutLaws.{length-blockBytes, length-cellBytes}
+use Rattle.rules.proofs.ImagePuts.{image-put-block, image-put-cell}
+use Rattle.rules.specs.declared.Block.{Block}
+use Rattle.rules.specs.declared.Block.the-variants as block
+use Rattle.rules.specs.declared.Cell.{Cell}
+use Rattle.rules.specs.declared.Cell.the-variants as cell
+use Rattle.rules.specs.declared.Value.the-variants as value
+use Rattle.memory_cells.specs.Changes.{Exact, Becomes, setBlock, CellFits, CellHeld, BlockHeld}
+use Rattle.memory_cells.proofs.Reading.{count-blocks, count-cells}
+use Rattle.memory_cells.proofs.Apart.{rows-apart}
+
+-- ---- records that a put leaves alone
+module _ (l bs : List ℕ) (at : ℕ) (room : at + length bs ≤ length l)
+    (a n : ℕ) (r : (a + n ≤ at) ⊎ (at + length bs ≤ a)) where
+  byte-apart : 0 < n → getD (put l at bs) a 0 ≡ getD l a 0
+  byte-apart h =
+      ap (λ (k : ℕ). getD (put l at bs) k 0) (sym (add-zero a)) ∙ getD-put-apart l bs at room a n 0 r h
+      ∙ ap (λ (k : ℕ). getD l k 0) (add-zero a)
+
+  cell-apart : (j : ℕ) → a ≡ cellPlace j → n ≡ 16 → cellAt (put l at bs) j ≡ cellAt l j
+  unfolding cellAt
+  cell-apart j e f =
+      let z = byte-apart (omega arith) in
+      let x = getD-put-apart l bs at room a n 1 r (omega arith) in
+      let y = getD-put-apart l bs at room a n 2 r (omega arith) in
+      let w = word-put-apart l bs at room a n 8 8 r (omega arith) in
+      rw (← e, z, x, y, w) refl
+
+  block-apart : (k : ℕ) → a ≡ blockPlace k → n ≡ 8 → blockAt (put l at bs) k ≡ blockAt l k
+  unfolding blockAt
+  block-apart k e f =
+      let z = byte-apart (omega arith) in
+      let x = word-put-apart l bs at room a n 2 2 r (omega arith) in
+      let y = word-put-apart l bs at room a n 4 2 r (omega arith) in
+      rw (← e, z, x, y) refl
+
+-- ---- the record that was put
+module _ (l bs : List ℕ) (at : ℕ) (room : at + length bs ≤ length l) where
+  byte-put-first : 0 < length bs → getD (put l at bs) at 0 ≡ getD bs 0 0
+  byte-put-first h = ap (λ (k : ℕ). getD (put l at bs) k 0) (sym (add-zero at)) ∙ getD-put-in l bs at room 0 h
+
+  word-put-in : (m k : ℕ) → k + m ≤ length bs → wordAt m (put l at bs) (at + k) ≡ wordAt m bs k
+  unfolding wordAt
+  word-put-in m k h = ap little (part-put-in l bs at room m k h)
+
+first-back : (s first n : ℕ) → first < 65536 → wordAt 2 (blockRecord s first n) 2 ≡ first
+unfolding wordAt digits
+first-back s first n h = digits-value 2 first h
+
+length-back : (s first n : ℕ) → n < 65536 → wordAt 2 (blockRecord s first n) 4 ≡ n
+unfolding wordAt digits
+length-back s first n h = digits-value 2 n h
+
+block-back : (b : Block) → FitsBlock b
+    → blockFrom (getD (blockBytes b) 0 0) (wordAt 2 (blockBytes b) 2) (wordAt 2 (blockBytes b) 4) ≡ b
+unfolding blockBytes
+block-back block.Unused h = refl
+block-back (block.Fixed first n) h =
+    ap₂ block.Fixed (first-back 1 first n (h .0)) (length-back 1 first n (h .1))
+block-back (block.Freeable first n) h =
+    ap₂ block.Freeable (first-back 2 first n (h .0)) (length-back 2 first n (h .1))
+block-back block.Dead h = refl
+
+cell-back : (c : Cell) → FitsCell c
+    → cellFrom (getD (cellBytes c) 0 0) (getD (cellBytes c) 1 0) (getD (cellBytes c) 2 0)
+    (integerAt (cellBytes c) 8) ≡ c
+unfolding cellBytes wordAt digits
+cell-back cell.Free h = refl
+cell-back (cell.Holds o value.Undefined) h = refl
+cell-back (cell.Holds o (value.Integer z)) h = ap (λ (x : ℤ). cell.Holds o (value.Integer x)) (integer-value z (h .1))
+cell-back (cell.Holds o (value.Pointer p)) h =
+    ap (λ (x : ℤ). cell.Holds o (value.Pointer (record { name = p .name; offset = x })))
+    (integer-value (p .offset) (h .1 .1))
+
+-- ---- what the bytes stand for then
+module _ (l : List ℕ) (e : length l ≡ memoryLength) (i : ℕ) (c : Cell) (h : i < cellCount) where
+  cell-room : cellPlace i + length (cellBytes c) ≤ length l
+  cell-room = omega (arith, length-cellBytes c)
+
+  cell-put-same : FitsCell c → cellAt (put l (cellPlace i) (cellBytes c)) i ≡ c
+  unfolding cellAt
+  cell-put-same f =
+      let n = length-cellBytes c in
+      let z = byte-put-first l (cellBytes c) (cellPlace i) cell-room (omega (arith, n)) in
+      let x = getD-put-in l (cellBytes c) (cellPlace i) cell-room 1 (omega (arith, n)) in
+      let y = getD-put-in l (cellBytes c) (cellPlace i) cell-room 2 (omega (arith, n)) in
+      let w = word-put-in l (cellBytes c) (cellPlace i) cell-room 8 8 (omega (arith, n)) in
+      rw (z, x, y, w) (cell-back c f)
+
+  cell-put-other : (j : ℕ) → j ≢ i → cellAt (put l (cellPlace i) (cellBytes c)) j ≡ cellAt l j
+  cell-put-other j d =
+      cell-apart l (cellBytes c) (cellPlace i) cell-room (cellPlace j) 16
+      (⊎-elim (λ b. inl (low b)) (λ b. inr (high b)) (rows-apart 16 i j d)) j refl refl
+    where
+      low : j * 16 + 16 ≤ i * 16 → cellPlace j + 16 ≤ cellPlace i
+      low b = omega arith
+
+      high : i * 16 + 16 ≤ j * 16 → cellPlace i + length (cellBytes c) ≤ cellPlace j
+      high b = omega (arith, length-cellBytes c)
+
+  block-put-cell : (k : ℕ) → k < nameCount → blockAt (put l (cellPlace i) (cellBytes c)) k ≡ blockAt l k
+  block-put-cell k d =
+      block-apart l (cellBytes c) (cellPlace i) cell-room (blockPlace k) 8 (inl (omega arith)) k refl refl
+
+  view-cell : FitsCell c → memoryOf (put l (cellPlace i) (cellBytes c)) ≡ setCell (memoryOf l) i c
+  unfolding memoryOf
+  view-cell f = λ t. record {
+    blocks = table-same nameCount (blockAt l) (blockAt (put l (cellPlace i) (cellBytes c)))
+        (λ k b. block-put-cell k b) t;
+    cells = table-set cellCount i (cellAt l) (cellAt (put l (cellPlace i) (cellBytes c))) c h (cell-put-same f)
+        (λ j b d. cell-put-other j d) t;
+  }
+
+module _ (l : List ℕ) (e : length l ≡ memoryLength) (k : ℕ) (b : Block) (h : k < nameCount) where
+  block-room : blockPlace k + length (blockBytes b) ≤ length l
+  block-room = omega (arith, length-blockBytes b)
+
+  block-put-same : FitsBlock b → blockAt (put l (blockPlace k) (blockBytes b)) k ≡ b
+  unfolding blockAt
+  block-put-same f =
+      let n = length-blockBytes b in
+      let z = byte-put-first l (blockBytes b) (blockPlace k) block-room (omega (arith, n)) in
+      let x = word-put-in l (blockBytes b) (blockPlace k) block-room 2 2 (omega (arith, n)) in
+      let y = word-put-in l (blockBytes b) (blockPlace k) block-room 2 4 (omega (arith, n)) in
+      rw (z, x, y) (block-back b f)
+
+  block-put-other : (j : ℕ) → j ≢ k → blockAt (put l (blockPlace k) (blockBytes b)) j ≡ blockAt l j
+  block-put-other j d =
+      block-apart l (blockBytes b) (blockPlace k) block-room (blockPlace j) 8
+      (⊎-elim (λ x. inl x) (λ x. inr (high x)) (rows-apart 8 k j d)) j refl refl
+    where
+      high : k * 8 + 8 ≤ j * 8 → blockPlace k + length (blockBytes b) ≤ blockPlace j
+      high x = omega (arith, length-blockBytes b)
+
+  cell-put-block : (j : ℕ) → cellAt (put l (blockPlace k) (blockBytes b)) j ≡ cellAt l j
+  cell-put-block j =
+      cell-apart l (blockBytes b) (blockPlace k) block-room (cellPlace j) 16
+      (inr (omega (arith, length-blockBytes b))) j refl refl
+
+  view-block : FitsBlock b → memoryOf (put l (blockPlace k) (blockBytes b)) ≡ setBlock (memoryOf l) (suc k) b
+  unfolding memoryOf
+  view-block f = λ t. record {
+    blocks = table-set nameCount k (blockAt l) (blockAt (put l (blockPlace k) (blockBytes b))) b h (block-put-same f)
+        (λ j x d. block-put-other j d) t;
+    cells = table-same cellCount (cellAt l) (cellAt (put l (blockPlace k) (blockBytes b))) (λ j x. cell-put-block j) t;
+  }
+
+-- ---- changes
+pub unchanged : (l : List ℕ) (m : Memory) → memoryOf l ≡ m → Becomes l l m
+unchanged l m e = record { view = e; exact = λ x. x }
+
+fits-cell : (c : Cell) → CellFits c → CellHeld c → FitsCell c
+fits-cell cell.Free n h = tt
+fits-cell (cell.Holds o value.Undefined) n h = n
+fits-cell (cell.Holds o (value.Integer z)) n h = (n .0, fits-range z h)
+fits-cell (cell.Holds o (value.Pointer p)) n h = (n .0, (n .1, fits-range (p .offset) h))
+
+fits-block : (b : Block) → BlockHeld b → FitsBlock b
+fits-block block.Unused h = tt
+fits-block (block.Fixed first n) h = h
+fits-block (block.Freeable first n) h = h
+fits-block block.Dead h = tt
+
+pub becomes-cell : (l : List ℕ) (i : ℕ) (c : Cell) → length l ≡ memoryLength → i < cellCount → CellFits c → CellHeld c
+    → Becomes l (put l (cellPlace i) (cellBytes c)) (setCell (memoryOf l) i c)
+becomes-cell l i c e h n s =
+    let v : memoryOf (put l (cellPlace i) (cellBytes c)) ≡ setCell (memoryOf l) i c =
+    view-cell l e i c h (fits-cell c n s) in
+    let inside : i < length (memoryOf l .cells) = omega (arith, count-cells l) in
+    record {
+      view = v;
+      exact = λ x. ap (λ (t : List ℕ). put t (cellPlace i) (cellBytes c)) x
+          ∙ image-put-cell (memoryOf l) i c (count-blocks l) inside ∙ ap memoryImage (sym v);
+    }
+
+pub cell-outside : (l : List ℕ) (i : ℕ) (c : Cell) → cellCount ≤ i → Becomes l l (setCell (memoryOf l) i c)
+cell-outside l i c h =
+    let e : set (memoryOf l .cells) i c ≡ memoryOf l .cells =
+    set-out (memoryOf l .cells) i c (le-trans (le-of-eq (count-cells l)) h) in
+    unchanged l (setCell (memoryOf l) i c) (λ t. record { blocks = memoryOf l .blocks; cells = sym e t })
+
+becomes-record : (l : List ℕ) (k : ℕ) (b : Block) → length l ≡ memoryLength → k < nameCount → BlockHeld b
+    → Becomes l (put l (blockPlace k) (blockBytes b)) (setBlock (memoryOf l) (suc k) b)
+becomes-record l k b e h s =
+    let v : memoryOf (put l (blockPlace k) (blockBytes b)) ≡ setBlock (memoryOf l) (suc k) b =
+    view-block l e k b h (fits-block b s) in
+    let inside : k < length (memoryOf l .blocks) = omega (arith, count-blocks l) in
+    record {
+      view = v;
+      exact = λ x. ap (λ (t : List ℕ). put t (blockPlace k) (blockBytes b)) x
+          ∙ image-put-block (memoryOf l) k b inside ∙ ap memoryImage (sym v);
+    }
+
+pub becomes-block : (l : List ℕ) (k : ℕ) (b : Block) → length l ≡ memoryLength → 0 < k → k ≤ nameCount → BlockHeld b
+    → Becomes l (put l (blockPlace (k - 1)) (blockBytes b)) (setBlock (memoryOf l) k b)
+becomes-block l zero b e p h s = absurd (omega arith)
+becomes-block l (suc k) b e p h s =
+    let d : suc k - 1 ≡ k = omega arith in
+    rw d (becomes-record l k b e (omega arith) s)
+
+pub block-outside : (l : List ℕ) (k : ℕ) (b : Block) → nameCount < k → Becomes l l (setBlock (memoryOf l) k b)
+block-outside l zero b h = absurd (omega arith)
+block-outside l (suc k) b h =
+    let p : nameCount ≤ k = omega arith in
+    let e : set (memoryOf l .blocks) k b ≡ memoryOf l .blocks =
+    set-out (memoryOf l .blocks) k b (le-trans (le-of-eq (count-blocks l)) p) in
+    unchanged l (setBlock (memoryOf l) (suc k) b) (λ t. record { blocks = sym e t; cells = memoryOf l .cells })
+
+pub block-none : (l : List ℕ) (k : ℕ) (b : Block) → k ≤ 0 → Becomes l l (setBlock (memoryOf l) k b)
+block-none l zero b h = unchanged l (setBlock (memoryOf l) 0 b) refl
+block-none l (suc k) b h = absurd (omega arith)
+
+-- one change after the other
+pub becomes-then : {l l′ l″ : List ℕ} {m : Memory} (f : Memory → Memory) → Becomes l l′ m
+    → Becomes l′ l″ (f (memoryOf l′)) → Becomes l l″ (f m)
+becomes-then f a b = record { view = b .view ∙ ap f (a .view); exact = λ x. b .exact (a .exact x) }
+
+pub becomes-as : {l l′ : List ℕ} {m m′ : Memory} → m ≡ m′ → Becomes l l′ m → Becomes l l′ m′
+becomes-as {l} {l′} e b = subst (Becomes l l′) e b

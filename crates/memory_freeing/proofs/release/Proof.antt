@@ -1,0 +1,27 @@
+-- `memory_freeing::release` meets its contract. Assumes nothing.
+use Rattle.rules.specs.Memory.{Memory}
+use Rattle.rules.specs.declared.Block.the-variants as block
+use Rattle.memory_cells.specs.Changes.{setBlock}
+use Rattle.memory_cell_changes.proofs.Writing.{becomes-then}
+use borrow.Author.Needs.{needs}
+use Rattle.memory_freeing.proofs.release.Statement.{statement}
+use Rattle.memory_freeing.proofs.release.Tie as tie
+use Rattle.memory_freeing.proofs.release.Reads as reads
+use Rattle.memory_freeing.proofs.release.Lts as lts
+use Rattle.memory_cell_fills.proofs.fill.Reads as fill-reads
+use Rattle.memory_block_changes.proofs.put_block.Reads as put-block-reads
+
+fill-requires : tie.Need-fill-requires
+fill-requires c κs = search needs
+
+put-block-requires : tie.Need-put-block-requires
+put-block-requires c κs = search needs
+
+returns : tie.Need-returns
+returns c =
+    let s = c .before .before .before .before in
+    becomes-then (λ (x : Memory). setBlock x (s .args .name) block.Dead) (c .before .before .fill .ensures)
+    (c .put-block .ensures)
+
+pub release-spec : {M : Type 1} → statement M
+release-spec = tie.close (tie.spec fill-requires put-block-requires returns)

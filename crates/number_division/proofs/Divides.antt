@@ -1,0 +1,102 @@
+-- Quotients by sign and magnitude, and the laws of the two roundings.
+use Prim.Native.Nat.{ℕ, zero, suc, _+_, _*_, _/_, _%_, _^_, _≤_, _<_}
+use native.Mathlib.Nat.{div-one, div-add-mod', mod-lt, div-lt-iff-lt-mul, div-eq-of-lt-le}
+use native.Mathlib.Omega.{arith}
+use mathlib.Core.Path.{_≡_, refl, sym, ap, _∙_}
+use mathlib.Core.Bool.{Bool, true, false}
+use lib.Dec.{eqb·suc-zero}
+use lib.IntN.{ℤ, pos, negsuc, negℤ, natAbs, _-ℤ_, +ℤ-idl}
+use lib.Signed.{quotZ, remZ}
+use mir.Syntax.{w64}
+use mir.Val.{SFits}
+use Rattle.rules.specs.declared.Number.the-variants.{ZeroDivisor}
+use Rattle.rules.specs.Numbers.{ranged, signed, signsDiffer, divided, toNearest}
+use Rattle.number.proofs.Signs.{signed-fits}
+
+pub quotient-signed : (a b : ℤ) → quotZ a b ≡ signed (signsDiffer a b) (natAbs a / natAbs b)
+quotient-signed (pos a) (pos b) = refl
+quotient-signed (pos a) (negsuc b) = refl
+quotient-signed (negsuc a) (pos b) = refl
+quotient-signed (negsuc a) (negsuc b) = refl
+
+magnitude-negated : (r : ℕ) → natAbs (negℤ (pos r)) ≡ r
+magnitude-negated zero = refl
+magnitude-negated (suc r) = refl
+
+pub remainder-magnitude : (a b : ℤ) → natAbs (remZ a b) ≡ natAbs a % natAbs b
+remainder-magnitude (pos a) b = refl
+remainder-magnitude (negsuc a) b = magnitude-negated (suc a % natAbs b)
+
+pub magnitude-limit : {z : ℤ} → SFits w64 z → natAbs z ≤ 2 ^ 63
+magnitude-limit {z = pos n} h = omega (arith, h .sfits)
+magnitude-limit {z = negsuc n} h = omega (arith, h .sfits)
+
+pub less-one : (m : ℕ) → signed true m -ℤ pos 1 ≡ signed true (m + 1)
+less-one zero = refl
+less-one (suc m) = ap negsuc (omega arith) ∙ sym (ap (λ (k : ℕ). negℤ (pos k)) (e m))
+  where
+    e : (m : ℕ) → suc m + 1 ≡ suc (suc m)
+    e m = omega arith
+
+-- by 0, and by -1
+pub by-zero : (f : ℕ → ℕ → ℕ) (a b : ℤ) → b ≡ pos 0 → ZeroDivisor ≡ divided f a b
+by-zero f a b e = rw e
+
+minus-is : (a : ℤ) → negℤ a ≡ signed (signsDiffer a (negsuc 0)) (natAbs a)
+minus-is (pos n) = refl
+minus-is (negsuc n) = refl
+
+pub by-minus-one : (f : ℕ → ℕ → ℕ) (a b : ℤ) → ((m : ℕ) → f m 1 ≡ m) → b ≡ negsuc 0
+    → ranged (pos 0 -ℤ a) ≡ divided f a b
+by-minus-one f a b one-is e =
+    let m : natAbs a ≡ f (natAbs a) 1 = sym (one-is (natAbs a)) in
+    rw e (ap ranged (+ℤ-idl (negℤ a) ∙ minus-is a ∙ ap (signed (signsDiffer a (negsuc 0))) m))
+
+-- a quotient by any other number fits
+small : (x d : ℕ) → x ≤ 2 ^ 63 → 2 ≤ d → x / d < 2 ^ 63
+small x d h k =
+    let p : 0 < d = omega arith in
+    let l : x < 2 ^ 63 * d = omega arith in
+    div-lt-iff-lt-mul p .1 l
+
+small-fits : (a b : ℤ) → SFits w64 a → 2 ≤ natAbs b → SFits w64 (quotZ a b)
+small-fits a b f h =
+    let l : natAbs a / natAbs b < 2 ^ 63 = small (natAbs a) (natAbs b) (magnitude-limit f) h in
+    rw (quotient-signed a b) (signed-fits (signsDiffer a b) _ l)
+
+pub quotient-fits : (a b : ℤ) → SFits w64 a → (b ≡ pos 0 → ⊥) → (b ≡ negsuc 0 → ⊥) → SFits w64 (quotZ a b)
+quotient-fits a (pos zero) fa z m = absurd (z refl)
+quotient-fits (pos a) (pos (suc zero)) fa z m = rw div-one fa
+quotient-fits (negsuc a) (pos (suc zero)) fa z m = rw div-one fa
+quotient-fits a (pos (suc (suc n))) fa z m = small-fits a (pos (suc (suc n))) fa (omega arith)
+quotient-fits a (negsuc zero) fa z m = absurd (m refl)
+quotient-fits a (negsuc (suc n)) fa z m = small-fits a (negsuc (suc n)) fa (omega arith)
+
+-- the nearest is the quotient, or one more where the remainder is half the divisor or more
+module _ (x d : ℕ) (p : zero < d) where
+  pub nearest-down : 2 * (x % d) < d → toNearest x d ≡ x / d
+  nearest-down h = div-eq-of-lt-le (2 * d) (omega (arith, div-add-mod' x d)) (omega (arith, div-add-mod' x d))
+
+  pub nearest-up : d ≤ 2 * (x % d) → toNearest x d ≡ x / d + 1
+  nearest-up h = div-eq-of-lt-le (2 * d) (omega (arith, div-add-mod' x d)) (omega (arith, div-add-mod' x d, mod-lt x p))
+
+  pub nearest-small : x ≤ 2 ^ 63 → d ≤ 2 * (x % d) → x / d + 1 < 2 ^ 63
+  nearest-small l h =
+      let g : x < 9223372036854775807 * d = omega (arith, mod-lt x p) in
+      let k : x / d < 9223372036854775807 = div-lt-iff-lt-mul p .1 g in
+      omega arith
+
+pub nearest-one : (m : ℕ) → toNearest m 1 ≡ m
+nearest-one m = omega arith
+
+-- and by a number that is not 0
+pub divided-is : (f : ℕ → ℕ → ℕ) (a b : ℤ) → (b ≡ pos 0 → ⊥)
+    → ranged (signed (signsDiffer a b) (f (natAbs a) (natAbs b))) ≡ divided f a b
+divided-is f a (pos zero) z = absurd (z refl)
+divided-is f a (pos (suc n)) z = rw (eqb·suc-zero n)
+divided-is f a (negsuc n) z = rw (eqb·suc-zero n)
+
+pub magnitude-positive : (b : ℤ) → (b ≡ pos 0 → ⊥) → 0 < natAbs b
+magnitude-positive (pos zero) z = absurd (z refl)
+magnitude-positive (pos (suc n)) z = omega arith
+magnitude-positive (negsuc n) z = omega arith

@@ -1,0 +1,74 @@
+-- `observation_storing::store_new` meets its contract. Assumes nothing.
+use borrow.Author.Needs.{needs}
+use Rattle.observation_storing.proofs.store_new.Statement.{statement}
+use Rattle.observation_storing.proofs.store_new.Tie as tie
+use Prim.Native.Nat.{_+_, _≤_}
+use native.Mathlib.Omega.{arith}
+use mathlib.Core.Path.{_≡_, sym, ap, _∙_}
+use denote.Ref.{now}
+use Rattle.rules.specs.Sizes.{cellCount}
+use Rattle.rules.specs.Layout.{observationOf}
+use Rattle.rules.specs.Observation.{markRun, storeAt}
+use Rattle.rules.proofs.RunLaws.{run-bound}
+use Rattle.rules.specs.declared.Recorded.the-variants as recorded
+use Rattle.rules.specs.declared.Search.the-variants as search
+use Rattle.observation_answers.proofs.ArmLaws.{answers-refused, answers-noted}
+
+run-is : (c : tie.After-first) → markRun (observationOf (now (c .before .before .before .before .args .obs)))
+    (c .before .before .before .before .args .n) ≡ search.At (c .first .given .0 .0)
+run-is c = sym (c .before .before .find-marks .ensures) ∙ c .first .given .1
+
+low : (c : tie.After-first) → c .first .given .0 .0 + c .before .before .before .before .args .n ≤ cellCount
+low c = run-bound _ (c .before .before .before .before .args .n) _ (run-is c)
+
+find-marks-requires : tie.Need-find-marks-requires
+find-marks-requires c κs = search needs
+
+enum-known-first : tie.Need-enum-known-first
+enum-known-first c = search needs
+
+cast-place-block : tie.Need-cast-place-block
+cast-place-block c = omega (arith, low (c .before .before))
+
+cast-place-block-2 : tie.Need-cast-place-block-2
+cast-place-block-2 c =
+    let s = c .before .before .before .before .before .before in
+    omega arith
+
+place-block-requires : tie.Need-place-block-requires
+place-block-requires c κs =
+    let s = c .before .before .before .before .before .before in
+    (s .pre .0, s .pre .1)
+
+enum-told : tie.Need-enum-told
+enum-told c = search needs
+
+returns : tie.Need-returns
+returns c =
+    let s = c .before .before .before .before .before .before .before in
+    let l = now (s .args .obs) in
+    let o = observationOf l in
+    answers-noted l (c .place-block .last .0)
+    (ap (storeAt o (s .args .name) (s .args .n) recorded.Unused) (run-is (c .before .before .before)))
+    (c .place-block .ensures)
+
+returns-2 : tie.Need-returns-2
+returns-2 c =
+    let s = c .before .before .before .before in
+    let l = now (s .args .obs) in
+    let o = observationOf l in
+    answers-refused l 48 (ap (storeAt o (s .args .name) (s .args .n) recorded.Unused)
+    (sym (c .before .before .find-marks .ensures) ∙ c .enum-told .given .1))
+
+pub store-new-spec : {M : Type 1} → statement M
+store-new-spec =
+    tie.close
+    (tie.spec
+    find-marks-requires
+    enum-known-first
+    cast-place-block
+    cast-place-block-2
+    place-block-requires
+    enum-told
+    returns
+    returns-2)

@@ -1,0 +1,24 @@
+-- What a statement finds in the bytes that its run has: the blocks of the variables, the temporaries, the memory.
+use Prim.Native.Nat.{ℕ}
+use mathlib.Core.List.{List}
+use Rattle.rules.specs.Kinds.{target}
+use Rattle.rules.specs.Nodes.{asExpression, asPlace, nodeAt}
+use Rattle.rules.specs.Evaluation.{evaluate, findPlace}
+use Rattle.rules.specs.Watched.{temporaryOf}
+use Rattle.rules.specs.Layout.{memoryOf}
+use Rattle.rules.specs.declared.Evaluated.{Evaluated}
+use Rattle.rules.specs.declared.Found.{Found}
+use Rattle.evaluation.specs.State.{variablesOf}
+use Rattle.evaluation_temporaries.specs.Bytes.{temporariesOf}
+
+-- where the place that is record k is
+abbrev pub foundIn : List ℕ → ℕ → List ℕ → List ℕ → List ℕ → Found
+foundIn t k variables temporaries mem =
+    findPlace (asPlace (nodeAt target t k)) (temporaryOf (temporariesOf temporaries)) (variablesOf variables)
+    (memoryOf mem)
+
+-- the value of the expression that is record k
+abbrev pub valueIn : List ℕ → ℕ → List ℕ → List ℕ → List ℕ → Evaluated
+valueIn t k variables temporaries mem =
+    evaluate (asExpression (nodeAt target t k)) (temporaryOf (temporariesOf temporaries)) (variablesOf variables)
+    (memoryOf mem)
