@@ -6,7 +6,7 @@ use mathlib.Core.Path.{_≡_, sym, ap, _∙_}
 use mathlib.Core.List.{List}
 use lib.ListN.{length, set}
 use Rattle.rules.specs.Memory.{fill}
-use Rattle.rules.proofs.FillLaws.{fill-none, fill-more, fill-past}
+use Rattle.rules.proofs.lists.FillLaws.{fill-none, fill-more, fill-past}
 
 module _ (l : List ℕ) (s x : ℕ) where
   pub fill-start : l ≡ fill l s (s - s) x

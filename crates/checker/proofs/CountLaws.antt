@@ -13,7 +13,7 @@ use Rattle.rules.specs.Sizes.{targetLimit}
 use Rattle.rules.specs.Records.{Record, kindOf, childA, childB, childC, recordAt}
 use Rattle.rules.specs.Kinds.{Language, Form, fieldOf, formOf}
 use Rattle.rules.specs.Checker.{timesIn, timesOf, timesChildOf, timesChild}
-use Rattle.rules.proofs.ParentLaws.{times-in-all, times-suc, times-zero}
+use Rattle.rules.proofs.acceptance.ParentLaws.{times-in-all, times-suc, times-zero}
 use Rattle.checker_forms.specs.Codes.{fieldFrom, entry, decoded, Coded}
 use Rattle.checker_forms.proofs.FaultLaws.{field-asked}
 use Rattle.checker.specs.Searches.{countIn, countThree, Counted, noteCount}

@@ -12,8 +12,8 @@ use Rattle.rules.specs.Sizes.{targetLimit}
 use Rattle.rules.specs.Records.{recordCount, kindOf, childA, childB, childC, recordAt}
 use Rattle.rules.specs.Kinds.{Language, Field, unnamed, child, number}
 use Rattle.rules.specs.Checker.{recordFault, shapeFault, timesIn, timesChildOf}
-use Rattle.rules.proofs.ParentLaws.{Passed, IsParent, parent-above, has-parent}
-use Rattle.rules.proofs.CheckLaws.{each-passes}
+use Rattle.rules.proofs.acceptance.ParentLaws.{Passed, IsParent, parent-above, has-parent}
+use Rattle.rules.proofs.acceptance.CheckLaws.{each-passes}
 use Rattle.checker_forms.specs.Codes.{fieldFrom, Coded}
 use Rattle.checker.specs.Searches.{putIn, putThree, noteCount}
 use Rattle.checker.specs.Scopes.{Given, Kept}

@@ -6,7 +6,7 @@ use mathlib.Core.Path.{_≡_, refl, sym, ap, subst, _∙_}
 use Rattle.rules.specs.Checker.{lowest}
 use Rattle.rules.specs.declared.Search.{Search}
 use Rattle.rules.specs.declared.Search.the-variants as search
-use Rattle.rules.proofs.SearchLaws.{Outcome, lowest-outcome}
+use Rattle.rules.proofs.lists.SearchLaws.{Outcome, lowest-outcome}
 use Rattle.checker.specs.Searches.{searchOf}
 
 -- of records n + 1 .. m

@@ -14,10 +14,10 @@ use Rattle.rules.specs.Checker.{isLetOf, inScope, markInScope, scopeFault, leve
 use Rattle.rules.specs.Checker.{levelFault}
 use Rattle.rules.specs.declared.Search.{Search}
 use Rattle.rules.specs.declared.Search.the-variants as search
-use Rattle.rules.proofs.KindViews.{formAt}
-use Rattle.rules.proofs.ParentLaws.{Passed, IsParent, two-pass}
-use Rattle.rules.proofs.FormLaws.{fields-split}
-use Rattle.rules.proofs.ScopeLaws.{scope-child, scope-last, level-child, level-last}
+use Rattle.rules.proofs.acceptance.KindViews.{formAt}
+use Rattle.rules.proofs.acceptance.ParentLaws.{Passed, IsParent, two-pass}
+use Rattle.rules.proofs.acceptance.FormLaws.{fields-split}
+use Rattle.rules.proofs.acceptance.ScopeLaws.{scope-child, scope-last, level-child, level-last}
 use Rattle.checker.specs.Scopes.{bit, outOfScope, tooDeep}
 use Rattle.checker.proofs.LevelLaws.{below-most, position-most}
 

@@ -10,7 +10,7 @@ use lib.ListN.{length, getD, replicate, length-replicate, getD-replicate}
 use Rattle.rules.specs.Records.{recordCount, kindOf}
 use Rattle.rules.specs.Kinds.{Language, statement, sortNumber}
 use Rattle.rules.specs.Checker.{sortOf, timesChild, shapeFault}
-use Rattle.rules.proofs.ParentLaws.{times-zero}
+use Rattle.rules.proofs.acceptance.ParentLaws.{times-zero}
 use Rattle.checker_forms.specs.Codes.{Coded}
 use Rattle.checker.specs.Searches.{Counted, noteCount}
 

@@ -11,7 +11,7 @@ use lib.Dec.{eqb}
 use lib.ListN.{getD}
 use Rattle.rules.specs.Kinds.{Language, source, target, sortNumber, Form, forms, lookUp, formOf}
 use Rattle.rules.specs.Checker.{formSort}
-use Rattle.rules.proofs.ParentLaws.{two-pass}
+use Rattle.rules.proofs.acceptance.ParentLaws.{two-pass}
 use Rattle.checker_forms.specs.Codes.{sortFrom, lows, highs, testFrom, fieldFrom, literalFrom, entry, decoded}
 use Rattle.checker_forms.specs.Codes.{Coded}
 

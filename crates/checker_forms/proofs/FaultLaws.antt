@@ -13,7 +13,7 @@ use Rattle.rules.specs.Records.{kindOf, markOf, childA, childB, childC, literal
 use Rattle.rules.specs.Kinds.{Language, Sort, sortNumber, Field, unnamed, child, number, Form, fieldOf, beside}
 use Rattle.rules.specs.Checker.{all, fieldFits, literalFits, fieldsFit, sortOf, childFits, childrenFit, faultOf}
 use Rattle.rules.specs.Checker.{recordFault}
-use Rattle.rules.proofs.ParentLaws.{five-pass}
+use Rattle.rules.proofs.acceptance.ParentLaws.{five-pass}
 use Rattle.checker_forms.specs.Codes.{sortFrom, testFrom, fieldFrom, literalFrom, fieldDigits, withFirst}
 use Rattle.checker_forms.specs.Codes.{fieldsFrom}
 use Rattle.checker_forms.specs.Codes.{fieldsThere, entry, decoded, Coded}

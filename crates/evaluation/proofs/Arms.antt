@@ -11,10 +11,11 @@ use Rattle.rules.specs.Trees.{Expression, Place}
 use Rattle.rules.specs.Nodes.{operatorOf, TargetNode, asExpression, asPlace, sortOfNode, nodeAt}
 use Rattle.rules.specs.Memory.{Memory, readCell, onPlace}
 use Rattle.rules.specs.Evaluation.{Variables, Holding, held, pointedBy, addressOf, operated, evaluate, findPlace}
-use Rattle.rules.proofs.KindViews.{TargetKind, literal, read, address, operation, shifted, variable, pointed, temporary}
-use Rattle.rules.proofs.FormLaws.{FieldHolds}
-use Rattle.rules.proofs.Standing.{stands, stands-at}
-use Rattle.rules.proofs.SoundSource.{up-to}
+use Rattle.rules.proofs.acceptance.KindViews.{TargetKind, literal, read, address, operation, shifted, variable, pointed}
+use Rattle.rules.proofs.acceptance.KindViews.{temporary}
+use Rattle.rules.proofs.acceptance.FormLaws.{FieldHolds}
+use Rattle.rules.proofs.acceptance.Standing.{stands, stands-at}
+use Rattle.rules.proofs.acceptance.SoundSource.{up-to}
 use Rattle.table.specs.Within.{Within}
 use Rattle.rules.specs.declared.Evaluated.{Evaluated}
 use Rattle.rules.specs.declared.Evaluated.the-variants as evaluated

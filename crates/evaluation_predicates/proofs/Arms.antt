@@ -14,11 +14,12 @@ use Rattle.rules.specs.Memory.{Memory, onValue}
 use Rattle.rules.specs.Evaluation.{Variables, operated, evaluate, queryMemory, evaluateTerm, evaluatePredicate}
 use Rattle.rules.specs.Evaluation.{opposite, andThen, orElse, onTest}
 use Rattle.rules.specs.Watched.{Temporaries, temporaryOf}
-use Rattle.rules.proofs.KindViews.{SourceKind, value, base, offset, blockLength, combined, valid, initialised}
-use Rattle.rules.proofs.KindViews.{compared, negated, both, either}
-use Rattle.rules.proofs.FormLaws.{FieldHolds}
-use Rattle.rules.proofs.Standing.{stands, stands-at}
-use Rattle.rules.proofs.SharedExpressions.{target-expression, evaluated-alike}
+use Rattle.rules.proofs.acceptance.KindViews.{SourceKind, value, base, offset, blockLength, combined, valid}
+use Rattle.rules.proofs.acceptance.KindViews.{initialised}
+use Rattle.rules.proofs.acceptance.KindViews.{compared, negated, both, either}
+use Rattle.rules.proofs.acceptance.FormLaws.{FieldHolds}
+use Rattle.rules.proofs.acceptance.Standing.{stands, stands-at}
+use Rattle.rules.proofs.runs.SharedExpressions.{target-expression, evaluated-alike}
 use Rattle.table.specs.Within.{Within}
 use Rattle.rules.specs.declared.Test.{Test}
 use Rattle.rules.specs.declared.Test.the-variants as test

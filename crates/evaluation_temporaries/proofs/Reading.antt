@@ -10,7 +10,7 @@ use Rattle.rules.specs.Words.{wordAt, integerAt}
 use Rattle.rules.specs.Layout.{cellFrom}
 use Rattle.rules.specs.Evaluation.{held}
 use Rattle.rules.specs.Watched.{Temporaries, temporaryOf, heldIn}
-use Rattle.rules.proofs.Rows.{getD-table}
+use Rattle.rules.proofs.lists.Rows.{getD-table}
 use Rattle.memory_cells.proofs.Reading.{other-cell}
 use Rattle.evaluation_temporaries.specs.Bytes.{temporaryIn, temporaryPlace, temporaryAt, temporariesOf}
 use Rattle.rules.specs.declared.Cell.{Cell}

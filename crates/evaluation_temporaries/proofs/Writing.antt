@@ -12,9 +12,10 @@ use mir.Val.{SFits, toZ, ofZ}
 use Rattle.rules.specs.Sizes.{temporaryCount}
 use Rattle.rules.specs.Words.{little, digits, part, put, wordAt, integerBytes}
 use Rattle.rules.specs.Layout.{cellFrom}
-use Rattle.rules.proofs.WordLaws.{length-digits, part-put-in, getD-put-in, getD-put-apart, word-put-apart, put-put}
-use Rattle.rules.proofs.WordLaws.{fits-range, integer-value}
-use Rattle.rules.proofs.Rows.{table-set}
+use Rattle.rules.proofs.lists.WordLaws.{length-digits, part-put-in, getD-put-in, getD-put-apart, word-put-apart}
+use Rattle.rules.proofs.lists.WordLaws.{put-put}
+use Rattle.rules.proofs.lists.WordLaws.{fits-range, integer-value}
+use Rattle.rules.proofs.lists.Rows.{table-set}
 use Rattle.evaluation_temporaries.specs.Bytes.{temporaryIn, temporaryPlace, temporariesLength, temporaryAt}
 use Rattle.evaluation_temporaries.specs.Bytes.{temporariesOf}
 use Rattle.memory_cells.proofs.Apart.{rows-apart}

@@ -11,8 +11,8 @@ use lib.ListN.{length, length-append}
 use Rattle.rules.specs.Records.{Record}
 use Rattle.rules.specs.Numbers.{inRange}
 use Rattle.rules.specs.Listing.{natural, integer, recordLine, recordLines}
-use Rattle.rules.proofs.WordLaws.{range-fits}
-use Rattle.rules.proofs.RecordBytes.{FitsRecord, AllFit}
+use Rattle.rules.proofs.lists.WordLaws.{range-fits}
+use Rattle.rules.proofs.translation.RecordBytes.{FitsRecord, AllFit}
 use Rattle.listing_text.specs.Text.{spaced, three, headText, childrenText, literalText, refusalLine, longestLine}
 use Rattle.listing_text.proofs.DigitLaws.{length-most, length-below}
 use Rattle.listing_text.proofs.WriteLaws.{record-text, refusal-text}

@@ -8,7 +8,7 @@ use lib.ListN.{length, length-append}
 use Rattle.rules.specs.Words.{put, table}
 use Rattle.rules.specs.Records.{recordCount, recordAt}
 use Rattle.rules.specs.Listing.{recordLine, recordLines}
-use Rattle.rules.proofs.WordLaws.{length-put, put-put}
+use Rattle.rules.proofs.lists.WordLaws.{length-put, put-put}
 use Rattle.translation_emission.proofs.Puts.{put-none}
 use Rattle.listing_text.specs.Text.{Room, Written, tableLines}
 

@@ -19,17 +19,17 @@ use Rattle.rules.specs.Translation.{translate, translatedRecords, translation}
 use Rattle.rules.specs.Listing.{recordLines}
 use Rattle.rules.specs.Answers.{translatedBy}
 use Rattle.rules.specs.declared.Answer.{Answer}
-use Rattle.rules.proofs.WordLaws.{length-put}
-use Rattle.rules.proofs.Sound.{startScope}
-use Rattle.rules.proofs.AcceptedPrograms.{accepted-program}
-use Rattle.rules.proofs.SoundTranslation.{sound-translation}
-use Rattle.rules.proofs.Acceptance.{accepted-says}
-use Rattle.rules.proofs.SizeBound.{size-bound}
-use Rattle.rules.proofs.EmissionLaws.{length-emit}
-use Rattle.rules.proofs.TargetFitting.{statement-fits}
-use Rattle.rules.proofs.EmittedBytes.{emit-fits}
-use Rattle.rules.proofs.RecordBytes.{AllFit, noRecord, table-record, table-count, table-length}
-use Rattle.rules.proofs.Rows.{table-list}
+use Rattle.rules.proofs.lists.WordLaws.{length-put}
+use Rattle.rules.proofs.acceptance.Sound.{startScope}
+use Rattle.rules.proofs.acceptance.AcceptedPrograms.{accepted-program}
+use Rattle.rules.proofs.translation.SoundTranslation.{sound-translation}
+use Rattle.rules.proofs.acceptance.Acceptance.{accepted-says}
+use Rattle.rules.proofs.translation.SizeBound.{size-bound}
+use Rattle.rules.proofs.translation.EmissionLaws.{length-emit}
+use Rattle.rules.proofs.translation.TargetFitting.{statement-fits}
+use Rattle.rules.proofs.translation.EmittedBytes.{emit-fits}
+use Rattle.rules.proofs.translation.RecordBytes.{AllFit, noRecord, table-record, table-count, table-length}
+use Rattle.rules.proofs.lists.Rows.{table-list}
 use Rattle.listing_text.specs.Text.{recordsOf, tableLines, translatedLines, longestText}
 use Rattle.listing_text.proofs.LongestText.{length-lines}
 

@@ -12,7 +12,7 @@ use lib.Signed.{ltZ}
 use Rattle.rules.specs.Words.{put}
 use Rattle.rules.specs.Records.{Record}
 use Rattle.rules.specs.Listing.{natural, integer, recordLine}
-use Rattle.rules.proofs.WordLaws.{length-put}
+use Rattle.rules.proofs.lists.WordLaws.{length-put}
 use Rattle.translation_emission.proofs.Puts.{put-one, put-then}
 use Rattle.listing_text.specs.Text.{lowDigits, Room, Written, spaced, three}
 use Rattle.listing_text.specs.Text.{headText, childrenText, literalText, refusalLine}

@@ -6,10 +6,10 @@ use lib.ListN.{replicate, length-replicate, replicate-append-replicate}
 use Rattle.rules.specs.Sizes.{nameCount, cellCount, memoryLength, blocksLength}
 use Rattle.rules.specs.Words.{digits}
 use Rattle.rules.specs.Layout.{memoryOf, memoryImage, blockBytes, cellBytes}
-use Rattle.rules.proofs.Rows.{flat-all}
-use Rattle.rules.proofs.Lists.{all-replicate}
-use Rattle.rules.proofs.Fits.{FitsMemory}
-use Rattle.rules.proofs.LayoutLaws.{memory-back}
+use Rattle.rules.proofs.lists.Rows.{flat-all}
+use Rattle.rules.proofs.lists.Lists.{all-replicate}
+use Rattle.rules.proofs.layout.Fits.{FitsMemory}
+use Rattle.rules.proofs.layout.LayoutLaws.{memory-back}
 use Rattle.rules.specs.declared.Block.the-variants as block
 use Rattle.rules.specs.declared.Cell.the-variants as cell
 use Rattle.memory_cells.specs.Changes.{emptyMemory}

@@ -9,7 +9,7 @@ use mir.Syntax.{w64}
 use mir.Val.{ofZ}
 use Rattle.rules.specs.Words.{digits, put, integerBytes}
 use Rattle.rules.specs.Layout.{blockRecord, cellRecord}
-use Rattle.rules.proofs.WordLaws.{put-put, length-digits}
+use Rattle.rules.proofs.lists.WordLaws.{put-put, length-digits}
 
 -- two lists of eight, element by element
 eight : {a b c d e f g h a′ b′ c′ d′ e′ f′ g′ h′ : ℕ} → a ≡ a′ → b ≡ b′ → c ≡ c′ → d ≡ d′ → e ≡ e′ → f ≡ f′ → g ≡ g′

@@ -15,12 +15,12 @@ use Rattle.rules.specs.Words.{little, digits, part, put, wordAt, integerAt}
 use Rattle.rules.specs.Memory.{Memory, setCell, rename}
 use Rattle.rules.specs.Layout.{memoryOf, memoryImage, blockRecord, blockBytes, cellBytes, blockPlace, cellPlace}
 use Rattle.rules.specs.Layout.{blockAt, cellAt, blockFrom, cellFrom}
-use Rattle.rules.proofs.WordLaws.{digits-value, integer-value, part-put-in, getD-put-in, getD-put-apart}
-use Rattle.rules.proofs.WordLaws.{word-put-apart, fits-range}
-use Rattle.rules.proofs.Rows.{table-same, table-set}
-use Rattle.rules.proofs.Fits.{FitsBlock, FitsCell}
-use Rattle.rules.proofs.LayoutLaws.{length-blockBytes, length-cellBytes}
-use Rattle.rules.proofs.ImagePuts.{image-put-block, image-put-cell}
+use Rattle.rules.proofs.lists.WordLaws.{digits-value, integer-value, part-put-in, getD-put-in, getD-put-apart}
+use Rattle.rules.proofs.lists.WordLaws.{word-put-apart, fits-range}
+use Rattle.rules.proofs.lists.Rows.{table-same, table-set}
+use Rattle.rules.proofs.layout.Fits.{FitsBlock, FitsCell}
+use Rattle.rules.proofs.layout.LayoutLaws.{length-blockBytes, length-cellBytes}
+use Rattle.rules.proofs.layout.ImagePuts.{image-put-block, image-put-cell}
 use Rattle.rules.specs.declared.Block.{Block}
 use Rattle.rules.specs.declared.Block.the-variants as block
 use Rattle.rules.specs.declared.Cell.{Cell}

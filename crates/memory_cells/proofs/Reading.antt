@@ -11,7 +11,7 @@ use lib.ListN.{length, getD, List·getD-eq-default}
 use Rattle.rules.specs.Sizes.{nameCount, cellCount}
 use Rattle.rules.specs.Memory.{Memory, blockOf, cellOf, isFree, isUnused}
 use Rattle.rules.specs.Layout.{memoryOf, blockAt, cellAt, blockFrom, cellFrom, blockPlace, cellPlace}
-use Rattle.rules.proofs.Rows.{length-table, getD-table}
+use Rattle.rules.proofs.lists.Rows.{length-table, getD-table}
 use Rattle.rules.specs.declared.Block.{Block}
 use Rattle.rules.specs.declared.Block.the-variants as block
 use Rattle.rules.specs.declared.Cell.{Cell}

@@ -15,13 +15,13 @@ use Rattle.rules.specs.Observation.{Observation, withMarks}
 use Rattle.rules.specs.Layout.{blockRecord, blockPlace, markPlace, recordedFrom, recordedAt, markAt, observationOf}
 use Rattle.rules.specs.Layout.{observationImage, recordedBytes, markBytes}
 use Rattle.rules.specs.declared.Recorded.{Recorded}
-use Rattle.rules.proofs.WordLaws.{getD-put-after}
-use Rattle.rules.proofs.Rows.{length-table, getD-table, table-same, table-list, table-set}
-use Rattle.rules.proofs.Lists.{length-fill}
-use Rattle.rules.proofs.LayoutLaws.{length-recordedBytes, records-length}
-use Rattle.rules.proofs.ImagePuts.{image-put-recorded}
-use Rattle.rules.proofs.FillLaws.{fill-one, fill-right, getD-fill, flat-marks-fill}
-use Rattle.rules.proofs.RecordLaws.{length-record, record-put-same, record-put-other}
+use Rattle.rules.proofs.lists.WordLaws.{getD-put-after}
+use Rattle.rules.proofs.lists.Rows.{length-table, getD-table, table-same, table-list, table-set}
+use Rattle.rules.proofs.lists.Lists.{length-fill}
+use Rattle.rules.proofs.layout.LayoutLaws.{length-recordedBytes, records-length}
+use Rattle.rules.proofs.layout.ImagePuts.{image-put-recorded}
+use Rattle.rules.proofs.lists.FillLaws.{fill-one, fill-right, getD-fill, flat-marks-fill}
+use Rattle.rules.proofs.lists.RecordLaws.{length-record, record-put-same, record-put-other}
 use Rattle.observation_blocks.specs.Changes.{ObservationBecomes, withRecord, withMark, markRange}
 use Rattle.observation_records.proofs.ObservationLaws.{record-count, mark-count}
 

@@ -13,10 +13,10 @@ use Rattle.rules.specs.Observation.{covered, covers, markRun}
 use Rattle.rules.specs.Layout.{recordedAt, observationOf}
 use Rattle.rules.specs.declared.Recorded.{Recorded}
 use Rattle.rules.specs.declared.Recorded.the-variants as recorded
-use Rattle.rules.proofs.Rows.{getD-zero}
-use Rattle.rules.proofs.Lists.{length-fill}
-use Rattle.rules.proofs.FillLaws.{getD-fill}
-use Rattle.rules.proofs.RunLaws.{run-same}
+use Rattle.rules.proofs.lists.Rows.{getD-zero}
+use Rattle.rules.proofs.lists.Lists.{length-fill}
+use Rattle.rules.proofs.lists.FillLaws.{getD-fill}
+use Rattle.rules.proofs.lists.RunLaws.{run-same}
 use Rattle.observation_free_marks.specs.Occupied.{occupy, occupyAll}
 use Rattle.observation_records.proofs.ObservationLaws.{record-count, record-in}
 

@@ -14,7 +14,7 @@ use Rattle.rules.specs.Layout.{blockPlace, recordedFrom, recordedAt, markAt, ob
 use Rattle.rules.specs.Layout.{recordedBytes, markBytes}
 use Rattle.rules.specs.declared.Recorded.{Recorded}
 use Rattle.rules.specs.declared.Recorded.the-variants as recorded
-use Rattle.rules.proofs.Rows.{length-table, getD-table, flat-all}
+use Rattle.rules.proofs.lists.Rows.{length-table, getD-table, flat-all}
 
 pub record-count : (l : List ℕ) → length (observationOf l .blocks) ≡ nameCount
 unfolding observationOf

@@ -21,14 +21,14 @@ use Rattle.rules.specs.Answers.{plainAs, plainBy, PlainRun}
 use Rattle.rules.specs.declared.Answer.{Answer}
 use Rattle.rules.specs.declared.Checked.{Checked}
 use Rattle.rules.specs.declared.Checked.the-variants as checked
-use Rattle.rules.proofs.Sound.{startScope}
-use Rattle.rules.proofs.AcceptedPrograms.{accepted-program, padded-program}
-use Rattle.rules.proofs.Fits.{FitsMemory}
-use Rattle.rules.proofs.LayoutLaws.{memory-back}
-use Rattle.rules.proofs.Reachable.{startVariables-fit}
-use Rattle.rules.proofs.ReachableRoundTrip.{start-inside, plain-round-trip}
-use Rattle.rules.proofs.Padding.{node-padded}
-use Rattle.rules.proofs.PlainArms.{statementAt}
+use Rattle.rules.proofs.acceptance.Sound.{startScope}
+use Rattle.rules.proofs.acceptance.AcceptedPrograms.{accepted-program, padded-program}
+use Rattle.rules.proofs.layout.Fits.{FitsMemory}
+use Rattle.rules.proofs.layout.LayoutLaws.{memory-back}
+use Rattle.rules.proofs.layout.Reachable.{startVariables-fit}
+use Rattle.rules.proofs.layout.ReachableRoundTrip.{start-inside, plain-round-trip}
+use Rattle.rules.proofs.acceptance.Padding.{node-padded}
+use Rattle.rules.proofs.runs.PlainArms.{statementAt}
 use Rattle.run_endings.specs.declared.Ended.{Ended}
 use Rattle.plain_runs.specs.Running.{Ready, Ran}
 use Rattle.plain_runs.proofs.Laws.{ran-is}

@@ -14,8 +14,8 @@ use Rattle.rules.specs.Layout.{memoryOf}
 use Rattle.rules.specs.declared.Test.{Test}
 use Rattle.rules.specs.declared.Test.the-variants as test
 use Rattle.rules.specs.Answers.{plainEndings}
-use Rattle.rules.proofs.Among.{Among, among-not}
-use Rattle.rules.proofs.Endings.{EndsAmong, run-endings}
+use Rattle.rules.proofs.lists.Among.{Among, among-not}
+use Rattle.rules.proofs.runs.Endings.{EndsAmong, run-endings}
 use Rattle.run_endings.specs.declared.Ended.{Ended}
 use Rattle.run_changes.proofs.ChangeLaws.{becomes-same, becomes-then}
 use Rattle.run_endings.specs.Ending.{result, concluded, assertNumber}

@@ -13,12 +13,12 @@ use Rattle.rules.specs.Flow.{Outcome, finished, ended, Ending, ending, into, ne
 use Rattle.rules.specs.Plain.{plainMeaning, run}
 use Rattle.rules.specs.Layout.{memoryOf}
 use Rattle.rules.specs.declared.Test.{Test}
-use Rattle.rules.proofs.Fits.{FitsMemory}
-use Rattle.rules.proofs.Fuel.{run-fuel}
-use Rattle.rules.proofs.Outcomes.{into-ending, next-ending, decide-ending}
-use Rattle.rules.proofs.StatementArms.{let-child, sound-let}
-use Rattle.rules.proofs.PlainArms.{expressionAt, statementAt, run-sequence, run-branch, run-while-zero}
-use Rattle.rules.proofs.PlainArms.{run-while-suc, run-let}
+use Rattle.rules.proofs.layout.Fits.{FitsMemory}
+use Rattle.rules.proofs.runs.Fuel.{run-fuel}
+use Rattle.rules.proofs.runs.Outcomes.{into-ending, next-ending, decide-ending}
+use Rattle.rules.proofs.runs.StatementArms.{let-child, sound-let}
+use Rattle.rules.proofs.runs.PlainArms.{expressionAt, statementAt, run-sequence, run-branch, run-while-zero}
+use Rattle.rules.proofs.runs.PlainArms.{run-while-suc, run-let}
 use Rattle.memory_cells.specs.Changes.{Becomes}
 use Rattle.memory_blocks.specs.Blocks.{makingOf, madeMemory}
 use Rattle.memory_blocks.specs.declared.Making.the-variants as making

@@ -13,19 +13,21 @@ use Rattle.rules.specs.Memory.{Memory, Use, made, makeBlock}
 use Rattle.rules.specs.Evaluation.{Variables, noTemporaries, evaluateSource, extend}
 use Rattle.rules.specs.Flow.{ending}
 use Rattle.rules.specs.Plain.{run}
-use Rattle.rules.proofs.KindViews.{formAt, SourceKind, skip, assign, new, free, sequence, branch, while, letIn, assert}
-use Rattle.rules.proofs.FormLaws.{nodeAs}
-use Rattle.rules.proofs.Standing.{stands, stands-at}
-use Rattle.rules.proofs.Sound.{adding, NoName, Numbered, SoundStatement}
-use Rattle.rules.proofs.Keeping.{AnyNumber, MadeKeeps}
-use Rattle.rules.proofs.Fits.{FitsMemory}
-use Rattle.rules.proofs.KeptPredicates.{MadeWith, fits-invariant, makeBlock-keeps}
-use Rattle.rules.proofs.FittingValues.{evaluate-fits}
-use Rattle.rules.proofs.Reachable.{extend-fits}
-use Rattle.rules.proofs.ReachableRoundTrip.{run-fits}
-use Rattle.rules.proofs.StatementArms.{statement-within, sequence-children, branch-children, while-children}
-use Rattle.rules.proofs.StatementArms.{let-child, sound-assign, sound-sequence, sound-branch, sound-while, sound-let}
-use Rattle.rules.proofs.PlainArms.{Under, expressionAt, statementAt}
+use Rattle.rules.proofs.acceptance.KindViews.{formAt, SourceKind, skip, assign, new, free, sequence, branch, while}
+use Rattle.rules.proofs.acceptance.KindViews.{letIn, assert}
+use Rattle.rules.proofs.acceptance.FormLaws.{nodeAs}
+use Rattle.rules.proofs.acceptance.Standing.{stands, stands-at}
+use Rattle.rules.proofs.acceptance.Sound.{adding, NoName, Numbered, SoundStatement}
+use Rattle.rules.proofs.runs.Keeping.{AnyNumber, MadeKeeps}
+use Rattle.rules.proofs.layout.Fits.{FitsMemory}
+use Rattle.rules.proofs.layout.KeptPredicates.{MadeWith, fits-invariant, makeBlock-keeps}
+use Rattle.rules.proofs.layout.FittingValues.{evaluate-fits}
+use Rattle.rules.proofs.layout.Reachable.{extend-fits}
+use Rattle.rules.proofs.layout.ReachableRoundTrip.{run-fits}
+use Rattle.rules.proofs.runs.StatementArms.{statement-within, sequence-children, branch-children, while-children}
+use Rattle.rules.proofs.runs.StatementArms.{let-child, sound-assign, sound-sequence, sound-branch, sound-while}
+use Rattle.rules.proofs.runs.StatementArms.{sound-let}
+use Rattle.rules.proofs.runs.PlainArms.{Under, expressionAt, statementAt}
 use Rattle.table.specs.Within.{Within}
 use Rattle.memory_cells.specs.Changes.{EvaluatedFits}
 use Rattle.plain_runs.specs.Running.{Ready}

@@ -8,10 +8,10 @@ use Rattle.rules.specs.Memory.{Memory, endBlock}
 use Rattle.rules.specs.Evaluation.{Variables, extend}
 use Rattle.rules.specs.Flow.{Outcome, finished, Ending, ending, next}
 use Rattle.rules.specs.Plain.{run}
-use Rattle.rules.proofs.Sound.{Scope, SoundStatement}
-use Rattle.rules.proofs.Fits.{FitsMemory}
-use Rattle.rules.proofs.Reachable.{NamesFit}
-use Rattle.rules.proofs.PlainArms.{HasSort, statementAt}
+use Rattle.rules.proofs.acceptance.Sound.{Scope, SoundStatement}
+use Rattle.rules.proofs.layout.Fits.{FitsMemory}
+use Rattle.rules.proofs.layout.Reachable.{NamesFit}
+use Rattle.rules.proofs.runs.PlainArms.{HasSort, statementAt}
 use Rattle.table.specs.Within.{Within}
 use Rattle.memory_cells.specs.Changes.{Becomes}
 use Rattle.run_endings.specs.declared.Ended.{Ended}

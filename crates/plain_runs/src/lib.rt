@@ -6,7 +6,7 @@ ghost use Rattle.rules.specs.Records.{kindOf, childA};
 ghost use Rattle.rules.specs.Evaluation.{evaluateSource, evaluatePredicate, condition};
 ghost use Rattle.rules.specs.Plain.{run};
 ghost use Rattle.rules.specs.Layout.{memoryOf};
-ghost use Rattle.rules.proofs.PlainArms.{HasSort, expressionAt, predicateAt, statementAt};
+ghost use Rattle.rules.proofs.runs.PlainArms.{HasSort, expressionAt, predicateAt, statementAt};
 ghost use Rattle.table.specs.Within.{Within};
 ghost use Rattle.evaluation.specs.State.{variablesOf};
 ghost use Rattle.plain_runs.specs.Running.{Ready, Inside, enclosed, Ran};

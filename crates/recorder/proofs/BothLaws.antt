@@ -21,8 +21,8 @@ use Rattle.rules.specs.Demand3.{Agreement}
 use Rattle.rules.specs.declared.Answer.{Answer}
 use Rattle.rules.specs.declared.Checked.{Checked}
 use Rattle.rules.specs.declared.Checked.the-variants as checked
-use Rattle.rules.proofs.AcceptedPrograms.{accepted-program}
-use Rattle.rules.proofs.Claim.{demand-3}
+use Rattle.rules.proofs.acceptance.AcceptedPrograms.{accepted-program}
+use Rattle.rules.proofs.claim.Claim.{demand-3}
 use Rattle.recorder.specs.declared.Both.{Both}
 use Rattle.recorder.specs.BothRuns.{Lent, lent, both, BothRuns, bothRefused, bothRan, bothAs, bothBy, runBoth}
 use Rattle.recorder.specs.BothRuns.{Ready, plainShown, watchedShown, AnsweredBoth}

@@ -16,10 +16,10 @@ use Rattle.rules.specs.declared.Value.{Value}
 use Rattle.rules.specs.declared.Value.the-variants as value
 use Rattle.rules.specs.declared.Evaluated.{Evaluated}
 use Rattle.rules.specs.declared.Evaluated.the-variants as evaluated
-use Rattle.rules.proofs.Keeping.{AnyNumber, AnyValue, AnyPlace, AnyMemory, MadeKeeps, makeAt-keeps}
-use Rattle.rules.proofs.Fits.{FitsName}
-use Rattle.rules.proofs.FitsLaws.{nextName-fits}
-use Rattle.rules.proofs.FittingValues as ranged
+use Rattle.rules.proofs.runs.Keeping.{AnyNumber, AnyValue, AnyPlace, AnyMemory, MadeKeeps, makeAt-keeps}
+use Rattle.rules.proofs.layout.Fits.{FitsName}
+use Rattle.rules.proofs.layout.FitsLaws.{nextName-fits}
+use Rattle.rules.proofs.layout.FittingValues as ranged
 use Rattle.memory_cells.specs.Changes.{Becomes, EvaluatedFits}
 use Rattle.memory_blocks.specs.Blocks.{makingOf, madeMemory}
 use Rattle.memory_blocks.specs.declared.Making.{Making}

@@ -9,7 +9,7 @@ use lib.ListN.{length, getD, set, replicate}
 use lib.Seq.{getD-set-same, getD-set-other}
 use Rattle.rules.specs.Evaluation.{extend}
 use Rattle.rules.specs.Plain.{startVariables}
-use Rattle.rules.proofs.Rows.{getD-zero}
+use Rattle.rules.proofs.lists.Rows.{getD-zero}
 use Rattle.evaluation.specs.State.{variablesOf}
 
 -- at the start

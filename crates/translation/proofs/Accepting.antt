@@ -21,15 +21,15 @@ use Rattle.rules.specs.Answers.{answer, Translated, translatedAs, translatedBy}
 use Rattle.rules.specs.Words.{put}
 use Rattle.rules.specs.Emission.{statementTree, treeSize, emit}
 use Rattle.rules.specs.Translation.{translate, translatedRecords, translation}
-use Rattle.rules.proofs.Sound.{Scope, startScope, adding, SoundTerm, SoundPredicate, SoundStatement}
-use Rattle.rules.proofs.AcceptedPrograms.{AcceptedProgram, accepted-program}
-use Rattle.rules.proofs.SizeBound.{size-bound}
+use Rattle.rules.proofs.acceptance.Sound.{Scope, startScope, adding, SoundTerm, SoundPredicate, SoundStatement}
+use Rattle.rules.proofs.acceptance.AcceptedPrograms.{AcceptedProgram, accepted-program}
+use Rattle.rules.proofs.translation.SizeBound.{size-bound}
 use Rattle.translation_sizes.specs.Trees.{copyAt, Sorted}
 use Rattle.translation_emission.specs.Emission.{Emitted}
 use Rattle.translation_assertions.specs.Tests.{TermLevels, PredicateLevels}
 use Rattle.translation_statements.specs.Statements.{StatementLevels, StatementAt}
 use Rattle.translation_emission.proofs.Emitting.{bytes-emit}
-use Rattle.rules.proofs.RecordSizes.{tree-as}
+use Rattle.rules.proofs.translation.RecordSizes.{tree-as}
 use Rattle.translation.proofs.Compounds.{statement-as}
 
 term-levels : (x : Term) (ρ : Scope) (v : ℕ) → SoundTerm x ρ v → TermLevels x v

@@ -10,14 +10,14 @@ use Rattle.rules.specs.Nodes.{SourceNode, expressionNode, placeNode, termNode, 
 use Rattle.rules.specs.Nodes.{nodeSort, sourceStatement, nodeAt}
 use Rattle.rules.specs.Emission.{expressionTree, statementTree, none, node}
 use Rattle.rules.specs.Translation.{translate}
-use Rattle.rules.proofs.Standing.{stands-at}
+use Rattle.rules.proofs.acceptance.Standing.{stands-at}
 use Rattle.translation_sizes.specs.Trees.{targetTree, copyAt, sortAt}
 use Rattle.translation_emission.specs.Emission.{sequenceTree}
 use Rattle.translation_statements.specs.Statements.{StatementLevels, StatementNode, StatementAt}
 use Rattle.translation.specs.Lets.{overTree, endingTree, letTree, insideTree}
 use Rattle.translation_emission.proofs.Emitting.{Some, some, statement-some}
 use Rattle.translation_emission.proofs.Copying.{copy-at}
-use Rattle.rules.proofs.RecordSizes.{none-at, tree-as}
+use Rattle.rules.proofs.translation.RecordSizes.{none-at, tree-as}
 use Rattle.translation_statements.proofs.Statements.{statement-sort}
 
 pub statement-as : (y : SourceNode) → nodeSort y ≡ 5 → StatementLevels (sourceStatement y) → StatementNode y

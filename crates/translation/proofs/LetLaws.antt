@@ -7,7 +7,7 @@ use lib.IntN.{pos}
 use Rattle.rules.specs.Records.{childA}
 use Rattle.rules.specs.Emission.{treeSize}
 use Rattle.translation_sizes.specs.Trees.{copyAt}
-use Rattle.rules.proofs.RecordSizes.{none-at}
+use Rattle.rules.proofs.translation.RecordSizes.{none-at}
 use Rattle.translation_emission.specs.Emission.{recordOf, withRecord, withTree, Room, Emitted, partTree}
 use Rattle.translation_emission.proofs.Emitting.{some}
 use Rattle.translation_emission.proofs.Parts.{emitted-sequence, emitted-over}

@@ -7,7 +7,7 @@ use lib.IntN.{ℤ}
 use lib.ListN.{length}
 use Rattle.rules.specs.Records.{tableBytes}
 use Rattle.rules.specs.Emission.{RecordTree, node, treeSize, emit}
-use Rattle.rules.proofs.WordLaws.{length-put}
+use Rattle.rules.proofs.lists.WordLaws.{length-put}
 use Rattle.translation_emission.specs.Emission.{withTree, Room, Emitted}
 use Rattle.translation_emission.proofs.Emitting.{bytes-emit}
 

@@ -15,18 +15,20 @@ use Rattle.rules.specs.Nodes.{SourceNode, expressionNode, placeNode, termNode, 
 use Rattle.rules.specs.Nodes.{nodeSort, asTerm, asPredicate, operatorOf, nodeAt}
 use Rattle.rules.specs.Emission.{operatorNumber, RecordTree, none, node, statementTree}
 use Rattle.rules.specs.Translation.{embed, translateTerm, translatePredicate}
-use Rattle.rules.proofs.KindViews.{and-split, formAt, SourceKind, literal, read, address, operation, shifted}
-use Rattle.rules.proofs.KindViews.{variable, pointed, value, base, offset, blockLength, combined, valid, initialised}
-use Rattle.rules.proofs.KindViews.{compared, negated, both, either, skip, assign, new, free, sequence, branch, while}
-use Rattle.rules.proofs.KindViews.{letIn, assert}
-use Rattle.rules.proofs.FormLaws.{FormHolds}
-use Rattle.rules.proofs.Standing.{Stands, stands, stands-at}
+use Rattle.rules.proofs.acceptance.KindViews.{and-split, formAt, SourceKind, literal, read, address, operation, shifted}
+use Rattle.rules.proofs.acceptance.KindViews.{variable, pointed, value, base, offset, blockLength, combined, valid}
+use Rattle.rules.proofs.acceptance.KindViews.{initialised}
+use Rattle.rules.proofs.acceptance.KindViews.{compared, negated, both, either, skip, assign, new, free, sequence}
+use Rattle.rules.proofs.acceptance.KindViews.{branch, while}
+use Rattle.rules.proofs.acceptance.KindViews.{letIn, assert}
+use Rattle.rules.proofs.acceptance.FormLaws.{FormHolds}
+use Rattle.rules.proofs.acceptance.Standing.{Stands, stands, stands-at}
 use Rattle.translation_sizes.specs.Trees.{targetTree, treeAt, copyAt, sortAt}
 use Rattle.translation_emission.specs.Emission.{Copied, sequenceTree, partTree}
 use Rattle.translation_assertions.specs.Tests.{TermLevels, PredicateLevels, Levels, LevelsAt, lastKind, lastField}
 use Rattle.translation_emission.proofs.Copying.{operator-back}
 use Rattle.translation_emission.proofs.Emitting.{Some, some, statement-some}
-use Rattle.rules.proofs.RecordSizes.{none-at, SizeLaw, size-law, tree-as}
+use Rattle.rules.proofs.translation.RecordSizes.{none-at, SizeLaw, size-law, tree-as}
 
 levels-as-term : (y : SourceNode) (v : ℕ) → nodeSort y ≡ 3 → TermLevels (asTerm y) v → Levels y v
 levels-as-term (expressionNode x) v e h = absurd (omega arith)

@@ -13,16 +13,18 @@ use Rattle.rules.specs.Kinds.{source, Sort, sortNumber, expression, place, betw
 use Rattle.rules.specs.Nodes.{SourceNode, operatorOf, nodeAt}
 use Rattle.rules.specs.Emission.{operatorNumber, RecordTree, none, node, expressionTree}
 use Rattle.rules.specs.Translation.{embed}
-use Rattle.rules.proofs.KindViews.{and-split, formAt, SourceKind, literal, read, address, operation, shifted}
-use Rattle.rules.proofs.KindViews.{variable, pointed, value, base, offset, blockLength, combined, valid, initialised}
-use Rattle.rules.proofs.KindViews.{compared, negated, both, either, skip, assign, new, free, sequence, branch, while}
-use Rattle.rules.proofs.KindViews.{letIn, assert}
-use Rattle.rules.proofs.FormLaws.{FormHolds}
-use Rattle.rules.proofs.Standing.{stands, stands-at}
+use Rattle.rules.proofs.acceptance.KindViews.{and-split, formAt, SourceKind, literal, read, address, operation, shifted}
+use Rattle.rules.proofs.acceptance.KindViews.{variable, pointed, value, base, offset, blockLength, combined, valid}
+use Rattle.rules.proofs.acceptance.KindViews.{initialised}
+use Rattle.rules.proofs.acceptance.KindViews.{compared, negated, both, either, skip, assign, new, free, sequence}
+use Rattle.rules.proofs.acceptance.KindViews.{branch, while}
+use Rattle.rules.proofs.acceptance.KindViews.{letIn, assert}
+use Rattle.rules.proofs.acceptance.FormLaws.{FormHolds}
+use Rattle.rules.proofs.acceptance.Standing.{stands, stands-at}
 use Rattle.table.specs.Within.{Within}
 use Rattle.translation_sizes.specs.Trees.{targetTree, copyAt, sortAt}
 use Rattle.translation_emission.specs.Emission.{Copied}
-use Rattle.rules.proofs.RecordSizes.{none-at, tree-as}
+use Rattle.rules.proofs.translation.RecordSizes.{none-at, tree-as}
 
 -- an operator's number is its mark
 pub operator-back : (m : ℕ) → 1 ≤ m → m ≤ 8 → operatorNumber (operatorOf m) ≡ m

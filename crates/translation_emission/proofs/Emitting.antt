@@ -12,8 +12,8 @@ use Rattle.rules.specs.TargetTrees.{TargetStatement, skip, assign, new, free, s
 use Rattle.rules.specs.TargetTrees.{takeAddress, takeValue, takeOperation, takeQuery, takeNot, branchOn, assertOn}
 use Rattle.rules.specs.TargetTrees.{storeBlock, deleteBlock, initialise}
 use Rattle.rules.specs.Emission.{RecordTree, none, node, statementTree, treeSize, rootNumber, fieldC, emit}
-use Rattle.rules.proofs.RecordBytes.{length-record, table-length}
-use Rattle.rules.proofs.EmissionLaws.{length-emit, ownRecord}
+use Rattle.rules.proofs.translation.RecordBytes.{length-record, table-length}
+use Rattle.rules.proofs.translation.EmissionLaws.{length-emit, ownRecord}
 use Rattle.translation_emission.specs.Emission.{recordOf, withRecord, withTree, Room, Emitted}
 use Rattle.translation_emission.proofs.Puts.{put-then, put-none}
 

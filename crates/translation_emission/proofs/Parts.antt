@@ -17,7 +17,7 @@ use Rattle.translation_emission.specs.Emission.{recordOf, withRecord, Ro
 use Rattle.translation_emission.specs.Emission.{sequenceTree}
 use Rattle.translation_sizes.specs.Trees.{copyAt}
 use Rattle.translation_emission.proofs.Emitting.{emitted-none, emitted-node, Some, some, root-some}
-use Rattle.rules.proofs.RecordSizes.{none-at}
+use Rattle.rules.proofs.translation.RecordSizes.{none-at}
 use Rattle.translation_emission.proofs.Copying.{CopyLaw, copied-at, copy-at}
 
 -- a statement's number as a literal

@@ -10,7 +10,7 @@ use lib.ListN.{length, take, drop, set, length-set, length-append, take-append-d
 use lib.Seq.{set-split, append-snoc}
 use Rattle.rules.specs.Words.{put, digits, integerBytes, flat}
 use Rattle.rules.specs.Records.{Record, recordBytes, tableBytes}
-use Rattle.rules.proofs.WordLaws.{length-digits, length-put, put-put}
+use Rattle.rules.proofs.lists.WordLaws.{length-digits, length-put, put-put}
 
 -- a put of some bytes, then of others where they end
 pub put-then : (l m o bs cs : List ℕ) (at next : ℕ) → next ≡ at + length bs

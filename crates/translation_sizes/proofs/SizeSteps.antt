@@ -8,8 +8,8 @@ use lib.Dec.{leb, eqb}
 use Rattle.rules.specs.Sizes.{targetLimit}
 use Rattle.rules.specs.Records.{kindOf, childA, childB, childC}
 use Rattle.rules.specs.Emission.{treeSize}
-use Rattle.rules.proofs.RecordTrees.{treeAt, Sorted, sizeFrom}
-use Rattle.rules.proofs.RecordSizes.{none-at, SizeLaw}
+use Rattle.rules.proofs.translation.RecordTrees.{treeAt, Sorted, sizeFrom}
+use Rattle.rules.proofs.translation.RecordSizes.{none-at, SizeLaw}
 
 copies-least : (twice : Bool) (x : ℕ) → x ≤ cond twice 2 1 * x
 copies-least true x = omega arith

@@ -12,17 +12,20 @@ use Rattle.rules.specs.Nodes.{SourceNode, expressionNode, placeNode, termNode, 
 use Rattle.rules.specs.Nodes.{nodeSort, nodeAt}
 use Rattle.rules.specs.Emission.{expressionTree, statementTree, none, node}
 use Rattle.rules.specs.Translation.{translate}
-use Rattle.rules.proofs.KindViews.{formAt, SourceKind, literal, read, address, operation, shifted, variable, pointed}
-use Rattle.rules.proofs.KindViews.{value, base, offset, blockLength, combined, valid, initialised, compared, negated}
-use Rattle.rules.proofs.KindViews.{both, either, skip, assign, new, free, sequence, branch, while, letIn, assert}
-use Rattle.rules.proofs.FormLaws.{FormHolds}
-use Rattle.rules.proofs.Standing.{stands, stands-at}
+use Rattle.rules.proofs.acceptance.KindViews.{formAt, SourceKind, literal, read, address, operation, shifted, variable}
+use Rattle.rules.proofs.acceptance.KindViews.{pointed}
+use Rattle.rules.proofs.acceptance.KindViews.{value, base, offset, blockLength, combined, valid, initialised, compared}
+use Rattle.rules.proofs.acceptance.KindViews.{negated}
+use Rattle.rules.proofs.acceptance.KindViews.{both, either, skip, assign, new, free, sequence, branch, while, letIn}
+use Rattle.rules.proofs.acceptance.KindViews.{assert}
+use Rattle.rules.proofs.acceptance.FormLaws.{FormHolds}
+use Rattle.rules.proofs.acceptance.Standing.{stands, stands-at}
 use Rattle.translation_sizes.specs.Trees.{targetTree, treeAt, copyAt, sortAt}
 use Rattle.translation_emission.specs.Emission.{Copied, sequenceTree, partTree}
 use Rattle.translation_statements.specs.Statements.{fetchTree, savedTree, newTree, StatementNode, StatementAt}
 use Rattle.translation_statements.specs.Statements.{Simple}
 use Rattle.translation_assertions.specs.Tests.{assertTree, LevelsAt}
-use Rattle.rules.proofs.RecordSizes.{none-at, SizeLaw, size-law, tree-as}
+use Rattle.rules.proofs.translation.RecordSizes.{none-at, SizeLaw, size-law, tree-as}
 use Rattle.translation_assertions.proofs.Tests.{levels-as-predicate}
 
 module _ (t : List ℕ) (n : ℕ) (e : sortAt t n ≡ 5) where

@@ -28,18 +28,18 @@ use Rattle.rules.specs.declared.Answer.{Answer}
 use Rattle.rules.specs.declared.Checked.{Checked}
 use Rattle.rules.specs.declared.Checked.the-variants as checked
 use Rattle.rules.specs.declared.Temporary.the-variants as temporary
-use Rattle.rules.proofs.Lists.{All}
-use Rattle.rules.proofs.Rows.{table-all, getD-zero}
-use Rattle.rules.proofs.Sound.{startScope}
-use Rattle.rules.proofs.AcceptedPrograms.{accepted-program, padded-program}
-use Rattle.rules.proofs.Fits.{FitsTemporary, FitsMemory, FitsObservation}
-use Rattle.rules.proofs.KeptPredicates.{startObservation-fits}
-use Rattle.rules.proofs.LayoutLaws.{memory-back, observation-back}
-use Rattle.rules.proofs.Reachable.{startVariables-fit, startTemporaries-fit}
-use Rattle.rules.proofs.ReachableRoundTrip.{start-inside, watched-round-trip}
-use Rattle.rules.proofs.Padding.{node-padded}
-use Rattle.rules.proofs.Inputs.{inputs-length}
-use Rattle.rules.proofs.TargetFields.{statementAt}
+use Rattle.rules.proofs.lists.Lists.{All}
+use Rattle.rules.proofs.lists.Rows.{table-all, getD-zero}
+use Rattle.rules.proofs.acceptance.Sound.{startScope}
+use Rattle.rules.proofs.acceptance.AcceptedPrograms.{accepted-program, padded-program}
+use Rattle.rules.proofs.layout.Fits.{FitsTemporary, FitsMemory, FitsObservation}
+use Rattle.rules.proofs.layout.KeptPredicates.{startObservation-fits}
+use Rattle.rules.proofs.layout.LayoutLaws.{memory-back, observation-back}
+use Rattle.rules.proofs.layout.Reachable.{startVariables-fit, startTemporaries-fit}
+use Rattle.rules.proofs.layout.ReachableRoundTrip.{start-inside, watched-round-trip}
+use Rattle.rules.proofs.acceptance.Padding.{node-padded}
+use Rattle.rules.proofs.claim.Inputs.{inputs-length}
+use Rattle.rules.proofs.runs.TargetFields.{statementAt}
 use Rattle.evaluation_temporaries.specs.Bytes.{temporaryIn, temporaryPlace, temporariesLength, temporaryAt}
 use Rattle.evaluation_temporaries.specs.Bytes.{temporariesOf}
 use Rattle.run_endings.specs.declared.Ended.{Ended}

@@ -3,7 +3,7 @@ ghost use mathlib.Core.Path.{_≡_};
 ghost use Rattle.rules.specs.Kinds.{statement};
 ghost use Rattle.rules.specs.Records.{kindOf};
 ghost use Rattle.rules.specs.Layout.{memoryOf};
-ghost use Rattle.rules.proofs.TargetFields.{HasSort, numberAt};
+ghost use Rattle.rules.proofs.runs.TargetFields.{HasSort, numberAt};
 ghost use Rattle.evaluation.specs.State.{variablesOf};
 ghost use Rattle.evaluation_temporaries.specs.Bytes.{temporariesOf};
 ghost use Rattle.watched_choices.specs.Branches.{IsBranch, choice};

@@ -5,8 +5,8 @@ use mathlib.Core.List.{List}
 use mathlib.Core.Path.{_≡_, sym, ap, _∙_, subst}
 use Rattle.rules.specs.Observation.{Observation, emptyObservation, recordBlock, markCell, markAll, startObservation}
 use Rattle.rules.specs.Layout.{observationOf, observationImage}
-use Rattle.rules.proofs.LayoutLaws.{observation-back}
-use Rattle.rules.proofs.KeptPredicates.{empty-inside}
+use Rattle.rules.proofs.layout.LayoutLaws.{observation-back}
+use Rattle.rules.proofs.layout.KeptPredicates.{empty-inside}
 use Rattle.observation.specs.Calls.{ObservationBecomes}
 use Rattle.observation.proofs.Becoming.{becomes-same, becomes-then}
 

@@ -7,7 +7,7 @@ ghost use Rattle.rules.specs.Records.{kindOf, markOf};
 ghost use Rattle.rules.specs.Observation.{storeBlock, deleteBlock, initialise, recordBlock, markAll, startObservation};
 ghost use Rattle.rules.specs.Watched.{heldIn, calledOn, calledOnTwo};
 ghost use Rattle.rules.specs.Layout.{observationOf, observationImage};
-ghost use Rattle.rules.proofs.TargetFields.{HasSort};
+ghost use Rattle.rules.proofs.runs.TargetFields.{HasSort};
 ghost use Rattle.evaluation_temporaries.specs.Bytes.{temporariesOf};
 ghost use Rattle.observation.specs.Calls.{ObservationBecomes};
 ghost use Rattle.watched_noting.specs.Calls.{Observes, notingNumber, IsNote, noteOf};

@@ -13,13 +13,14 @@ use Rattle.rules.specs.Evaluation.{Variables, condition, extend}
 use Rattle.rules.specs.Watched.{Temporaries, WatchedState, watching, withMemory, valueIn, watch}
 use Rattle.rules.specs.Layout.{memoryOf}
 use Rattle.rules.specs.declared.Test.{Test}
-use Rattle.rules.proofs.Fuel.{watch-fuel}
-use Rattle.rules.proofs.Outcomes.{into-ending, next-ending, decide-ending}
-use Rattle.rules.proofs.TargetRuns.{closing}
-use Rattle.rules.proofs.StatementArms.{sequence-children, while-children}
-use Rattle.rules.proofs.TargetFields.{Under, expressionAt, statementAt, numberAt}
-use Rattle.rules.proofs.TargetArms.{watch-sequence, watch-branch, watch-branch-on, watch-while-zero, watch-while-suc}
-use Rattle.rules.proofs.TargetArms.{watch-let}
+use Rattle.rules.proofs.runs.Fuel.{watch-fuel}
+use Rattle.rules.proofs.runs.Outcomes.{into-ending, next-ending, decide-ending}
+use Rattle.rules.proofs.runs.TargetRuns.{closing}
+use Rattle.rules.proofs.runs.StatementArms.{sequence-children, while-children}
+use Rattle.rules.proofs.runs.TargetFields.{Under, expressionAt, statementAt, numberAt}
+use Rattle.rules.proofs.runs.TargetArms.{watch-sequence, watch-branch, watch-branch-on, watch-while-zero}
+use Rattle.rules.proofs.runs.TargetArms.{watch-while-suc}
+use Rattle.rules.proofs.runs.TargetArms.{watch-let}
 use Rattle.memory_cells.specs.Changes.{Becomes}
 use Rattle.memory_blocks.specs.Blocks.{makingOf, madeMemory}
 use Rattle.memory_blocks.specs.declared.Making.the-variants as making

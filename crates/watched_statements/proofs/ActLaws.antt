@@ -22,11 +22,11 @@ use Rattle.rules.specs.declared.Evaluated.the-variants as evaluated
 use Rattle.rules.specs.declared.Test.{Test}
 use Rattle.rules.specs.declared.Test.the-variants as test
 use Rattle.rules.specs.Answers.{watchedEndings}
-use Rattle.rules.proofs.Among.{Among}
-use Rattle.rules.proofs.Endings.{EndsAmong, watch-endings}
-use Rattle.rules.proofs.TargetFields.{HasSort, statementAt, numberAt, statement-kinds}
-use Rattle.rules.proofs.TargetArms.{watch-operation, watch-query, watch-not, watch-store-block, watch-delete-block}
-use Rattle.rules.proofs.TargetArms.{watch-initialise}
+use Rattle.rules.proofs.lists.Among.{Among}
+use Rattle.rules.proofs.runs.Endings.{EndsAmong, watch-endings}
+use Rattle.rules.proofs.runs.TargetFields.{HasSort, statementAt, numberAt, statement-kinds}
+use Rattle.rules.proofs.runs.TargetArms.{watch-operation, watch-query, watch-not, watch-store-block, watch-delete-block}
+use Rattle.rules.proofs.runs.TargetArms.{watch-initialise}
 use Rattle.evaluation_temporaries.specs.Bytes.{temporariesOf}
 use Rattle.run_endings.specs.Ending.{result, concluded, assertNumber}
 use Rattle.run_changes.specs.Changing.{Does}

@@ -11,8 +11,8 @@ use Rattle.rules.specs.Flow.{Outcome, finished, ended, Ending, ending, next}
 use Rattle.rules.specs.Watched.{WatchedState, watching}
 use Rattle.rules.specs.Layout.{memoryOf, observationOf, observationImage}
 use Rattle.rules.specs.Answers.{watchedEndings}
-use Rattle.rules.proofs.Among.{Among, among-not}
-use Rattle.rules.proofs.Endings.{EndsAmong, watch-endings}
+use Rattle.rules.proofs.lists.Among.{Among, among-not}
+use Rattle.rules.proofs.runs.Endings.{EndsAmong, watch-endings}
 use Rattle.memory_cells.specs.Changes.{Becomes, Exact}
 use Rattle.observation.specs.Calls.{ObservationBecomes}
 use Rattle.evaluation_temporaries.specs.Bytes.{temporariesOf}

@@ -11,18 +11,19 @@ use Rattle.rules.specs.Flow.{Ending, ending}
 use Rattle.rules.specs.Watched.{Temporaries, temporaryOf, WatchedState}
 use Rattle.rules.specs.Layout.{memoryOf, observationOf}
 use Rattle.rules.specs.declared.Temporary.the-variants as temporary
-use Rattle.rules.proofs.Lists.{All, all-getD}
-use Rattle.rules.proofs.Sound.{adding, Named, SoundTarget}
-use Rattle.rules.proofs.Keeping.{AnyNumber, MadeKeeps}
-use Rattle.rules.proofs.Fits.{FitsTemporary, FitsMemory, FitsObservation}
-use Rattle.rules.proofs.KeptPredicates.{MadeWith, fits-invariant, fits-observation-invariant, makeBlock-keeps}
-use Rattle.rules.proofs.FittingValues.{held-fits, evaluate-fits}
-use Rattle.rules.proofs.FittingValues as ranged
-use Rattle.rules.proofs.Reachable.{Watchedly, extend-fits}
-use Rattle.rules.proofs.ReachableRoundTrip.{watch-fits}
-use Rattle.rules.proofs.StatementArms.{statement-within, sequence-children, branch-children, while-children}
-use Rattle.rules.proofs.StatementArms.{let-child, sound-assign, sound-sequence, sound-branch, sound-while, sound-let}
-use Rattle.rules.proofs.TargetFields.{Under, expressionAt, statementAt, branch-on-fields, sound-branch-on}
+use Rattle.rules.proofs.lists.Lists.{All, all-getD}
+use Rattle.rules.proofs.acceptance.Sound.{adding, Named, SoundTarget}
+use Rattle.rules.proofs.runs.Keeping.{AnyNumber, MadeKeeps}
+use Rattle.rules.proofs.layout.Fits.{FitsTemporary, FitsMemory, FitsObservation}
+use Rattle.rules.proofs.layout.KeptPredicates.{MadeWith, fits-invariant, fits-observation-invariant, makeBlock-keeps}
+use Rattle.rules.proofs.layout.FittingValues.{held-fits, evaluate-fits}
+use Rattle.rules.proofs.layout.FittingValues as ranged
+use Rattle.rules.proofs.layout.Reachable.{Watchedly, extend-fits}
+use Rattle.rules.proofs.layout.ReachableRoundTrip.{watch-fits}
+use Rattle.rules.proofs.runs.StatementArms.{statement-within, sequence-children, branch-children, while-children}
+use Rattle.rules.proofs.runs.StatementArms.{let-child, sound-assign, sound-sequence, sound-branch, sound-while}
+use Rattle.rules.proofs.runs.StatementArms.{sound-let}
+use Rattle.rules.proofs.runs.TargetFields.{Under, expressionAt, statementAt, branch-on-fields, sound-branch-on}
 use Rattle.table.specs.Within.{Within}
 use Rattle.memory_cells.specs.Changes.{Becomes, EvaluatedFits}
 use Rattle.memory_blocks.specs.Blocks.{makingOf, madeMemory}

@@ -13,11 +13,11 @@ use Rattle.rules.specs.Watched.{WatchedState, watching, withMemory, watch}
 use Rattle.rules.specs.Layout.{memoryOf, observationOf}
 use Rattle.rules.specs.Answers.{WatchedRun}
 use Rattle.rules.specs.declared.Answer.{Answer}
-use Rattle.rules.proofs.Lists.{All}
-use Rattle.rules.proofs.Sound.{Scope, SoundTarget}
-use Rattle.rules.proofs.Fits.{FitsTemporary, FitsMemory, FitsObservation}
-use Rattle.rules.proofs.Reachable.{NamesFit}
-use Rattle.rules.proofs.TargetFields.{HasSort, statementAt, numberAt}
+use Rattle.rules.proofs.lists.Lists.{All}
+use Rattle.rules.proofs.acceptance.Sound.{Scope, SoundTarget}
+use Rattle.rules.proofs.layout.Fits.{FitsTemporary, FitsMemory, FitsObservation}
+use Rattle.rules.proofs.layout.Reachable.{NamesFit}
+use Rattle.rules.proofs.runs.TargetFields.{HasSort, statementAt, numberAt}
 use Rattle.table.specs.Within.{Within}
 use Rattle.memory_cells.specs.Changes.{Becomes}
 use Rattle.observation.specs.Calls.{ObservationBecomes}

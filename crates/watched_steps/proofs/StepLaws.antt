@@ -15,8 +15,8 @@ use Rattle.rules.specs.Watched.{Temporaries, heldIn}
 use Rattle.rules.specs.declared.Evaluated.{Evaluated}
 use Rattle.rules.specs.declared.Evaluated.the-variants as evaluated
 use Rattle.evaluation_temporaries.specs.Bytes.{temporariesOf}
-use Rattle.rules.proofs.StatementArms.{statement-form}
-use Rattle.rules.proofs.TargetFields.{HasSort, operation-fields, query-fields}
+use Rattle.rules.proofs.runs.StatementArms.{statement-form}
+use Rattle.rules.proofs.runs.TargetFields.{HasSort, operation-fields, query-fields}
 use Rattle.watched_steps.specs.Steps.{Takes, IsTake, takenOf}
 
 -- ---- a temporary takes a value

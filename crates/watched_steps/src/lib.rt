@@ -12,7 +12,7 @@ ghost use Rattle.rules.specs.Observation.{queryObservation};
 ghost use Rattle.rules.specs.Watched.{heldIn};
 ghost use Rattle.rules.specs.Layout.{observationOf};
 ghost use Rattle.rules.specs.declared.Evaluated.the-variants as evaluated;
-ghost use Rattle.rules.proofs.TargetFields.{HasSort};
+ghost use Rattle.rules.proofs.runs.TargetFields.{HasSort};
 ghost use Rattle.evaluation_temporaries.specs.Bytes.{temporariesOf};
 ghost use Rattle.watched_steps.specs.Steps.{Takes, IsTake, takenOf};
 use rules::Evaluated;

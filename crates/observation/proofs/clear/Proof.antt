@@ -8,7 +8,7 @@ use mathlib.Core.Path.{_≡_, sym, ap, _∙_}
 use denote.Ref.{now}
 use lib.ListN.{length, replicate}
 use Rattle.rules.specs.Sizes.{observationLength}
-use Rattle.rules.proofs.FillLaws.{fill-all}
+use Rattle.rules.proofs.lists.FillLaws.{fill-all}
 use Rattle.observation_records.proofs.ObservationLaws.{empty-image}
 
 fill-bytes-requires : tie.Need-fill-bytes-requires

@@ -9,7 +9,7 @@ use denote.Ref.{now}
 use lib.ListN.{length}
 use Rattle.rules.specs.Sizes.{observationLength}
 use Rattle.rules.specs.Words.{put}
-use Rattle.rules.proofs.RecordLaws.{record-digits}
+use Rattle.rules.proofs.lists.RecordLaws.{record-digits}
 use Rattle.observation_blocks.proofs.BecomesLaws.{becomes-record, becomes-as}
 
 mul-write-word : tie.Need-mul-write-word

@@ -13,7 +13,7 @@ use lib.Dec.{eqb}
 use lib.ListN.{getD}
 use borrow.Author.Tests.{eq-eqb, ne-eqb}
 use Rattle.rules.specs.Sizes.{cellCount}
-use Rattle.rules.proofs.RunLaws.{Scanned, scan-start, scan-free, scan-held, scan-found, scan-none}
+use Rattle.rules.proofs.lists.RunLaws.{Scanned, scan-start, scan-free, scan-held, scan-found, scan-none}
 
 abbrev free : List ℕ → ℕ → Bool
 free l i = eqb (getD l i 0) 0

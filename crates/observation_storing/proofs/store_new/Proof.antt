@@ -9,7 +9,7 @@ use denote.Ref.{now}
 use Rattle.rules.specs.Sizes.{cellCount}
 use Rattle.rules.specs.Layout.{observationOf}
 use Rattle.rules.specs.Observation.{markRun, storeAt}
-use Rattle.rules.proofs.RunLaws.{run-bound}
+use Rattle.rules.proofs.lists.RunLaws.{run-bound}
 use Rattle.rules.specs.declared.Recorded.the-variants as recorded
 use Rattle.rules.specs.declared.Search.the-variants as search
 use Rattle.observation_answers.proofs.ArmLaws.{answers-refused, answers-noted}

@@ -5,10 +5,10 @@ use Rattle.evaluation.specs.State.{variablesOf}
 use Rattle.evaluation_temporaries.specs.Bytes.{temporariesOf}
 use Rattle.rules.specs.Memory.{freed}
 use Rattle.rules.specs.Records.{childA}
-use Rattle.rules.proofs.SharedExpressions.{target-expression, evaluated-alike}
+use Rattle.rules.proofs.runs.SharedExpressions.{target-expression, evaluated-alike}
 use Rattle.rules.specs.Kinds.{source}
-use Rattle.rules.proofs.StatementArms.{free-child}
-use Rattle.rules.proofs.PlainArms.{statementAt, run-free}
+use Rattle.rules.proofs.runs.StatementArms.{free-child}
+use Rattle.rules.proofs.runs.PlainArms.{statementAt, run-free}
 use Rattle.plain_runs.proofs.Laws.{ran-does}
 use Rattle.plain_runs.proofs.ReadyLaws.{ready-within, ready-number}
 use Rattle.plain_runs.proofs.release.Statement.{statement}

@@ -2,7 +2,7 @@ use mathlib.Core.Path.{ap, _∙_}
 use Rattle.rules.specs.Records.{childA}
 use Rattle.rules.specs.Evaluation.{condition}
 use Rattle.rules.specs.Layout.{memoryOf}
-use Rattle.rules.proofs.SharedExpressions.{target-expression, evaluated-alike}
+use Rattle.rules.proofs.runs.SharedExpressions.{target-expression, evaluated-alike}
 use Rattle.evaluation.specs.State.{variablesOf}
 use Rattle.evaluation_temporaries.specs.Bytes.{temporariesOf}
 use Rattle.plain_runs.proofs.test_a.Statement.{statement}

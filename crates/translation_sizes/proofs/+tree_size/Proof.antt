@@ -2,7 +2,7 @@
 use native.Mathlib.Omega.{arith}
 use mathlib.Core.Path.{_∙_}
 use denote.Ref.{now}
-use Rattle.rules.proofs.RecordSizes.{SizeLaw, sorted-at}
+use Rattle.rules.proofs.translation.RecordSizes.{SizeLaw, sorted-at}
 use Rattle.translation_sizes.proofs.SizeSteps.{size-none, size-a, size-b, size-c, size-sum}
 use Prim.Native.Nat.{ℕ, _<_}
 use borrow.Fn.Kinds.{In}

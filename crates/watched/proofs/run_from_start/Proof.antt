@@ -1,4 +1,4 @@
-use Rattle.rules.proofs.TargetFields.{statementAt}
+use Rattle.rules.proofs.runs.TargetFields.{statementAt}
 use Rattle.watched.proofs.EntryLaws.{leaves-start}
 use borrow.Author.Needs.{needs}
 use Rattle.watched.proofs.run_from_start.Statement.{statement}

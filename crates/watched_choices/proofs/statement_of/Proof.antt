@@ -6,8 +6,8 @@ use lib.Signed.{nonNeg}
 use mir.Syntax.{w32, w64}
 use mir.Val.{Fits, SFits}
 use Rattle.rules.specs.Kinds.{target}
-use Rattle.rules.proofs.StatementArms.{statement-within}
-use Rattle.rules.proofs.TargetFields.{literal-natural, number-fits}
+use Rattle.rules.proofs.runs.StatementArms.{statement-within}
+use Rattle.rules.proofs.runs.TargetFields.{literal-natural, number-fits}
 use Rattle.watched_choices.proofs.statement_of.Statement.{statement}
 use Rattle.watched_choices.proofs.statement_of.Tie as tie
 

@@ -5,8 +5,8 @@ use Rattle.rules.specs.Kinds.{target}
 use Rattle.rules.specs.Evaluation.{condition}
 use Rattle.rules.specs.Watched.{heldIn}
 use Rattle.rules.specs.Layout.{memoryOf}
-use Rattle.rules.proofs.StatementArms.{statement-within, branch-children}
-use Rattle.rules.proofs.TargetFields.{branch-on-fields}
+use Rattle.rules.proofs.runs.StatementArms.{statement-within, branch-children}
+use Rattle.rules.proofs.runs.TargetFields.{branch-on-fields}
 use Rattle.evaluation.specs.State.{variablesOf}
 use Rattle.evaluation_temporaries.specs.Bytes.{temporariesOf}
 use Rattle.watched_choices.proofs.Choices.{not-on, choice-on, choice-of}

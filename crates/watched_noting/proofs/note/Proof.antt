@@ -3,8 +3,8 @@ use native.Mathlib.Omega.{arith}
 use mathlib.Core.Path.{sym, _∙_}
 use Rattle.rules.specs.Kinds.{target}
 use Rattle.rules.specs.Layout.{observationOf}
-use Rattle.rules.proofs.StatementArms.{statement-within}
-use Rattle.rules.proofs.TargetFields.{store-block-fields, delete-block-fields, initialise-fields}
+use Rattle.rules.proofs.runs.StatementArms.{statement-within}
+use Rattle.rules.proofs.runs.TargetFields.{store-block-fields, delete-block-fields, initialise-fields}
 use Rattle.evaluation_temporaries.specs.Bytes.{temporariesOf}
 use Rattle.watched_noting.proofs.CallLaws.{observes-is, note-last, note-record, note-delete, note-mark}
 use borrow.Author.Needs.{needs}

@@ -5,9 +5,9 @@ use Rattle.rules.specs.Records.{markOf}
 use Rattle.rules.specs.Evaluation.{condition}
 use Rattle.rules.specs.Watched.{heldIn}
 use Rattle.rules.specs.Flow.{ending}
-use Rattle.rules.proofs.TargetFields.{statementAt, numberAt}
-use Rattle.rules.proofs.TargetArms.{watch-skip, watch-assign, watch-new, watch-free, watch-address, watch-value}
-use Rattle.rules.proofs.TargetArms.{watch-assert-on}
+use Rattle.rules.proofs.runs.TargetFields.{statementAt, numberAt}
+use Rattle.rules.proofs.runs.TargetArms.{watch-skip, watch-assign, watch-new, watch-free, watch-address, watch-value}
+use Rattle.rules.proofs.runs.TargetArms.{watch-assert-on}
 use Rattle.evaluation.specs.State.{variablesOf}
 use Rattle.evaluation_temporaries.specs.Bytes.{temporariesOf}
 use Rattle.watched_statements.specs.Watching.{lent, stateOf}

@@ -2,7 +2,7 @@ use mathlib.Core.Path.{sym, ap₂}
 use Rattle.rules.specs.Kinds.{target}
 use Rattle.rules.specs.Memory.{allocated}
 use Rattle.rules.specs.Layout.{memoryOf}
-use Rattle.rules.proofs.StatementArms.{statement-within, new-children}
+use Rattle.rules.proofs.runs.StatementArms.{statement-within, new-children}
 use Rattle.run_changes.proofs.ChangeLaws.{does-is}
 use Rattle.watched_statements.proofs.allocate.Statement.{statement}
 use Rattle.watched_statements.proofs.allocate.Tie as tie

@@ -4,8 +4,8 @@ use mathlib.Core.Path.{ap, _∙_}
 use Rattle.rules.specs.Kinds.{target}
 use Rattle.rules.specs.Evaluation.{condition}
 use Rattle.rules.specs.Watched.{heldIn}
-use Rattle.rules.proofs.StatementArms.{statement-within}
-use Rattle.rules.proofs.TargetFields.{assert-on-fields}
+use Rattle.rules.proofs.runs.StatementArms.{statement-within}
+use Rattle.rules.proofs.runs.TargetFields.{assert-on-fields}
 use Rattle.evaluation_temporaries.specs.Bytes.{temporariesOf}
 use Rattle.run_endings.specs.Ending.{assertNumber}
 use borrow.Author.Needs.{needs}

@@ -2,7 +2,7 @@ use mathlib.Core.Path.{sym, ap₂}
 use Rattle.rules.specs.Kinds.{target}
 use Rattle.rules.specs.Memory.{assigned}
 use Rattle.rules.specs.Layout.{memoryOf}
-use Rattle.rules.proofs.StatementArms.{statement-within, assign-children}
+use Rattle.rules.proofs.runs.StatementArms.{statement-within, assign-children}
 use Rattle.run_changes.proofs.ChangeLaws.{does-is}
 use Rattle.watched_statements.proofs.assign.Statement.{statement}
 use Rattle.watched_statements.proofs.assign.Tie as tie

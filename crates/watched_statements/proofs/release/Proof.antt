@@ -2,7 +2,7 @@ use mathlib.Core.Path.{sym, ap}
 use Rattle.rules.specs.Kinds.{target}
 use Rattle.rules.specs.Memory.{freed}
 use Rattle.rules.specs.Layout.{memoryOf}
-use Rattle.rules.proofs.StatementArms.{statement-within, free-child}
+use Rattle.rules.proofs.runs.StatementArms.{statement-within, free-child}
 use Rattle.run_changes.proofs.ChangeLaws.{does-is}
 use Rattle.watched_statements.proofs.release.Statement.{statement}
 use Rattle.watched_statements.proofs.release.Tie as tie

@@ -1,8 +1,8 @@
 use mathlib.Core.Path.{ap, _∙_}
 use Rattle.rules.specs.Kinds.{target}
 use Rattle.rules.specs.Evaluation.{addressOf}
-use Rattle.rules.proofs.StatementArms.{statement-within}
-use Rattle.rules.proofs.TargetFields.{address-fields}
+use Rattle.rules.proofs.runs.StatementArms.{statement-within}
+use Rattle.rules.proofs.runs.TargetFields.{address-fields}
 use borrow.Author.Needs.{needs}
 use Rattle.watched_statements.proofs.take_address.Statement.{statement}
 use Rattle.watched_statements.proofs.take_address.Tie as tie

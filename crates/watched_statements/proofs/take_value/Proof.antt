@@ -1,6 +1,6 @@
 use Rattle.rules.specs.Kinds.{target}
-use Rattle.rules.proofs.StatementArms.{statement-within}
-use Rattle.rules.proofs.TargetFields.{value-fields}
+use Rattle.rules.proofs.runs.StatementArms.{statement-within}
+use Rattle.rules.proofs.runs.TargetFields.{value-fields}
 use borrow.Author.Needs.{needs}
 use Rattle.watched_statements.proofs.take_value.Statement.{statement}
 use Rattle.watched_statements.proofs.take_value.Tie as tie

@@ -4,8 +4,8 @@ use mathlib.Core.Path.{sym, _∙_}
 use Rattle.rules.specs.Kinds.{target}
 use Rattle.rules.specs.Records.{childC}
 use Rattle.rules.specs.Layout.{observationOf}
-use Rattle.rules.proofs.StatementArms.{statement-within}
-use Rattle.rules.proofs.TargetFields.{operation-fields, query-fields, not-fields}
+use Rattle.rules.proofs.runs.StatementArms.{statement-within}
+use Rattle.rules.proofs.runs.TargetFields.{operation-fields, query-fields, not-fields}
 use Rattle.watched_steps.proofs.StepLaws.{take-last, takes-operation, takes-query, takes-not, chosen-fits}
 use borrow.Author.Needs.{needs}
 use Rattle.watched_steps.proofs.take.Statement.{statement}

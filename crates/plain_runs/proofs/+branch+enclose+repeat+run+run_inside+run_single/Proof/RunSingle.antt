@@ -5,7 +5,7 @@ use mathlib.Core.Path.{_≡_, sym, ap, _∙_}
 use Rattle.rules.specs.Records.{kindOf}
 use Rattle.rules.specs.Flow.{ending}
 use Rattle.rules.specs.Layout.{memoryOf}
-use Rattle.rules.proofs.PlainArms.{statement-kinds, run-skip}
+use Rattle.rules.proofs.runs.PlainArms.{statement-kinds, run-skip}
 use Rattle.evaluation.specs.State.{variablesOf}
 use Rattle.plain_runs.specs.Running.{Ready}
 use Rattle.plain_runs.proofs.Laws.{ran-is}

@@ -1,0 +1,84 @@
+-- Memories whose numbers fit their places in the layout.
+use Prim.Native.Nat.{ℕ, _+_, _≤_, _<_}
+use mathlib.Core.Bool.{true}
+use mathlib.Core.Path.{_≡_}
+use lib.ListN.{length}
+use Rattle.rules.specs.Sizes.{nameCount, cellCount}
+use Rattle.rules.specs.Layout.{nameLimit}
+use Rattle.rules.specs.Numbers.{inRange}
+use Rattle.rules.specs.Memory.{Memory, recordedOf}
+use Rattle.rules.specs.Observation.{Observation}
+use Rattle.rules.proofs.lists.Lists.{All}
+use Rattle.rules.specs.declared.Pointer.{Pointer}
+use Rattle.rules.specs.declared.Value.{Value}
+use Rattle.rules.specs.declared.Value.the-variants as value
+use Rattle.rules.specs.declared.Block.{Block}
+use Rattle.rules.specs.declared.Block.the-variants as block
+use Rattle.rules.specs.declared.Recorded.{Recorded}
+use Rattle.rules.specs.declared.Recorded.the-variants as recorded
+use Rattle.rules.specs.declared.Cell.{Cell}
+use Rattle.rules.specs.declared.Cell.the-variants as cell
+use Rattle.rules.specs.declared.Temporary.{Temporary}
+use Rattle.rules.specs.declared.Temporary.the-variants as temporary
+
+-- a name that a cell holds, a first cell or a length in two bytes
+abbrev pub FitsName : ℕ → Type 0
+FitsName k = k < nameLimit
+
+abbrev pub FitsPlaces : ℕ → ℕ → Type 0
+FitsPlaces first n = (first < 65536) × (n < 65536)
+
+abbrev pub FitsPointer : Pointer → Type 0
+FitsPointer p = FitsName (p .name) × (inRange (p .offset) ≡ true)
+
+abbrev pub FitsValue : Value → Type 0
+FitsValue value.Undefined = Unit {0}
+FitsValue (value.Integer z) = inRange z ≡ true
+FitsValue (value.Pointer p) = FitsPointer p
+
+abbrev pub FitsBlock : Block → Type 0
+FitsBlock block.Unused = Unit {0}
+FitsBlock (block.Fixed first n) = FitsPlaces first n
+FitsBlock (block.Freeable first n) = FitsPlaces first n
+FitsBlock block.Dead = Unit {0}
+
+abbrev pub FitsRecorded : Recorded → Type 0
+FitsRecorded recorded.Unused = Unit {0}
+FitsRecorded (recorded.Live first n) = FitsPlaces first n
+FitsRecorded recorded.Dead = Unit {0}
+
+abbrev pub FitsCell : Cell → Type 0
+FitsCell cell.Free = Unit {0}
+FitsCell (cell.Holds o v) = FitsName o × FitsValue v
+
+abbrev pub FitsTemporary : Temporary → Type 0
+FitsTemporary temporary.Empty = Unit {0}
+FitsTemporary (temporary.Holds v) = FitsValue v
+
+pub record FitsMemory (m : Memory) : Type 0 where
+  pub block-count : length (m .blocks) ≡ nameCount
+  pub cell-count : length (m .cells) ≡ cellCount
+  pub blocks-fit : All FitsBlock (m .blocks)
+  pub cells-fit : All FitsCell (m .cells)
+
+pub record FitsObservation (o : Observation) : Type 0 where
+  pub record-count : length (o .blocks) ≡ nameCount
+  pub mark-count : length (o .marks) ≡ cellCount
+  pub records-fit : All FitsRecorded (o .blocks)
+
+-- and whose live blocks lie inside the cells, as those of every run do
+abbrev pub InsideRecorded : Recorded → Type 0
+InsideRecorded recorded.Unused = Unit {0}
+InsideRecorded (recorded.Live first n) = first + n ≤ cellCount
+InsideRecorded recorded.Dead = Unit {0}
+
+abbrev pub InsideBlock : Block → Type 0
+InsideBlock b = InsideRecorded (recordedOf b)
+
+pub record InsideMemory (m : Memory) : Type 0 where
+  pub memory-fits : FitsMemory m
+  pub blocks-inside : All InsideBlock (m .blocks)
+
+pub record InsideObservation (o : Observation) : Type 0 where
+  pub observation-fits : FitsObservation o
+  pub records-inside : All InsideRecorded (o .blocks)

@@ -1,0 +1,262 @@
+-- The bytes of memories that fit: their lengths, that they are bytes, and that reading them gives the memory back.
+use Prim.Native.Nat.{ℕ, _+_, _*_, _<_}
+use native.Mathlib.Omega.{arith}
+use mathlib.Core.Path.{_≡_, refl, ap, ap₂, _∙_}
+use mathlib.Core.Bool.{Bool, true, false}
+use mathlib.Core.List.{List, [], _∷_, _++_, append-nil}
+use lib.Dec.{eqb}
+use lib.IntN.{ℤ, pos}
+use lib.ListN.{length, getD, length-append}
+use mir.Syntax.{w64}
+use mir.Val.{ofZ}
+use Rattle.rules.specs.Sizes.{nameCount, cellCount, memoryLength, observationLength, blocksLength}
+use Rattle.rules.specs.Words.{digits, wordAt, integerAt, flat}
+use Rattle.rules.specs.Memory.{Memory, one}
+use Rattle.rules.specs.Observation.{Observation}
+use Rattle.rules.specs.Layout.{blockRecord, cellRecord, blockBytes, cellBytes, memoryImage, recordedBytes}
+use Rattle.rules.specs.Layout.{markBytes, observationImage, blockPlace, cellPlace, markPlace, blockFrom}
+use Rattle.rules.specs.Layout.{blockAt, cellFrom, cellAt, memoryOf, recordedFrom, recordedAt, markAt}
+use Rattle.rules.specs.Layout.{observationOf}
+use Rattle.rules.proofs.lists.WordLaws.{digits-value, integer-value, Bytes, no-bytes, more-bytes, bytes-append}
+use Rattle.rules.proofs.lists.WordLaws.{bytes-digits}
+use Rattle.rules.proofs.lists.Rows.{table-list, length-flat, row-byte, row-word}
+use Rattle.rules.proofs.lists.Lists.{All, none, also, all-getD}
+use Rattle.rules.proofs.layout.Fits.{FitsBlock, FitsRecorded, FitsCell, FitsMemory, FitsObservation}
+use Rattle.rules.specs.declared.Value.the-variants as value
+use Rattle.rules.specs.declared.Block.{Block}
+use Rattle.rules.specs.declared.Block.the-variants as block
+use Rattle.rules.specs.declared.Recorded.{Recorded}
+use Rattle.rules.specs.declared.Recorded.the-variants as recorded
+use Rattle.rules.specs.declared.Cell.{Cell}
+use Rattle.rules.specs.declared.Cell.the-variants as cell
+
+-- ---- one record
+length-record : (s first n : ℕ) → length (blockRecord s first n) ≡ 8
+unfolding digits
+length-record s first n = refl
+
+pub length-blockBytes : (b : Block) → length (blockBytes b) ≡ 8
+unfolding blockBytes
+length-blockBytes block.Unused = length-record 0 0 0
+length-blockBytes (block.Fixed first n) = length-record 1 first n
+length-blockBytes (block.Freeable first n) = length-record 2 first n
+length-blockBytes block.Dead = length-record 3 0 0
+
+pub length-recordedBytes : (b : Recorded) → length (recordedBytes b) ≡ 8
+unfolding recordedBytes
+length-recordedBytes recorded.Unused = length-record 0 0 0
+length-recordedBytes (recorded.Live first n) = length-record 1 first n
+length-recordedBytes recorded.Dead = length-record 2 0 0
+
+pub length-cellBytes : (c : Cell) → length (cellBytes c) ≡ 16
+unfolding cellBytes digits
+length-cellBytes cell.Free = refl
+length-cellBytes (cell.Holds o value.Undefined) = refl
+length-cellBytes (cell.Holds o (value.Integer z)) = refl
+length-cellBytes (cell.Holds o (value.Pointer p)) = refl
+
+pub length-markBytes : (b : Bool) → length (markBytes b) ≡ 1
+length-markBytes b = refl
+
+first-back : (s first n : ℕ) → first < 65536 → wordAt 2 (blockRecord s first n) 2 ≡ first
+unfolding wordAt digits
+first-back s first n h = digits-value 2 first h
+
+length-back : (s first n : ℕ) → n < 65536 → wordAt 2 (blockRecord s first n) 4 ≡ n
+unfolding wordAt digits
+length-back s first n h = digits-value 2 n h
+
+block-back : (b : Block) → FitsBlock b
+    → blockFrom (getD (blockBytes b) 0 0) (wordAt 2 (blockBytes b) 2) (wordAt 2 (blockBytes b) 4) ≡ b
+unfolding blockBytes
+block-back block.Unused h = refl
+block-back (block.Fixed first n) h =
+    ap₂ block.Fixed (first-back 1 first n (h .0)) (length-back 1 first n (h .1))
+block-back (block.Freeable first n) h =
+    ap₂ block.Freeable (first-back 2 first n (h .0)) (length-back 2 first n (h .1))
+block-back block.Dead h = refl
+
+recorded-back : (b : Recorded) → FitsRecorded b
+    → recordedFrom (getD (recordedBytes b) 0 0) (wordAt 2 (recordedBytes b) 2) (wordAt 2 (recordedBytes b) 4) ≡ b
+unfolding recordedBytes
+recorded-back recorded.Unused h = refl
+recorded-back (recorded.Live first n) h =
+    ap₂ recorded.Live (first-back 1 first n (h .0)) (length-back 1 first n (h .1))
+recorded-back recorded.Dead h = refl
+
+cell-back : (c : Cell) → FitsCell c
+    → cellFrom (getD (cellBytes c) 0 0) (getD (cellBytes c) 1 0) (getD (cellBytes c) 2 0)
+    (integerAt (cellBytes c) 8) ≡ c
+unfolding cellBytes wordAt digits
+cell-back cell.Free h = refl
+cell-back (cell.Holds o value.Undefined) h = refl
+cell-back (cell.Holds o (value.Integer z)) h = ap (λ (x : ℤ). cell.Holds o (value.Integer x)) (integer-value z (h .1))
+cell-back (cell.Holds o (value.Pointer p)) h =
+    ap (λ (x : ℤ). cell.Holds o (value.Pointer (record { name = p .name; offset = x })))
+    (integer-value (p .offset) (h .1 .1))
+
+mark-back : (b : Bool) → eqb (getD (markBytes b) 0 0) 1 ≡ b
+mark-back true = refl
+mark-back false = refl
+
+-- ---- lengths
+pub length-memoryImage : (m : Memory) → length (m .blocks) ≡ nameCount → length (m .cells) ≡ cellCount
+    → length (memoryImage m) ≡ memoryLength
+unfolding memoryImage
+length-memoryImage m e h =
+    length-append (flat blockBytes (m .blocks)) (flat cellBytes (m .cells))
+    ∙ omega (
+      arith,
+      length-flat blockBytes 8 length-blockBytes (m .blocks),
+      length-flat cellBytes 16 length-cellBytes (m .cells),
+    )
+
+pub length-observationImage : (o : Observation) → length (o .blocks) ≡ nameCount → length (o .marks) ≡ cellCount
+    → length (observationImage o) ≡ observationLength
+unfolding observationImage
+length-observationImage o e h =
+    length-append (flat recordedBytes (o .blocks)) (flat markBytes (o .marks))
+    ∙ omega (
+      arith,
+      length-flat recordedBytes 8 length-recordedBytes (o .blocks),
+      length-flat markBytes 1 length-markBytes (o .marks),
+    )
+
+-- ---- bytes
+bytes-flat : {A : Type 0} (P : A → Type 0) (f : A → List ℕ) → ((x : A) → P x → Bytes (f x)) → {xs : List A} → All P xs
+    → Bytes (flat f xs)
+unfolding flat
+bytes-flat P f g none = no-bytes
+bytes-flat P f g (also h r) = bytes-append (g _ h) (bytes-flat P f g r)
+
+bytes-record : (s first n : ℕ) → s < 256 → Bytes (blockRecord s first n)
+bytes-record s first n h =
+    let zero-byte : 0 < 256 = omega arith in
+    more-bytes h (more-bytes zero-byte (bytes-append (bytes-append (bytes-digits 2 first) (bytes-digits 2 n))
+    (more-bytes zero-byte (more-bytes zero-byte no-bytes))))
+
+bytes-block : (b : Block) → FitsBlock b → Bytes (blockBytes b)
+unfolding blockBytes
+bytes-block block.Unused h = bytes-record 0 0 0 (omega arith)
+bytes-block (block.Fixed first n) h = bytes-record 1 first n (omega arith)
+bytes-block (block.Freeable first n) h = bytes-record 2 first n (omega arith)
+bytes-block block.Dead h = bytes-record 3 0 0 (omega arith)
+
+bytes-recorded : (b : Recorded) → FitsRecorded b → Bytes (recordedBytes b)
+unfolding recordedBytes
+bytes-recorded recorded.Unused h = bytes-record 0 0 0 (omega arith)
+bytes-recorded (recorded.Live first n) h = bytes-record 1 first n (omega arith)
+bytes-recorded recorded.Dead h = bytes-record 2 0 0 (omega arith)
+
+bytes-cellRecord : (k o n : ℕ) (z : ℤ) → k < 256 → o < 256 → n < 256 → Bytes (cellRecord k o n z)
+bytes-cellRecord k o n z a b c =
+    let zero-byte : 0 < 256 = omega arith in
+    more-bytes a (more-bytes b (more-bytes c (more-bytes zero-byte (more-bytes zero-byte (more-bytes zero-byte
+    (more-bytes zero-byte (more-bytes zero-byte (bytes-digits 8 (ofZ w64 z)))))))))
+
+bytes-cell : (c : Cell) → FitsCell c → Bytes (cellBytes c)
+unfolding cellBytes
+bytes-cell cell.Free h = bytes-cellRecord 0 0 0 (pos 0) (omega arith) (omega arith) (omega arith)
+bytes-cell (cell.Holds o value.Undefined) h = bytes-cellRecord 1 o 0 (pos 0) (omega arith) (h .0) (omega arith)
+bytes-cell (cell.Holds o (value.Integer z)) h = bytes-cellRecord 2 o 0 z (omega arith) (h .0) (omega arith)
+bytes-cell (cell.Holds o (value.Pointer p)) h =
+    bytes-cellRecord 3 o (p .name) (p .offset) (omega arith) (h .0) (h .1 .0)
+
+bytes-marks : (l : List Bool) → Bytes (flat markBytes l)
+unfolding flat
+bytes-marks [] = no-bytes
+bytes-marks (b ∷ l) = more-bytes (byte b) (bytes-marks l)
+  where
+    byte : (b : Bool) → one b < 256
+    byte true = omega arith
+    byte false = omega arith
+
+pub bytes-memoryImage : (m : Memory) → FitsMemory m → Bytes (memoryImage m)
+unfolding memoryImage
+bytes-memoryImage m h =
+    bytes-append (bytes-flat FitsBlock blockBytes bytes-block (h .blocks-fit))
+    (bytes-flat FitsCell cellBytes bytes-cell (h .cells-fit))
+
+pub bytes-observationImage : (o : Observation) → FitsObservation o → Bytes (observationImage o)
+unfolding observationImage
+bytes-observationImage o h =
+    bytes-append (bytes-flat FitsRecorded recordedBytes bytes-recorded (h .records-fit)) (bytes-marks (o .marks))
+
+-- ---- back
+-- a block record of either memory, with bytes behind them all
+record-back : {A : Type 0} (P : A → Type 0) (f : A → List ℕ) (from : ℕ → ℕ → ℕ → A) → ((x : A) → length (f x) ≡ 8)
+    → ((x : A) → P x → from (getD (f x) 0 0) (wordAt 2 (f x) 2) (wordAt 2 (f x) 4) ≡ x)
+    → (xs : List A) (d : A) (behind : List ℕ) (k : ℕ) → All P xs → P d → k < length xs
+    → from (getD (flat f xs ++ behind) (blockPlace k) 0) (wordAt 2 (flat f xs ++ behind) (blockPlace k + 2))
+    (wordAt 2 (flat f xs ++ behind) (blockPlace k + 4)) ≡ getD xs k d
+record-back P f from wide back xs d behind k all h l =
+    let x = row-byte f 8 wide [] xs behind k d l (blockPlace k) 0 (omega arith) (omega arith) in
+    let y = row-word f 8 wide [] xs behind k d l 2 (blockPlace k + 2) 2 (omega arith) (omega arith) in
+    let z = row-word f 8 wide [] xs behind k d l 2 (blockPlace k + 4) 4 (omega arith) (omega arith) in
+    rw (x, y, z) (back (getD xs k d) (all-getD all k d h))
+
+pub records-length : {A : Type 0} (f : A → List ℕ) (xs : List A) → ((x : A) → length (f x) ≡ 8) → length xs ≡ nameCount
+    → length (flat f xs) ≡ nameCount * 8
+records-length f xs wide e = omega (arith, length-flat f 8 wide xs)
+
+module _ (m : Memory) (fits : FitsMemory m) where
+  pub image-block : (k : ℕ) → k < nameCount → blockAt (memoryImage m) k ≡ getD (m .blocks) k block.Dead
+  unfolding blockAt memoryImage
+  image-block k h =
+      record-back FitsBlock blockBytes blockFrom length-blockBytes block-back (m .blocks) block.Dead
+      (flat cellBytes (m .cells)) k (fits .blocks-fit) tt (omega (arith, fits .block-count))
+
+  pub image-cell : (i : ℕ) → i < cellCount → cellAt (memoryImage m) i ≡ getD (m .cells) i cell.Free
+  unfolding cellAt memoryImage
+  image-cell i h =
+      let front : List ℕ = flat blockBytes (m .blocks) in
+      let l : i < length (m .cells) = omega (arith, fits .cell-count) in
+      let s : length front ≡ blocksLength =
+      records-length blockBytes (m .blocks) length-blockBytes (fits .block-count) in
+      let e = append-nil (flat cellBytes (m .cells)) in
+      let byte = row-byte cellBytes 16 length-cellBytes front (m .cells) [] i cell.Free l in
+      let x = byte (cellPlace i) 0 (omega arith) (omega arith) in
+      let y = byte (cellPlace i + 1) 1 (omega arith) (omega arith) in
+      let z = byte (cellPlace i + 2) 2 (omega arith) (omega arith) in
+      let w = row-word cellBytes 16 length-cellBytes front (m .cells) [] i cell.Free l 8
+      (cellPlace i + 8) 8 (omega arith) (omega arith) in
+      rw (← e, x, y, z, w) (cell-back (getD (m .cells) i cell.Free) (all-getD (fits .cells-fit) i cell.Free tt))
+
+  pub memory-back : memoryOf (memoryImage m) ≡ m
+  unfolding memoryOf
+  memory-back = λ t. record {
+    blocks = table-list nameCount (blockAt (memoryImage m)) (m .blocks) block.Dead (fits .block-count) image-block t;
+    cells = table-list cellCount (cellAt (memoryImage m)) (m .cells) cell.Free (fits .cell-count) image-cell t;
+  }
+
+module _ (o : Observation) (fits : FitsObservation o) where
+  pub image-recorded : (k : ℕ) → k < nameCount → recordedAt (observationImage o) k ≡ getD (o .blocks) k recorded.Dead
+  unfolding recordedAt observationImage
+  image-recorded k h =
+      record-back FitsRecorded recordedBytes recordedFrom length-recordedBytes recorded-back (o .blocks) recorded.Dead
+      (flat markBytes (o .marks)) k (fits .records-fit) tt (omega (arith, fits .record-count))
+
+  pub image-mark-byte : (i : ℕ) → i < cellCount
+      → getD (observationImage o) (markPlace i) 0 ≡ one (getD (o .marks) i false)
+  unfolding observationImage
+  image-mark-byte i h =
+      let front : List ℕ = flat recordedBytes (o .blocks) in
+      let l : i < length (o .marks) = omega (arith, fits .mark-count) in
+      let s : length front ≡ blocksLength =
+      records-length recordedBytes (o .blocks) length-recordedBytes (fits .record-count) in
+      let e = append-nil (flat markBytes (o .marks)) in
+      let x = row-byte markBytes 1 length-markBytes front (o .marks) [] i false l
+      (markPlace i) 0 (omega arith) (omega arith) in
+      rw (← e) x
+
+  pub image-mark : (i : ℕ) → i < cellCount → markAt (observationImage o) i ≡ getD (o .marks) i false
+  unfolding markAt
+  image-mark i h = rw (image-mark-byte i h) (mark-back (getD (o .marks) i false))
+
+  pub observation-back : observationOf (observationImage o) ≡ o
+  unfolding observationOf
+  observation-back = λ t. record {
+    blocks = table-list nameCount (recordedAt (observationImage o)) (o .blocks) recorded.Dead (fits .record-count)
+        image-recorded t;
+    marks = table-list cellCount (markAt (observationImage o)) (o .marks) false (fits .mark-count) image-mark t;
+  }

@@ -1,0 +1,286 @@
+-- Stores, new blocks and ended blocks keep the memory's invariant.
+use Prim.Native.Nat.{ℕ, zero, suc, _+_, _≤_, _<_}
+use native.Mathlib.Omega.{arith}
+use native.Mathlib.Decide.{ℕ-discrete}
+use mathlib.Core.Path.{_≡_, refl, sym, ap, _∙_}
+use mathlib.Core.Logic.{_≢_, _⊎_, inl, inr}
+use mathlib.Core.Bool.{Bool, true, false, true≢false}
+use mathlib.Core.List.{List, [], _∷_, map}
+use lib.ListN.{length, getD, set, length-set, length-map}
+use lib.Seq.{getD-set-same, getD-set-other}
+use Rattle.rules.specs.Sizes.{cellCount}
+use Rattle.rules.specs.Memory.{Memory, recordedOf, named, rename, blockOf, cellOf, stopped, setCell, storeCell}
+use Rattle.rules.specs.Memory.{isFree, isUnused, Use, fixed, freeable, blockFor, withBlock, withoutCells}
+use Rattle.rules.specs.Memory.{endBlock, one}
+use Rattle.rules.specs.Observation.{covers}
+use Rattle.rules.proofs.lists.Lists.{length-rename, length-fill}
+use Rattle.rules.proofs.memory.MemoryLaws.{map-rename, named-map, named-in, named-rename-same}
+use Rattle.rules.proofs.memory.MemoryLaws.{named-rename-other}
+use Rattle.rules.proofs.memory.MemoryLaws.{named-rename, fill-inside, fill-below, fill-above, Covering, inside}
+use Rattle.rules.proofs.memory.MemoryLaws.{below}
+use Rattle.rules.proofs.memory.MemoryLaws.{above, covering, coverage, coverage-rename, coverage-named}
+use Rattle.rules.proofs.memory.Invariant.{occupied, at-most-one, recordsOf, Owned, Invariant, Becomes}
+use Rattle.rules.proofs.memory.Invariant.{becomes-itself}
+use Rattle.rules.proofs.memory.Invariant.{Onward, onward-itself, changedMemory}
+use Rattle.rules.proofs.memory.Room.{Room}
+use Rattle.rules.proofs.memory.Pointing.{at-pointed}
+use Rattle.rules.proofs.memory.Owners.{given-renamed, rising-renamed, owned-renamed, owned-set}
+use Rattle.rules.specs.declared.Pointer.{Pointer}
+use Rattle.rules.specs.declared.Value.{Value}
+use Rattle.rules.specs.declared.Value.the-variants as value
+use Rattle.rules.specs.declared.Block.{Block}
+use Rattle.rules.specs.declared.Block.the-variants as block
+use Rattle.rules.specs.declared.Recorded.{Recorded}
+use Rattle.rules.specs.declared.Recorded.the-variants as recorded
+use Rattle.rules.specs.declared.Cell.{Cell}
+use Rattle.rules.specs.declared.Cell.the-variants as cell
+
+occupied-in : (l : List Cell) (i : ℕ) → 1 ≤ occupied (getD l i cell.Free)
+    → (i < length l) × (occupied (getD l i cell.Free) ≡ 1)
+occupied-in [] i h = absurd (omega arith)
+occupied-in (cell.Free ∷ l) zero h = absurd (omega arith)
+occupied-in (cell.Holds o v ∷ l) zero h = (omega arith, refl)
+occupied-in (c ∷ l) (suc i) h = let r = occupied-in l i h in (omega arith, r .1)
+
+-- a block that covers a cell counts there
+pub covered-once : (m : Memory) (k i : ℕ) → covers (recordedOf (blockOf m k)) i ≡ true → 1 ≤ coverage (recordsOf m) i
+covered-once m k i e =
+    let z = coverage-named (recordsOf m) k i in
+    omega (arith, rw (named-map recordedOf (m .blocks) k block.Dead, e) at z)
+
+-- a store into a cell of a live block, whose name is the cell's owner
+onward-store : (m : Memory) (i o : ℕ) (v : Value) → covers (recordedOf (blockOf m o)) i ≡ true → Invariant m
+    → Onward m (setCell m i (cell.Holds o v))
+onward-store m i o v h y = record {
+  invariant = record {
+    names = y .names;
+    size = length-set (m .cells) i (cell.Holds o v) ∙ y .size;
+    within = y .within;
+    cover = λ j. go j (ℕ-discrete j i);
+    rising = y .rising;
+    owned = owned-set (m .blocks) (m .cells) i (cell.Holds o v) (full .0) h (y .owned);
+  };
+  becomes = λ k. becomes-itself (blockOf m k);
+}
+  where
+    full : (i < length (m .cells)) × (occupied (cellOf m i) ≡ 1)
+    full = occupied-in (m .cells) i (omega (arith, y .cover i, covered-once m o i h))
+
+    go : (j : ℕ) → Dec (j ≡ i)
+        → coverage (recordsOf m) j ≡ occupied (getD (set (m .cells) i (cell.Holds o v)) j cell.Free)
+    go j (no d) = rw (getD-set-other (m .cells) i j (cell.Holds o v) cell.Free d) (y .cover j)
+    go j (yes e) = rw (e, getD-set-same (m .cells) i (cell.Holds o v) cell.Free (full .0)) (y .cover i ∙ full .1)
+
+pub onward-cell : (m : Memory) (p : Pointer) (v : Value) → Invariant m → Onward m (changedMemory (storeCell m p v))
+onward-cell m p v y =
+    at-pointed (λ c. Onward m (changedMemory c)) _ (λ k. stopped k m) m p y (λ i h. onward-store m i _ v h y)
+    (onward-itself y)
+
+-- the number of blocks that cover a cell, after the block of one name was set
+coverage-block : (l : List Block) (k : ℕ) (x : Block) (i : ℕ) → 1 ≤ k → k ≤ length l
+    → coverage (map recordedOf (rename l k x)) i + one (covers (recordedOf (named l k block.Dead)) i)
+    ≡ coverage (map recordedOf l) i + one (covers (recordedOf x) i)
+coverage-block l k x i h le =
+    let r = coverage-rename (map recordedOf l) k (recordedOf x) i h (omega (arith, length-map l recordedOf)) in
+    rw (map-rename recordedOf l k x, ← (named-map recordedOf l k block.Dead)) r
+
+pub recorded-for : (u : Use) (first n : ℕ) → recordedOf (blockFor u first n) ≡ recorded.Live first n
+recorded-for fixed first n = refl
+recorded-for freeable first n = refl
+
+for-given : (u : Use) (first n : ℕ) → isUnused (blockFor u first n) ≡ false
+for-given fixed first n = refl
+for-given freeable first n = refl
+
+pub live-parts : (a n b l : ℕ) → recorded.Live a n ≡ recorded.Live b l → (a ≡ b) × (n ≡ l)
+live-parts a n b l e = (cc, cc)
+
+free-is : (c : Cell) → isFree c ≡ true → occupied c ≡ 0
+free-is cell.Free e = refl
+free-is (cell.Holds o v) e = absurd (true≢false (sym e))
+
+-- a new block
+pub onward-make : (m : Memory) (u : Use) (n k first : ℕ) → Room m n k first → Invariant m
+    → Onward m (withBlock m u k first n)
+onward-make m u n k first r y = record {
+  invariant = record {
+    names = length-rename (m .blocks) k (blockFor u first n) ∙ y .names;
+    size = length-fill (m .cells) first n (cell.Holds k value.Undefined) ∙ y .size;
+    within = λ j a l e. inside-cells j a l (named-rename (m .blocks) k j (blockFor u first n) block.Dead) e;
+    cover = λ i. go i (covers (recorded.Live first n) i) refl (covering first n i);
+    rising = rising-renamed (m .blocks) k (blockFor u first n) (for-given u first n) (r .lower) (y .rising);
+    owned = λ i. owner i (covers (recorded.Live first n) i) refl (covering first n i);
+  };
+  becomes = λ j. later j (ℕ-discrete j k);
+}
+  where
+    inside-cells : (j a l : ℕ)
+        → (blockOf (withBlock m u k first n) j ≡ blockFor u first n)
+        ⊎ (blockOf (withBlock m u k first n) j ≡ blockOf m j)
+        → recordedOf (blockOf (withBlock m u k first n) j) ≡ recorded.Live a l → a + l ≤ cellCount
+    inside-cells j a l (inl e) h =
+        omega (arith, r .fits, live-parts first n a l (sym (ap recordedOf e ∙ recorded-for u first n) ∙ h))
+    inside-cells j a l (inr e) h = y .within j a l (sym (ap recordedOf e) ∙ h)
+
+    sum : (i : ℕ) → coverage (recordsOf (withBlock m u k first n)) i
+        ≡ coverage (recordsOf m) i + one (covers (recorded.Live first n) i)
+    sum i =
+        let z = coverage-block (m .blocks) k (blockFor u first n) i (r .from) (omega (arith, r .to, y .names)) in
+        omega (arith, rw (r .unused, recorded-for u first n) at z)
+
+    go : (i : ℕ) (b : Bool) → covers (recorded.Live first n) i ≡ b → Covering first n i b
+        → coverage (recordsOf (withBlock m u k first n)) i ≡ occupied (cellOf (withBlock m u k first n) i)
+    go i true e (inside p q) =
+        rw (fill-inside (m .cells) first n (cell.Holds k value.Undefined) i cell.Free
+        (omega (arith, y .size, r .fits)) p q)
+        (omega (arith, sum i, ap one e, y .cover i, free-is (cellOf m i) (r .clear i p q)))
+    go i false e (below p) =
+        rw (fill-below (m .cells) first n (cell.Holds k value.Undefined) i cell.Free p)
+        (omega (arith, sum i, ap one e, y .cover i))
+    go i false e (above p) =
+        rw (fill-above (m .cells) first n (cell.Holds k value.Undefined) i cell.Free p)
+        (omega (arith, sum i, ap one e, y .cover i))
+
+    kept : (i : ℕ) → Owned (rename (m .blocks) k (blockFor u first n)) i (cellOf m i)
+    kept i =
+        owned-renamed (m .blocks) k i (blockFor u first n) (cellOf m i) (ap (λ b. covers (recordedOf b) i) (r .unused))
+        (y .owned i)
+
+    owner : (i : ℕ) (b : Bool) → covers (recorded.Live first n) i ≡ b → Covering first n i b
+        → Owned (rename (m .blocks) k (blockFor u first n)) i (cellOf (withBlock m u k first n) i)
+    owner i true e (inside p q) =
+        rw (
+          fill-inside (m .cells) first n (cell.Holds k value.Undefined) i cell.Free
+              (omega (arith, y .size, r .fits)) p q,
+          named-rename-same (m .blocks) k (blockFor u first n) block.Dead (r .from) (omega (arith, r .to, y .names)),
+          recorded-for u first n,
+        ) e
+    owner i false e (below p) =
+        rw (fill-below (m .cells) first n (cell.Holds k value.Undefined) i cell.Free p) (kept i)
+    owner i false e (above p) =
+        rw (fill-above (m .cells) first n (cell.Holds k value.Undefined) i cell.Free p) (kept i)
+
+    later : (j : ℕ) → Dec (j ≡ k) → Becomes (blockOf m j) (blockOf (withBlock m u k first n) j)
+    later j (yes e) = rw (e, r .unused) tt
+    later j (no d) =
+        rw (named-rename-other (m .blocks) k j (blockFor u first n) block.Dead d) (becomes-itself (blockOf m j))
+
+pub make-given : (m : Memory) (u : Use) (n k first : ℕ) → Room m n k first → Invariant m
+    → isUnused (blockOf (withBlock m u k first n) k) ≡ false
+make-given m u n k first r y =
+    ap isUnused (named-rename-same (m .blocks) k (blockFor u first n) block.Dead (r .from)
+    (omega (arith, r .to, y .names)))
+    ∙ for-given u first n
+
+pub dead-is-not-live : (a n : ℕ) → recorded.Dead ≡ recorded.Live a n → ⊥
+dead-is-not-live a n e = let z : _≡_ {A = ℕ} 0 1 = cc in omega arith
+
+live-named : (l : List Block) (k a n : ℕ) → recordedOf (named l k block.Dead) ≡ recorded.Live a n
+    → (1 ≤ k) × (k ≤ length l)
+live-named l k a n e = named-in l k block.Dead (λ h. dead-is-not-live a n (sym (ap recordedOf h) ∙ e))
+
+live-given : (b : Block) (a n : ℕ) → recordedOf b ≡ recorded.Live a n → isUnused b ≡ false
+live-given block.Unused a n e = let z : _≡_ {A = ℕ} 0 1 = cc in absurd (omega arith)
+live-given (block.Fixed first l) a n e = refl
+live-given (block.Freeable first l) a n e = refl
+live-given block.Dead a n e = refl
+
+-- the end of a live block
+without-invariant : (m : Memory) (k first n : ℕ) → recordedOf (blockOf m k) ≡ recorded.Live first n → Invariant m
+    → Invariant (withoutCells m k (recorded.Live first n))
+without-invariant m k first n e y = record {
+  names = length-rename (m .blocks) k block.Dead ∙ y .names;
+  size = length-fill (m .cells) first n cell.Free ∙ y .size;
+  within = λ j a l h. inside-cells j a l (named-rename (m .blocks) k j block.Dead block.Dead) h;
+  cover = λ i. go i (covers (recorded.Live first n) i) refl (covering first n i);
+  rising = rising-renamed (m .blocks) k block.Dead refl lower (y .rising);
+  owned = λ i. owner i (covers (recorded.Live first n) i) refl (covering first n i);
+}
+  where
+    lower : (j : ℕ) → 1 ≤ j → j < k → isUnused (blockOf m j) ≡ false
+    lower j a b =
+        let r = live-named (m .blocks) k first n e in
+        y .rising j k a (omega arith) (omega (arith, r .1, y .names)) (live-given (blockOf m k) first n e)
+
+    kept : (i : ℕ) → covers (recorded.Live first n) i ≡ false → Owned (rename (m .blocks) k block.Dead) i (cellOf m i)
+    kept i h =
+        owned-renamed (m .blocks) k i block.Dead (cellOf m i) (ap (λ b. covers b i) e ∙ h) (y .owned i)
+
+    owner : (i : ℕ) (b : Bool) → covers (recorded.Live first n) i ≡ b → Covering first n i b
+        → Owned (rename (m .blocks) k block.Dead) i (cellOf (withoutCells m k (recorded.Live first n)) i)
+    owner i true g (inside p q) =
+        rw (fill-inside (m .cells) first n cell.Free i cell.Free (omega (arith, y .size, y .within k first n e)) p q) tt
+    owner i false g (below p) = rw (fill-below (m .cells) first n cell.Free i cell.Free p) (kept i g)
+    owner i false g (above p) = rw (fill-above (m .cells) first n cell.Free i cell.Free p) (kept i g)
+
+    inside-cells : (j a l : ℕ)
+        → (blockOf (withoutCells m k (recorded.Live first n)) j ≡ block.Dead)
+        ⊎ (blockOf (withoutCells m k (recorded.Live first n)) j ≡ blockOf m j)
+        → recordedOf (blockOf (withoutCells m k (recorded.Live first n)) j) ≡ recorded.Live a l → a + l ≤ cellCount
+    inside-cells j a l (inl d) h = absurd (dead-is-not-live a l (sym (ap recordedOf d) ∙ h))
+    inside-cells j a l (inr d) h = y .within j a l (sym (ap recordedOf d) ∙ h)
+
+    sum : (i : ℕ)
+        → coverage (recordsOf (withoutCells m k (recorded.Live first n))) i + one (covers (recorded.Live first n) i)
+        ≡ coverage (recordsOf m) i
+    sum i =
+        let r = live-named (m .blocks) k first n e in
+        let z = coverage-block (m .blocks) k block.Dead i (r .0) (r .1) in
+        omega (arith, rw e at z)
+
+    go : (i : ℕ) (b : Bool) → covers (recorded.Live first n) i ≡ b → Covering first n i b
+        → coverage (recordsOf (withoutCells m k (recorded.Live first n))) i
+        ≡ occupied (cellOf (withoutCells m k (recorded.Live first n)) i)
+    go i true g (inside p q) =
+        rw (fill-inside (m .cells) first n cell.Free i cell.Free (omega (arith, y .size, y .within k first n e)) p q)
+        (omega (arith, sum i, ap one g, y .cover i, at-most-one (cellOf m i)))
+    go i false g (below p) =
+        rw (fill-below (m .cells) first n cell.Free i cell.Free p) (omega (arith, sum i, ap one g, y .cover i))
+    go i false g (above p) =
+        rw (fill-above (m .cells) first n cell.Free i cell.Free p) (omega (arith, sum i, ap one g, y .cover i))
+
+pub end-invariant : (m : Memory) (k : ℕ) → Invariant m → Invariant (endBlock m k)
+end-invariant m k y = go (recordedOf (blockOf m k)) refl
+  where
+    go : (x : Recorded) → recordedOf (blockOf m k) ≡ x → Invariant (withoutCells m k x)
+    go recorded.Unused e = y
+    go (recorded.Live first n) e = without-invariant m k first n e y
+    go recorded.Dead e = y
+
+end-other : (m : Memory) (k j : ℕ) → j ≢ k → blockOf (endBlock m k) j ≡ blockOf m j
+end-other m k j d = go (recordedOf (blockOf m k))
+  where
+    go : (x : Recorded) → blockOf (withoutCells m k x) j ≡ blockOf m j
+    go recorded.Unused = refl
+    go (recorded.Live first n) = named-rename-other (m .blocks) k j block.Dead block.Dead d
+    go recorded.Dead = refl
+
+-- the end of a block leaves every name given
+pub end-given : (m : Memory) (k j : ℕ) → isUnused (blockOf m j) ≡ false → isUnused (blockOf (endBlock m k) j) ≡ false
+end-given m k j h = go (recordedOf (blockOf m k))
+  where
+    go : (x : Recorded) → isUnused (blockOf (withoutCells m k x) j) ≡ false
+    go recorded.Unused = h
+    go (recorded.Live first n) = given-renamed (m .blocks) k block.Dead refl j h
+    go recorded.Dead = h
+
+-- a freeable block is freed
+pub onward-free : (m : Memory) (k first n : ℕ) → blockOf m k ≡ block.Freeable first n → Invariant m
+    → Onward m (endBlock m k)
+onward-free m k first n e y =
+    record { invariant = end-invariant m k y; becomes = λ j. go j (ℕ-discrete j k) }
+  where
+    go : (j : ℕ) → Dec (j ≡ k) → Becomes (blockOf m j) (blockOf (endBlock m k) j)
+    go j (yes d) =
+        let r = live-named (m .blocks) k first n (ap recordedOf e) in
+        rw (d, e) (inr (named-rename-same (m .blocks) k block.Dead block.Dead (r .0) (r .1)))
+    go j (no d) = rw (end-other m k j d) (becomes-itself (blockOf m j))
+
+-- a block ends that was not there at first
+pub onward-end : {m m₁ : Memory} (k : ℕ) → blockOf m k ≡ block.Unused → Onward m m₁ → Onward m (endBlock m₁ k)
+onward-end {m} {m₁} k e p =
+    record { invariant = end-invariant m₁ k (p .invariant); becomes = λ j. go j (ℕ-discrete j k) }
+  where
+    go : (j : ℕ) → Dec (j ≡ k) → Becomes (blockOf m j) (blockOf (endBlock m₁ k) j)
+    go j (yes d) = rw (d, e) tt
+    go j (no d) = rw (end-other m₁ k j d) (p .becomes j)

@@ -1,0 +1,21 @@
+-- How runs go and end: kind by kind, their endings, their fuel, a while by its turns, past false assertions.
+pub mod Keeping
+pub mod Operations
+pub mod EvaluationEndings
+pub mod DefinedValues
+pub mod EvaluatedValues
+pub mod Outcomes
+pub mod Calls
+pub mod ChangeEndings
+pub mod Endings
+pub mod Fuel
+pub mod Turns
+pub mod PastRun
+pub mod SharedExpressions
+pub mod StatementArms
+pub mod PlainArms
+pub mod TargetFields
+pub mod TargetArms
+pub mod SourceRuns
+pub mod TargetRuns
+pub mod StoppedAt

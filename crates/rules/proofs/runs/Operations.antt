@@ -1,0 +1,130 @@
+-- What operators and tests give: a value of which G holds, or a stop with a number of which C does.
+use Prim.Native.Nat.{ℕ}
+use mathlib.Core.Bool.{Bool, true, false, cond}
+use mathlib.Core.Path.{_≡_, refl}
+use lib.Dec.{eqb}
+use lib.IntN.{ℤ, pos, natAbs, _+ℤ_, _-ℤ_, _*ℤ_}
+use lib.Signed.{leZ}
+use Rattle.rules.specs.Trees.{Operator, add, subtract, multiply, divide, nearest, atMost, equal, shift}
+use Rattle.rules.specs.Numbers.{inRange, ranged, signed, signsDiffer, towardZero, toNearest, divided}
+use Rattle.rules.specs.Numbers.{stopNumber, numbered, truthValue, onIntegers, onPointerAndInteger, onPointers}
+use Rattle.rules.specs.Numbers.{operate, sameInteger, samePointer, tested}
+use Rattle.rules.specs.Evaluation.{operated, opposite, condition}
+use Rattle.rules.specs.Answers.{evaluationEndings}
+use Rattle.rules.proofs.lists.Among.{Among}
+use Rattle.rules.proofs.runs.Keeping.{Gives, TestStops, on-value, on-test}
+use Rattle.rules.specs.declared.Pointer.{Pointer}
+use Rattle.rules.specs.declared.Value.{Value}
+use Rattle.rules.specs.declared.Value.the-variants as values
+use Rattle.rules.specs.declared.Evaluated.{Evaluated}
+use Rattle.rules.specs.declared.Evaluated.the-variants as evaluated
+use Rattle.rules.specs.declared.Test.the-variants as test
+use Rattle.rules.specs.declared.Number.{Number}
+use Rattle.rules.specs.declared.Number.the-variants as number
+
+-- a number that was worked out is in range
+abbrev FitsNumber : Number → Type 0
+FitsNumber (number.Is z) = inRange z ≡ true
+FitsNumber number.Overflow = Unit {0}
+FitsNumber number.ZeroDivisor = Unit {0}
+
+ranged-fits : (z : ℤ) → FitsNumber (ranged z)
+ranged-fits z = pick (inRange z) refl
+  where
+    pick : (b : Bool) → inRange z ≡ b → FitsNumber (cond b (number.Is z) number.Overflow)
+    pick true e = e
+    pick false e = tt
+
+divided-fits : (rounded : ℕ → ℕ → ℕ) (x y : ℤ) → FitsNumber (divided rounded x y)
+divided-fits rounded x y = pick (eqb (natAbs y) 0)
+  where
+    quotient : ℤ
+    quotient = signed (signsDiffer x y) (rounded (natAbs x) (natAbs y))
+
+    pick : (b : Bool) → FitsNumber (cond b number.ZeroDivisor (ranged quotient))
+    pick true = tt
+    pick false = ranged-fits quotient
+
+module _ (G : Value → Type 0) (C : ℕ → Type 0) (numbers : (z : ℤ) → inRange z ≡ true → G (values.Integer z))
+    (moves : (p : Pointer) (z : ℤ) → G (values.Pointer p) → inRange z ≡ true
+    → G (values.Pointer (record { name = p .name; offset = z })))
+    (stops : (c : ℕ) → Among evaluationEndings c → C c) where
+  stopNumber-gives : (is : ℤ → Evaluated) (n : Number) → FitsNumber n
+      → ((z : ℤ) → inRange z ≡ true → Gives G C (is z)) → Gives G C (stopNumber is evaluated.Stopped n)
+  stopNumber-gives is (number.Is z) h g = g z h
+  stopNumber-gives is number.Overflow h g = stops _ refl
+  stopNumber-gives is number.ZeroDivisor h g = stops _ refl
+
+  numbered-gives : (n : Number) → FitsNumber n → Gives G C (numbered n)
+  numbered-gives n h = stopNumber-gives _ n h numbers
+
+  pub truth-gives : (b : Bool) → Gives G C (truthValue b)
+  truth-gives true = numbers (pos 1) refl
+  truth-gives false = numbers (pos 0) refl
+
+  onIntegers-gives : (o : Operator) (x y : ℤ) → Gives G C (onIntegers o x y)
+  unfolding onIntegers
+  onIntegers-gives add x y = numbered-gives (ranged (x +ℤ y)) (ranged-fits (x +ℤ y))
+  onIntegers-gives subtract x y = numbered-gives (ranged (x -ℤ y)) (ranged-fits (x -ℤ y))
+  onIntegers-gives multiply x y = numbered-gives (ranged (x *ℤ y)) (ranged-fits (x *ℤ y))
+  onIntegers-gives divide x y = numbered-gives (divided towardZero x y) (divided-fits towardZero x y)
+  onIntegers-gives nearest x y = numbered-gives (divided toNearest x y) (divided-fits toNearest x y)
+  onIntegers-gives atMost x y = truth-gives (leZ x y)
+  onIntegers-gives equal x y = truth-gives (sameInteger x y)
+  onIntegers-gives shift x y = stops _ refl
+
+  onPointerAndInteger-gives : (o : Operator) (p : Pointer) (y : ℤ) → G (values.Pointer p)
+      → Gives G C (onPointerAndInteger o p y)
+  unfolding onPointerAndInteger
+  onPointerAndInteger-gives shift p y h =
+      stopNumber-gives _ (ranged (p .offset +ℤ y)) (ranged-fits (p .offset +ℤ y)) (λ z e. moves p z h e)
+  onPointerAndInteger-gives add p y h = stops _ refl
+  onPointerAndInteger-gives subtract p y h = stops _ refl
+  onPointerAndInteger-gives multiply p y h = stops _ refl
+  onPointerAndInteger-gives divide p y h = stops _ refl
+  onPointerAndInteger-gives nearest p y h = stops _ refl
+  onPointerAndInteger-gives atMost p y h = stops _ refl
+  onPointerAndInteger-gives equal p y h = stops _ refl
+
+  onPointers-gives : (o : Operator) (p q : Pointer) → Gives G C (onPointers o p q)
+  unfolding onPointers
+  onPointers-gives equal p q = truth-gives (samePointer p q)
+  onPointers-gives add p q = stops _ refl
+  onPointers-gives subtract p q = stops _ refl
+  onPointers-gives multiply p q = stops _ refl
+  onPointers-gives divide p q = stops _ refl
+  onPointers-gives nearest p q = stops _ refl
+  onPointers-gives atMost p q = stops _ refl
+  onPointers-gives shift p q = stops _ refl
+
+  operate-gives : (o : Operator) (x y : Value) → G x → Gives G C (operate o x y)
+  unfolding operate
+  operate-gives o values.Undefined y h = stops _ refl
+  operate-gives o (values.Integer x) values.Undefined h = stops _ refl
+  operate-gives o (values.Integer x) (values.Integer y) h = onIntegers-gives o x y
+  operate-gives o (values.Integer x) (values.Pointer q) h = stops _ refl
+  operate-gives o (values.Pointer p) values.Undefined h = stops _ refl
+  operate-gives o (values.Pointer p) (values.Integer y) h = onPointerAndInteger-gives o p y h
+  operate-gives o (values.Pointer p) (values.Pointer q) h = onPointers-gives o p q
+
+  pub operated-gives : (o : Operator) (a b : Evaluated) → Gives G C a → Gives G C b → Gives G C (operated o a b)
+  operated-gives o a b g h =
+      on-value (Gives G C) C evaluated.Stopped (λ c x. x) a _ g (λ x u.
+      on-value (Gives G C) C evaluated.Stopped (λ c x. x) b _ h (λ y w. operate-gives o x y u))
+
+  pub tested-stops : (v : Value) → TestStops C (tested v)
+  tested-stops values.Undefined = stops _ refl
+  tested-stops (values.Integer z) = pick (sameInteger z (pos 0))
+    where
+      pick : (b : Bool) → TestStops C (cond b test.No test.Yes)
+      pick true = tt
+      pick false = tt
+  tested-stops (values.Pointer p) = stops _ refl
+
+  pub condition-stops : (e : Evaluated) → Gives G C e → TestStops C (condition e)
+  condition-stops e h = on-value (TestStops C) C test.Stopped (λ c x. x) e tested h (λ v u. tested-stops v)
+
+  pub opposite-gives : (v : Value) → Gives G C (opposite v)
+  opposite-gives v =
+      on-test (Gives G C) C evaluated.Stopped (λ c x. x) (tested v) _ _ (tested-stops v)
+      (truth-gives false) (truth-gives true)
