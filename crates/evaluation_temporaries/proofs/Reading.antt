@@ -10,7 +10,7 @@ use Rattle.rules.specs.Words.{wordAt, integerAt}
 use Rattle.rules.specs.Layout.{cellFrom}
 use Rattle.rules.specs.Evaluation.{held}
 use Rattle.rules.specs.Watched.{Temporaries, temporaryOf, heldIn}
-use Rattle.rules.proofs.lists.Rows.{getD-table}
+use Rattle.rules.proofs.lists.Rows.{getD-tabulate}
 use Rattle.memory_cells.proofs.Reading.{other-cell}
 use Rattle.evaluation_temporaries.specs.Bytes.{temporaryIn, temporaryPlace, temporaryAt, temporariesOf}
 use Rattle.rules.specs.declared.Cell.{Cell}
@@ -21,7 +21,7 @@ use Rattle.rules.specs.declared.Temporary.the-variants as temporary
 
 pub temporary-in : (l : List ℕ) (n : ℕ) → n < 64 → temporaryOf (temporariesOf l) n ≡ temporaryAt l n
 unfolding temporariesOf
-temporary-in l n h = getD-table 64 0 n (temporaryAt l) temporary.Empty h ∙ ap (temporaryAt l) (zero-add n)
+temporary-in l n h = getD-tabulate 64 0 n (temporaryAt l) temporary.Empty h ∙ ap (temporaryAt l) (zero-add n)
 
 abbrev told : ℕ → ℕ → ℤ → Evaluated
 told k w z = held (temporaryIn (cellFrom k 0 w z))

@@ -15,7 +15,7 @@ use Rattle.rules.specs.Layout.{cellFrom}
 use Rattle.rules.proofs.lists.WordLaws.{length-digits, part-put-in, getD-put-in, getD-put-apart, word-put-apart}
 use Rattle.rules.proofs.lists.WordLaws.{put-put}
 use Rattle.rules.proofs.lists.WordLaws.{fits-range, integer-value}
-use Rattle.rules.proofs.lists.Rows.{table-set}
+use Rattle.rules.proofs.lists.Rows.{tabulate-set}
 use Rattle.evaluation_temporaries.specs.Bytes.{temporaryIn, temporaryPlace, temporariesLength, temporaryAt}
 use Rattle.evaluation_temporaries.specs.Bytes.{temporariesOf}
 use Rattle.memory_cells.proofs.Apart.{rows-apart}
@@ -98,5 +98,5 @@ module _ (l : List ℕ) (n k w : ℕ) (z : ℤ) (room : length l ≡ temporaries
       q ∙ (λ i. put (p i) (r i) (integerBytes z))
       ∙ put-put l (digits 8 (head k w)) (integerBytes z) at e in
       ap temporariesOf g
-      ∙ table-set temporaryCount n (temporaryAt l) (temporaryAt written) (temporaryIn (cellFrom k 0 w z)) h (same a b f)
+      ∙ tabulate-set temporaryCount n (temporaryAt l) (temporaryAt written) (temporaryIn (cellFrom k 0 w z)) h (same a b f)
       (λ j x y. other j y)

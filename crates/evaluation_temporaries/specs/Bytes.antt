@@ -3,7 +3,7 @@ use Prim.Native.Nat.{ℕ, _+_, _*_}
 use mathlib.Core.List.{List}
 use lib.ListN.{getD}
 use Rattle.rules.specs.Sizes.{temporaryCount}
-use Rattle.rules.specs.Words.{wordAt, integerAt, table}
+use Rattle.rules.specs.Words.{wordAt, integerAt, tabulate}
 use Rattle.rules.specs.Layout.{cellFrom}
 use Rattle.rules.specs.Watched.{Temporaries}
 use Rattle.rules.specs.declared.Cell.{Cell}
@@ -30,4 +30,4 @@ temporaryAt l n =
     (integerAt l (temporaryPlace n + 8)))
 
 unfoldable pub temporariesOf : List ℕ → Temporaries
-temporariesOf l = table 0 temporaryCount (temporaryAt l)
+temporariesOf l = tabulate 0 temporaryCount (temporaryAt l)

@@ -5,7 +5,7 @@ use native.Mathlib.Numerals.{add-one}
 use mathlib.Core.Path.{_≡_, refl, sym, ap, _∙_, subst}
 use mathlib.Core.List.{List, [], _++_}
 use lib.ListN.{length, length-append}
-use Rattle.rules.specs.Words.{put, table}
+use Rattle.rules.specs.Words.{put, tabulate}
 use Rattle.rules.specs.Records.{recordCount, recordAt}
 use Rattle.rules.specs.Listing.{recordLine, recordLines}
 use Rattle.rules.proofs.lists.WordLaws.{length-put, put-put}
@@ -50,19 +50,19 @@ module _ (l whole : List ℕ) (room : Room l 0 whole) where
 
 -- the lines behind n records, k of them
 unfoldable pub linesFrom : List ℕ → ℕ → ℕ → List ℕ
-linesFrom t n k = recordLines (suc n) (table n k (λ i. recordAt t (suc i)))
+linesFrom t n k = recordLines (suc n) (tabulate n k (λ i. recordAt t (suc i)))
 
 pub lines-all : (t : List ℕ) → linesFrom t 0 (recordCount t) ≡ tableLines t
 unfolding linesFrom
 lines-all t = refl
 
 pub lines-none : (t : List ℕ) (n : ℕ) → linesFrom t n 0 ≡ []
-unfolding linesFrom recordLines table
+unfolding linesFrom recordLines tabulate
 lines-none t n = refl
 
 lines-suc : (t : List ℕ) (n k : ℕ)
     → linesFrom t n (suc k) ≡ recordLine (suc n) (recordAt t (suc n)) ++ linesFrom t (suc n) k
-unfolding linesFrom recordLines table
+unfolding linesFrom recordLines tabulate
 lines-suc t n k = refl
 
 pub lines-next : (t : List ℕ) (n count : ℕ) → n < count

@@ -8,7 +8,7 @@ use borrow.Author.Tests.{le-ltb}
 use lib.Dec.{ltb}
 use lib.ListN.{length, take}
 use lib.Seq.{take-append-seam}
-use Rattle.rules.specs.Words.{put, table}
+use Rattle.rules.specs.Words.{put, tabulate}
 use Rattle.rules.specs.Records.{recordCount, recordAt}
 use Rattle.rules.specs.Kinds.{source, target}
 use Rattle.rules.specs.Checker.{check}
@@ -29,7 +29,7 @@ use Rattle.rules.proofs.translation.EmissionLaws.{length-emit}
 use Rattle.rules.proofs.translation.TargetFitting.{statement-fits}
 use Rattle.rules.proofs.translation.EmittedBytes.{emit-fits}
 use Rattle.rules.proofs.translation.RecordBytes.{AllFit, noRecord, table-record, table-count, table-length}
-use Rattle.rules.proofs.lists.Rows.{table-list}
+use Rattle.rules.proofs.lists.Rows.{tabulate-list}
 use Rattle.listing_text.specs.Text.{recordsOf, tableLines, translatedLines, longestText}
 use Rattle.listing_text.proofs.LongestText.{length-lines}
 
@@ -55,8 +55,9 @@ module _ (t : List ℕ) (a : check source t ≡ checked.Accepted) where
 
   pub records-back : recordsOf (translation t) ≡ translatedRecords t
   records-back =
-      ap (λ (n : ℕ). table 0 n (λ i. recordAt (translation t) (suc i))) (table-count (translatedRecords t))
-      ∙ table-list (length (translatedRecords t)) (λ i. recordAt (translation t) (suc i)) (translatedRecords t) noRecord
+      ap (λ (n : ℕ). tabulate 0 n (λ i. recordAt (translation t) (suc i))) (table-count (translatedRecords t))
+      ∙ tabulate-list (length (translatedRecords t)) (λ i. recordAt (translation t) (suc i)) (translatedRecords t)
+      noRecord
       refl (λ j l. table-record (translatedRecords t) j records-fit l)
 
   -- what the translator hands back, in an output that is long enough

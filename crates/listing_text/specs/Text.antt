@@ -5,7 +5,7 @@ use mathlib.Core.Bool.{true, false}
 use mathlib.Core.List.{List, [], _∷_, _++_}
 use lib.ListN.{length}
 use lib.Dec.{ltb}
-use Rattle.rules.specs.Words.{put, table}
+use Rattle.rules.specs.Words.{put, tabulate}
 use Rattle.rules.specs.Records.{Record, recordCount, recordAt}
 use Rattle.rules.specs.Translation.{translatedRecords}
 use Rattle.rules.specs.Listing.{natural, integer, line, recordLines, listing}
@@ -48,7 +48,7 @@ refusalLine k n = line (natural k) (natural n ∷ [])
 
 -- a table's records and their lines; those of a translation
 abbrev pub recordsOf : List ℕ → List Record
-recordsOf t = table 0 (recordCount t) (λ i. recordAt t (suc i))
+recordsOf t = tabulate 0 (recordCount t) (λ i. recordAt t (suc i))
 
 abbrev pub tableLines : List ℕ → List ℕ
 tableLines t = recordLines 1 (recordsOf t)

@@ -11,10 +11,10 @@ use mathlib.Core.List.{List}
 use lib.Dec.{T}
 use Rattle.rules.specs.Sizes.{nameCount, cellCount}
 use Rattle.rules.specs.Checker.{lowest}
-use Rattle.rules.specs.Words.{table}
 use Rattle.rules.specs.Memory.{Memory, cellOf, isFree, isUnused, blockOf, allFree, lowestRun, freeRun, nextName, one}
 use Rattle.rules.specs.Memory.{countFree}
 use Rattle.rules.specs.Layout.{memoryOf, cellAt}
+use Rattle.rules.specs.Words.{tabulate}
 use Rattle.rules.specs.declared.Search.{Search}
 use Rattle.rules.specs.declared.Search.the-variants as search
 use Rattle.memory_cells.proofs.Reading.{cell-in}
@@ -200,18 +200,18 @@ module _ (p : ℕ → Bool) (n : ℕ) where
 
 -- ---- the count: of the cells from i on
 abbrev pub freeFrom : List ℕ → ℕ → ℕ
-freeFrom l i = countFree (table i (cellCount - i) (cellAt l))
+freeFrom l i = countFree (tabulate i (cellCount - i) (cellAt l))
 
 pub count-start : (l : List ℕ) → 0 + freeFrom l 0 ≡ countFree (memoryOf l .cells)
 unfolding memoryOf
 count-start l = zero-add (freeFrom l 0)
 
 pub count-end : (l : List ℕ) → freeFrom l cellCount ≡ 0
-unfolding countFree table
+unfolding countFree tabulate
 count-end l = refl
 
 count-next : (l : List ℕ) (i : ℕ) → i < cellCount → freeFrom l i ≡ one (isFree (cellAt l i)) + freeFrom l (i + 1)
-unfolding countFree table
+unfolding countFree tabulate
 count-next l i h =
     let k : cellCount - i ≡ suc (cellCount - (i + 1)) = omega arith in
     rw (k, add-one i) refl

@@ -8,7 +8,7 @@ use Rattle.rules.specs.Words.{digits}
 use Rattle.rules.specs.Layout.{memoryOf, memoryImage, blockBytes, cellBytes}
 use Rattle.rules.proofs.lists.Rows.{flat-all}
 use Rattle.rules.proofs.lists.Lists.{all-replicate}
-use Rattle.rules.proofs.layout.Fits.{FitsMemory}
+use Rattle.rules.specs.Fits.{FitsMemory}
 use Rattle.rules.proofs.layout.LayoutLaws.{memory-back}
 use Rattle.rules.specs.declared.Block.the-variants as block
 use Rattle.rules.specs.declared.Cell.the-variants as cell

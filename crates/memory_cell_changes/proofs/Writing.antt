@@ -12,13 +12,13 @@ use mir.Syntax.{w64}
 use mir.Val.{toZ}
 use Rattle.rules.specs.Sizes.{nameCount, cellCount, memoryLength}
 use Rattle.rules.specs.Words.{little, digits, part, put, wordAt, integerAt}
-use Rattle.rules.specs.Memory.{Memory, setCell, rename}
+use Rattle.rules.specs.Memory.{Memory, setCell, setNamed}
 use Rattle.rules.specs.Layout.{memoryOf, memoryImage, blockRecord, blockBytes, cellBytes, blockPlace, cellPlace}
 use Rattle.rules.specs.Layout.{blockAt, cellAt, blockFrom, cellFrom}
 use Rattle.rules.proofs.lists.WordLaws.{digits-value, integer-value, part-put-in, getD-put-in, getD-put-apart}
 use Rattle.rules.proofs.lists.WordLaws.{word-put-apart, fits-range}
-use Rattle.rules.proofs.lists.Rows.{table-same, table-set}
-use Rattle.rules.proofs.layout.Fits.{FitsBlock, FitsCell}
+use Rattle.rules.proofs.lists.Rows.{tabulate-same, tabulate-set}
+use Rattle.rules.specs.Fits.{FitsBlock, FitsCell}
 use Rattle.rules.proofs.layout.LayoutLaws.{length-blockBytes, length-cellBytes}
 use Rattle.rules.proofs.layout.ImagePuts.{image-put-block, image-put-cell}
 use Rattle.rules.specs.declared.Block.{Block}
@@ -126,9 +126,9 @@ module _ (l : List ℕ) (e : length l ≡ memoryLength) (i : ℕ) (c : Cell) (h 
   view-cell : FitsCell c → memoryOf (put l (cellPlace i) (cellBytes c)) ≡ setCell (memoryOf l) i c
   unfolding memoryOf
   view-cell f = λ t. record {
-    blocks = table-same nameCount (blockAt l) (blockAt (put l (cellPlace i) (cellBytes c)))
+    blocks = tabulate-same nameCount (blockAt l) (blockAt (put l (cellPlace i) (cellBytes c)))
         (λ k b. block-put-cell k b) t;
-    cells = table-set cellCount i (cellAt l) (cellAt (put l (cellPlace i) (cellBytes c))) c h (cell-put-same f)
+    cells = tabulate-set cellCount i (cellAt l) (cellAt (put l (cellPlace i) (cellBytes c))) c h (cell-put-same f)
         (λ j b d. cell-put-other j d) t;
   }
 
@@ -161,9 +161,9 @@ module _ (l : List ℕ) (e : length l ≡ memoryLength) (k : ℕ) (b : Block) (h
   view-block : FitsBlock b → memoryOf (put l (blockPlace k) (blockBytes b)) ≡ setBlock (memoryOf l) (suc k) b
   unfolding memoryOf
   view-block f = λ t. record {
-    blocks = table-set nameCount k (blockAt l) (blockAt (put l (blockPlace k) (blockBytes b))) b h (block-put-same f)
+    blocks = tabulate-set nameCount k (blockAt l) (blockAt (put l (blockPlace k) (blockBytes b))) b h (block-put-same f)
         (λ j x d. block-put-other j d) t;
-    cells = table-same cellCount (cellAt l) (cellAt (put l (blockPlace k) (blockBytes b))) (λ j x. cell-put-block j) t;
+    cells = tabulate-same cellCount (cellAt l) (cellAt (put l (blockPlace k) (blockBytes b))) (λ j x. cell-put-block j) t;
   }
 
 -- ---- changes

@@ -11,7 +11,7 @@ use lib.ListN.{length, getD, List·getD-eq-default}
 use Rattle.rules.specs.Sizes.{nameCount, cellCount}
 use Rattle.rules.specs.Memory.{Memory, blockOf, cellOf, isFree, isUnused}
 use Rattle.rules.specs.Layout.{memoryOf, blockAt, cellAt, blockFrom, cellFrom, blockPlace, cellPlace}
-use Rattle.rules.proofs.lists.Rows.{length-table, getD-table}
+use Rattle.rules.proofs.lists.Rows.{length-tabulate, getD-tabulate}
 use Rattle.rules.specs.declared.Block.{Block}
 use Rattle.rules.specs.declared.Block.the-variants as block
 use Rattle.rules.specs.declared.Cell.{Cell}
@@ -20,22 +20,22 @@ use Rattle.rules.specs.declared.Value.the-variants as value
 
 pub count-blocks : (l : List ℕ) → length (memoryOf l .blocks) ≡ nameCount
 unfolding memoryOf
-count-blocks l = length-table nameCount 0 (blockAt l)
+count-blocks l = length-tabulate nameCount 0 (blockAt l)
 
 pub count-cells : (l : List ℕ) → length (memoryOf l .cells) ≡ cellCount
 unfolding memoryOf
-count-cells l = length-table cellCount 0 (cellAt l)
+count-cells l = length-tabulate cellCount 0 (cellAt l)
 
 pub cell-in : (l : List ℕ) (i : ℕ) → i < cellCount → cellAt l i ≡ cellOf (memoryOf l) i
 unfolding memoryOf
-cell-in l i h = sym (getD-table cellCount 0 i (cellAt l) cell.Free h ∙ ap (cellAt l) (zero-add i))
+cell-in l i h = sym (getD-tabulate cellCount 0 i (cellAt l) cell.Free h ∙ ap (cellAt l) (zero-add i))
 
 pub cell-past : (l : List ℕ) (i : ℕ) → cellCount ≤ i → cell.Free ≡ cellOf (memoryOf l) i
 cell-past l i h = sym (List·getD-eq-default (memoryOf l .cells) cell.Free (le-trans (le-of-eq (count-cells l)) h))
 
 pub block-in : (l : List ℕ) (k : ℕ) → k < nameCount → blockAt l k ≡ blockOf (memoryOf l) (suc k)
 unfolding memoryOf
-block-in l k h = sym (getD-table nameCount 0 k (blockAt l) block.Dead h ∙ ap (blockAt l) (zero-add k))
+block-in l k h = sym (getD-tabulate nameCount 0 k (blockAt l) block.Dead h ∙ ap (blockAt l) (zero-add k))
 
 pub block-named : (l : List ℕ) (k : ℕ) → 0 < k → k ≤ nameCount → blockAt l (k - 1) ≡ blockOf (memoryOf l) k
 block-named l zero a b = absurd (omega arith)

@@ -6,7 +6,7 @@ use lib.ListN.{replicate}
 use mir.Syntax.{w64}
 use mir.Val.{SFits}
 use Rattle.rules.specs.Sizes.{nameCount, cellCount}
-use Rattle.rules.specs.Memory.{Memory, Change, changed, stopped, rename}
+use Rattle.rules.specs.Memory.{Memory, Change, changed, stopped, setNamed}
 use Rattle.rules.specs.Layout.{memoryOf, memoryImage, nameLimit}
 use Rattle.rules.specs.declared.Value.{Value}
 use Rattle.rules.specs.declared.Value.the-variants as value
@@ -37,7 +37,7 @@ changeMemory (stopped k m) = m
 
 -- one block record of a memory is another
 abbrev pub setBlock : Memory → ℕ → Block → Memory
-setBlock m k b = record { blocks = rename (m .blocks) k b; cells = m .cells }
+setBlock m k b = record { blocks = setNamed (m .blocks) k b; cells = m .cells }
 
 abbrev pub emptyMemory : Memory
 emptyMemory = record { blocks = replicate nameCount block.Unused; cells = replicate cellCount cell.Free }

@@ -9,14 +9,14 @@ use lib.Dec.{eqb, ltb, leb}
 use lib.ListN.{length, getD, set, take, drop, length-drop, take-append-drop, List·getD-append}
 use lib.Seq.{length-take-le, getD-append-add, take-append-le, drop-append-le, set-out}
 use Rattle.rules.specs.Sizes.{nameCount, cellCount, observationLength, blocksLength}
-use Rattle.rules.specs.Words.{little, put, wordAt, table, flat}
+use Rattle.rules.specs.Words.{little, put, wordAt, flat, tabulate}
 use Rattle.rules.specs.Memory.{one, fill}
 use Rattle.rules.specs.Observation.{Observation, withMarks}
 use Rattle.rules.specs.Layout.{blockRecord, blockPlace, markPlace, recordedFrom, recordedAt, markAt, observationOf}
 use Rattle.rules.specs.Layout.{observationImage, recordedBytes, markBytes}
 use Rattle.rules.specs.declared.Recorded.{Recorded}
 use Rattle.rules.proofs.lists.WordLaws.{getD-put-after}
-use Rattle.rules.proofs.lists.Rows.{length-table, getD-table, table-same, table-list, table-set}
+use Rattle.rules.proofs.lists.Rows.{length-tabulate, getD-tabulate, tabulate-same, tabulate-list, tabulate-set}
 use Rattle.rules.proofs.lists.Lists.{length-fill}
 use Rattle.rules.proofs.layout.LayoutLaws.{length-recordedBytes, records-length}
 use Rattle.rules.proofs.layout.ImagePuts.{image-put-recorded}
@@ -48,10 +48,10 @@ module _ (l : List ℕ) (long : length l ≡ observationLength) (k s first n : �
       ≡ withRecord (observationOf l) k (recordedFrom s first n)
   unfolding observationOf recordedAt
   view-record f g = λ t. record {
-    blocks = table-set nameCount k (recordedAt l) (recordedAt (put l (blockPlace k) (blockRecord s first n)))
+    blocks = tabulate-set nameCount k (recordedAt l) (recordedAt (put l (blockPlace k) (blockRecord s first n)))
         (recordedFrom s first n) h (record-put-same recordedFrom l k s first n room f g)
         (λ j b d. record-put-other recordedFrom l k s first n room j d) t;
-    marks = table-same cellCount (markAt l) (markAt (put l (blockPlace k) (blockRecord s first n))) mark-apart t;
+    marks = tabulate-same cellCount (markAt l) (markAt (put l (blockPlace k) (blockRecord s first n))) mark-apart t;
   }
 
   pub becomes-record : first < 65536 → n < 65536 → recordedBytes (recordedFrom s first n) ≡ blockRecord s first n
@@ -74,16 +74,16 @@ module _ (l : List ℕ) (long : length l ≡ observationLength) (k s first n : �
 -- ---- marks
 -- the marks of bytes that are nothing else
 abbrev marksOf : List ℕ → List Bool
-marksOf b = table 0 cellCount (λ i. eqb (getD b i 0) 1)
+marksOf b = tabulate 0 cellCount (λ i. eqb (getD b i 0) 1)
 
 marks-fill : (m : List ℕ) (first n : ℕ) (b : Bool) → length m ≡ cellCount
     → marksOf (fill m first n (one b)) ≡ fill (marksOf m) first n b
 marks-fill m first n b e =
-    table-list cellCount (λ i. eqb (getD (fill m first n (one b)) i 0) 1) (fill (marksOf m) first n b) false
+    tabulate-list cellCount (λ i. eqb (getD (fill m first n (one b)) i 0) 1) (fill (marksOf m) first n b) false
     (length-fill (marksOf m) first n b ∙ count) at
   where
     count : length (marksOf m) ≡ cellCount
-    count = length-table cellCount 0 (λ i. eqb (getD m i 0) 1)
+    count = length-tabulate cellCount 0 (λ i. eqb (getD m i 0) 1)
 
     pick : (w : Bool) (c : Bool) (x : ℕ) → eqb (cond w (one c) x) 1 ≡ cond w c (eqb x 1)
     pick true true x = refl
@@ -98,7 +98,7 @@ marks-fill m first n b e =
         ap (λ (x : ℕ). eqb x 1) (getD-fill (one b) m first n j 0 i)
         ∙ pick (leb first j && ltb j (first + n)) b (getD m j 0)
         ∙ ap (cond (leb first j && ltb j (first + n)) b)
-        (sym (getD-table cellCount 0 j (λ i. eqb (getD m i 0) 1) false h
+        (sym (getD-tabulate cellCount 0 j (λ i. eqb (getD m i 0) 1) false h
         ∙ ap (λ (i : ℕ). eqb (getD m i 0) 1) (zero-add j)))
         ∙ sym (getD-fill b (marksOf m) first n j false k)
 
@@ -127,11 +127,11 @@ module _ (a m : List ℕ) (long : length a ≡ nameCount * 8) where
       place : (j : ℕ) → markPlace j ≡ length a + j
       place j = omega arith
 
-  parts : observationOf (a ++ m) ≡ record { blocks = table 0 nameCount (recordedAt a); marks = marksOf m }
+  parts : observationOf (a ++ m) ≡ record { blocks = tabulate 0 nameCount (recordedAt a); marks = marksOf m }
   unfolding observationOf
   parts = λ t. record {
-    blocks = table-same nameCount (recordedAt a) (recordedAt (a ++ m)) front-record t;
-    marks = table-same cellCount (λ j. eqb (getD m j 0) 1) (markAt (a ++ m)) behind-mark t;
+    blocks = tabulate-same nameCount (recordedAt a) (recordedAt (a ++ m)) front-record t;
+    marks = tabulate-same cellCount (λ j. eqb (getD m j 0) 1) (markAt (a ++ m)) behind-mark t;
   }
 
 image-fill : (o : Observation) (first n : ℕ) (b : Bool) → length (o .blocks) ≡ nameCount
@@ -156,7 +156,7 @@ module _ (l : List ℕ) (long : length l ≡ observationLength) (first n : ℕ) 
   view-fill =
       let rest : length (drop blocksLength l) ≡ cellCount = length-drop blocksLength l ∙ omega arith in
       ap observationOf split ∙ parts (take blocksLength l) (fill (drop blocksLength l) first n (one b)) front-length
-      ∙ ap (λ (x : List Bool). record { blocks = table 0 nameCount (recordedAt (take blocksLength l)); marks = x })
+      ∙ ap (λ (x : List Bool). record { blocks = tabulate 0 nameCount (recordedAt (take blocksLength l)); marks = x })
       (marks-fill (drop blocksLength l) first n b rest)
       ∙ ap (λ (o : Observation). markRange o first n b)
       (sym (parts (take blocksLength l) (drop blocksLength l) front-length)

@@ -4,7 +4,7 @@ use mathlib.Core.Bool.{Bool}
 use Rattle.rules.specs.Trees.{valid, initialised}
 use Rattle.rules.specs.Numbers.{truthValue}
 use Rattle.rules.specs.Evaluation.{isValid, initialisedAt, queried}
-use Rattle.rules.specs.Observation.{Observation, markOf, locateMark, queryObservation}
+use Rattle.rules.specs.Observation.{Observation, locateMark, queryObservation, isMarked}
 use Rattle.rules.specs.declared.Pointer.{Pointer}
 use Rattle.rules.specs.declared.Value.{Value}
 use Rattle.rules.specs.declared.Value.the-variants as value
@@ -19,8 +19,8 @@ module _ (o : Observation) (v : Value) (p : Pointer) (e : v ≡ value.Pointer p)
   query-valid f g h = h ∙ ap truthValue (g ∙ ap isValid f) ∙ ap (queryObservation valid o) (sym e)
 
   pub query-initialised : {at : Located} {b : Bool} {r : Evaluated} → at ≡ locateMark o p → b ≡ initialisedAt
-      (markOf o) at
+      (isMarked o) at
       → r ≡ truthValue b → r ≡ queryObservation initialised o v
   unfolding queried
   query-initialised f g h =
-      h ∙ ap truthValue (g ∙ ap (initialisedAt (markOf o)) f) ∙ ap (queryObservation initialised o) (sym e)
+      h ∙ ap truthValue (g ∙ ap (initialisedAt (isMarked o)) f) ∙ ap (queryObservation initialised o) (sym e)

@@ -2,7 +2,7 @@
 ghost use mathlib.Core.Path.{_≡_};
 ghost use Rattle.rules.specs.Trees.{valid, initialised};
 ghost use Rattle.rules.specs.Evaluation.{isValid, initialisedAt};
-ghost use Rattle.rules.specs.Observation.{markOf, queryObservation};
+ghost use Rattle.rules.specs.Observation.{queryObservation, isMarked};
 ghost use Rattle.rules.specs.Layout.{observationOf};
 use rules::BLOCKS_LENGTH;
 use rules::CELL_COUNT;
@@ -22,7 +22,7 @@ fn is_place(at: Located) -> bool
 }
 
 fn is_marked(obs: &ObservationMemory, i: usize) -> bool
-    ensures { λ r. ⌜ r ≡ markOf (observationOf (now (obs .entry))) i ⌝ }
+    ensures { λ r. ⌜ r ≡ isMarked (observationOf (now (obs .entry))) i ⌝ }
 {
     if i < CELL_COUNT {
         obs[BLOCKS_LENGTH + i] == 1
@@ -32,7 +32,7 @@ fn is_marked(obs: &ObservationMemory, i: usize) -> bool
 }
 
 fn is_marked_place(obs: &ObservationMemory, at: Located) -> bool
-    ensures { λ r. ⌜ r ≡ initialisedAt (markOf (observationOf (now (obs .entry)))) at ⌝ }
+    ensures { λ r. ⌜ r ≡ initialisedAt (isMarked (observationOf (now (obs .entry)))) at ⌝ }
 {
     match at {
         Located::At(i) => is_marked(obs, i),

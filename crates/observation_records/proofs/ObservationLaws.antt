@@ -9,25 +9,25 @@ use mathlib.Core.List.{List, _++_}
 use lib.ListN.{length, getD, replicate, replicate-append-replicate, List·getD-eq-default}
 use Rattle.rules.specs.Sizes.{nameCount, cellCount, observationLength, blocksLength}
 use Rattle.rules.specs.Words.{digits, wordAt}
-use Rattle.rules.specs.Observation.{recordOf, markOf, emptyObservation}
+use Rattle.rules.specs.Observation.{recordOf, emptyObservation, isMarked}
 use Rattle.rules.specs.Layout.{blockPlace, recordedFrom, recordedAt, markAt, observationOf, observationImage}
 use Rattle.rules.specs.Layout.{recordedBytes, markBytes}
 use Rattle.rules.specs.declared.Recorded.{Recorded}
 use Rattle.rules.specs.declared.Recorded.the-variants as recorded
-use Rattle.rules.proofs.lists.Rows.{length-table, getD-table, flat-all}
+use Rattle.rules.proofs.lists.Rows.{length-tabulate, getD-tabulate, flat-all}
 
 pub record-count : (l : List ℕ) → length (observationOf l .blocks) ≡ nameCount
 unfolding observationOf
-record-count l = length-table nameCount 0 (recordedAt l)
+record-count l = length-tabulate nameCount 0 (recordedAt l)
 
 pub mark-count : (l : List ℕ) → length (observationOf l .marks) ≡ cellCount
 unfolding observationOf
-mark-count l = length-table cellCount 0 (markAt l)
+mark-count l = length-tabulate cellCount 0 (markAt l)
 
 -- ---- records
 pub record-in : (l : List ℕ) (k : ℕ) → k < nameCount → recordedAt l k ≡ getD (observationOf l .blocks) k recorded.Dead
 unfolding observationOf
-record-in l k h = sym (getD-table nameCount 0 k (recordedAt l) recorded.Dead h ∙ ap (recordedAt l) (zero-add k))
+record-in l k h = sym (getD-tabulate nameCount 0 k (recordedAt l) recorded.Dead h ∙ ap (recordedAt l) (zero-add k))
 
 pub record-of-name : (l : List ℕ) (k : ℕ) → 0 < k → k ≤ nameCount → recordedAt l (k - 1) ≡ recordOf (observationOf l)
     k
@@ -86,11 +86,11 @@ module _ (l : List ℕ) (k : ℕ) where
       go (suc (suc s)) a b = refl
 
 -- ---- marks
-pub mark-in : (l : List ℕ) (i : ℕ) → i < cellCount → markAt l i ≡ markOf (observationOf l) i
+pub mark-in : (l : List ℕ) (i : ℕ) → i < cellCount → markAt l i ≡ isMarked (observationOf l) i
 unfolding observationOf
-mark-in l i h = sym (getD-table cellCount 0 i (markAt l) false h ∙ ap (markAt l) (zero-add i))
+mark-in l i h = sym (getD-tabulate cellCount 0 i (markAt l) false h ∙ ap (markAt l) (zero-add i))
 
-pub mark-past : (l : List ℕ) (i : ℕ) → cellCount ≤ i → false ≡ markOf (observationOf l) i
+pub mark-past : (l : List ℕ) (i : ℕ) → cellCount ≤ i → false ≡ isMarked (observationOf l) i
 mark-past l i h = sym (List·getD-eq-default (observationOf l .marks) false (le-trans (le-of-eq (mark-count l)) h))
 
 -- ---- the bytes at the start

@@ -11,7 +11,7 @@ use Rattle.rules.specs.Words.{put}
 use Rattle.rules.specs.Records.{recordCount}
 use Rattle.rules.specs.Kinds.{source}
 use Rattle.rules.specs.Checker.{refuseIf, _otherwise_, check, inputsFault, memoryFault}
-use Rattle.rules.specs.Nodes.{sourceStatement, sourceProgram}
+use Rattle.rules.specs.Nodes.{sourceStatement, sourceProgram, statementAt}
 use Rattle.rules.specs.Memory.{Memory, countFree, startMemory}
 use Rattle.rules.specs.Flow.{ending}
 use Rattle.rules.specs.Plain.{run, startVariables}
@@ -23,12 +23,11 @@ use Rattle.rules.specs.declared.Checked.{Checked}
 use Rattle.rules.specs.declared.Checked.the-variants as checked
 use Rattle.rules.proofs.acceptance.Sound.{startScope}
 use Rattle.rules.proofs.acceptance.AcceptedPrograms.{accepted-program, padded-program}
-use Rattle.rules.proofs.layout.Fits.{FitsMemory}
+use Rattle.rules.specs.Fits.{FitsMemory}
 use Rattle.rules.proofs.layout.LayoutLaws.{memory-back}
 use Rattle.rules.proofs.layout.Reachable.{startVariables-fit}
 use Rattle.rules.proofs.layout.ReachableRoundTrip.{start-inside, plain-round-trip}
 use Rattle.rules.proofs.acceptance.Padding.{node-padded}
-use Rattle.rules.proofs.runs.PlainArms.{statementAt}
 use Rattle.run_endings.specs.declared.Ended.{Ended}
 use Rattle.plain_runs.specs.Running.{Ready, Ran}
 use Rattle.plain_runs.proofs.Laws.{ran-is}

@@ -2,15 +2,14 @@
 ghost use mathlib.Core.Path.{_≡_};
 ghost use mathlib.Core.Bool.{false};
 ghost use Rattle.rules.specs.Checker.{check, inputsFault, memoryFault};
-ghost use Rattle.rules.specs.Nodes.{sourceProgram};
+ghost use Rattle.rules.specs.Nodes.{sourceProgram, statementAt};
 ghost use Rattle.rules.specs.Answers.{plainEnded, plainOutcome, plainBy, runPlain};
 ghost use Rattle.rules.specs.declared.Checked.the-variants as checked;
-ghost use Rattle.rules.proofs.layout.Fits.{FitsMemory};
+ghost use Rattle.rules.specs.Fits.{FitsMemory};
 ghost use Rattle.rules.specs.Kinds.{source};
 ghost use Rattle.rules.specs.Flow.{ending};
 ghost use Rattle.rules.specs.Plain.{run, startVariables};
 ghost use Rattle.rules.specs.Layout.{memoryOf};
-ghost use Rattle.rules.proofs.runs.PlainArms.{statementAt};
 ghost use Rattle.plain_runs.specs.Running.{Ready, Ran};
 ghost use Rattle.plain.specs.Answering.{AnsweredBy};
 use rules::Answer;

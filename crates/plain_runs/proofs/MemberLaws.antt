@@ -13,11 +13,12 @@ use Rattle.rules.specs.Flow.{Outcome, finished, ended, Ending, ending, into, ne
 use Rattle.rules.specs.Plain.{plainMeaning, run}
 use Rattle.rules.specs.Layout.{memoryOf}
 use Rattle.rules.specs.declared.Test.{Test}
-use Rattle.rules.proofs.layout.Fits.{FitsMemory}
+use Rattle.rules.specs.Fits.{FitsMemory}
+use Rattle.rules.specs.Nodes.{expressionAt, statementAt}
 use Rattle.rules.proofs.runs.Fuel.{run-fuel}
 use Rattle.rules.proofs.runs.Outcomes.{into-ending, next-ending, decide-ending}
 use Rattle.rules.proofs.runs.StatementArms.{let-child, sound-let}
-use Rattle.rules.proofs.runs.PlainArms.{expressionAt, statementAt, run-sequence, run-branch, run-while-zero}
+use Rattle.rules.proofs.runs.PlainArms.{run-sequence, run-branch, run-while-zero}
 use Rattle.rules.proofs.runs.PlainArms.{run-while-suc, run-let}
 use Rattle.memory_cells.specs.Changes.{Becomes}
 use Rattle.memory_blocks.specs.Blocks.{makingOf, madeMemory}

@@ -7,7 +7,7 @@ use mir.Syntax.{w32}
 use mir.Val.{Fits}
 use Rattle.rules.specs.Layout.{nameLimit}
 use Rattle.rules.specs.Kinds.{source, expression, statement}
-use Rattle.rules.specs.Nodes.{SourceNode, sourceStatement}
+use Rattle.rules.specs.Nodes.{SourceNode, sourceStatement, expressionAt, statementAt}
 use Rattle.rules.specs.Records.{kindOf, markOf, childA, childB, childC}
 use Rattle.rules.specs.Memory.{Memory, Use, made, makeBlock}
 use Rattle.rules.specs.Evaluation.{Variables, noTemporaries, evaluateSource, extend}
@@ -19,7 +19,7 @@ use Rattle.rules.proofs.acceptance.FormLaws.{nodeAs}
 use Rattle.rules.proofs.acceptance.Standing.{stands, stands-at}
 use Rattle.rules.proofs.acceptance.Sound.{adding, NoName, Numbered, SoundStatement}
 use Rattle.rules.proofs.runs.Keeping.{AnyNumber, MadeKeeps}
-use Rattle.rules.proofs.layout.Fits.{FitsMemory}
+use Rattle.rules.specs.Fits.{FitsMemory}
 use Rattle.rules.proofs.layout.KeptPredicates.{MadeWith, fits-invariant, makeBlock-keeps}
 use Rattle.rules.proofs.layout.FittingValues.{evaluate-fits}
 use Rattle.rules.proofs.layout.Reachable.{extend-fits}
@@ -27,7 +27,7 @@ use Rattle.rules.proofs.layout.ReachableRoundTrip.{run-fits}
 use Rattle.rules.proofs.runs.StatementArms.{statement-within, sequence-children, branch-children, while-children}
 use Rattle.rules.proofs.runs.StatementArms.{let-child, sound-assign, sound-sequence, sound-branch, sound-while}
 use Rattle.rules.proofs.runs.StatementArms.{sound-let}
-use Rattle.rules.proofs.runs.PlainArms.{Under, expressionAt, statementAt}
+use Rattle.rules.proofs.runs.PlainArms.{Under}
 use Rattle.table.specs.Within.{Within}
 use Rattle.memory_cells.specs.Changes.{EvaluatedFits}
 use Rattle.plain_runs.specs.Running.{Ready}

@@ -3,15 +3,14 @@ use Prim.Native.Nat.{ℕ, _<_}
 use mathlib.Core.List.{List}
 use mathlib.Core.Path.{_≡_}
 use Rattle.rules.specs.Records.{markOf, childA}
-use Rattle.rules.specs.Kinds.{statement}
+use Rattle.rules.specs.Kinds.{statement, source}
 use Rattle.rules.specs.Memory.{Memory, endBlock}
 use Rattle.rules.specs.Evaluation.{Variables, extend}
 use Rattle.rules.specs.Flow.{Outcome, finished, Ending, ending, next}
 use Rattle.rules.specs.Plain.{run}
 use Rattle.rules.proofs.acceptance.Sound.{Scope, SoundStatement}
-use Rattle.rules.proofs.layout.Fits.{FitsMemory}
-use Rattle.rules.proofs.layout.Reachable.{NamesFit}
-use Rattle.rules.proofs.runs.PlainArms.{HasSort, statementAt}
+use Rattle.rules.specs.Fits.{FitsMemory, VariablesFit}
+use Rattle.rules.specs.Nodes.{HasSort, statementAt}
 use Rattle.table.specs.Within.{Within}
 use Rattle.memory_cells.specs.Changes.{Becomes}
 use Rattle.run_endings.specs.declared.Ended.{Ended}
@@ -19,10 +18,10 @@ use Rattle.run_endings.specs.Ending.{result}
 
 -- statement n may run: its numbers and names fit, and so do those that it finds
 pub record Ready (t : List ℕ) (n : ℕ) (ρ : Variables) (m : Memory) : Type 0 where
-  pub is : HasSort statement t n
+  pub is : HasSort source statement t n
   pub scope : Scope
   pub sound : SoundStatement (statementAt t n) scope
-  pub names : NamesFit ρ
+  pub names : VariablesFit ρ
   pub fits : FitsMemory m
 
 -- child A of let n may run, its variable being block k

@@ -1,12 +1,12 @@
 // The plain run of a statement, by recursion on the record number; sequences and the turns of a while are loops.
 ghost use mathlib.Core.Path.{_≡_};
 ghost use mathlib.Core.Logic.{_≢_};
-ghost use Rattle.rules.specs.Kinds.{expression, predicate};
+ghost use Rattle.rules.specs.Kinds.{expression, predicate, source};
 ghost use Rattle.rules.specs.Records.{kindOf, childA};
 ghost use Rattle.rules.specs.Evaluation.{evaluateSource, evaluatePredicate, condition};
 ghost use Rattle.rules.specs.Plain.{run};
 ghost use Rattle.rules.specs.Layout.{memoryOf};
-ghost use Rattle.rules.proofs.runs.PlainArms.{HasSort, expressionAt, predicateAt, statementAt};
+ghost use Rattle.rules.specs.Nodes.{HasSort, expressionAt, predicateAt, statementAt};
 ghost use Rattle.table.specs.Within.{Within};
 ghost use Rattle.evaluation.specs.State.{variablesOf};
 ghost use Rattle.plain_runs.specs.Running.{Ready, Inside, enclosed, Ran};
@@ -26,7 +26,7 @@ fn test_a(
     temporaries: &Temporaries,
     mem: &ExecutionMemory,
 ) -> Test
-    requires { ⌜ Within (now table) n × HasSort expression (now table) (childA (now table) n) ⌝ }
+    requires { ⌜ Within (now table) n × HasSort source expression (now table) (childA (now table) n) ⌝ }
     ensures { λ r. ⌜ r ≡ condition (evaluateSource (expressionAt (now (table .entry)) (childA (now (table .entry)) n))
         (variablesOf (now (variables .entry))) (memoryOf (now (mem .entry)))) ⌝ }
 {
@@ -41,7 +41,7 @@ fn test_predicate(
     temporaries: &Temporaries,
     mem: &ExecutionMemory,
 ) -> Test
-    requires { ⌜ Within (now table) n × HasSort predicate (now table) (childA (now table) n) ⌝ }
+    requires { ⌜ Within (now table) n × HasSort source predicate (now table) (childA (now table) n) ⌝ }
     ensures { λ r. ⌜ r ≡ condition (evaluatePredicate (predicateAt (now (table .entry)) (childA (now (table .entry)) n))
         (variablesOf (now (variables .entry))) (memoryOf (now (mem .entry)))) ⌝ }
 {

@@ -1,5 +1,4 @@
 -- Layouts: what fits into its bytes, and is read back from them.
-pub mod Fits
 pub mod FitsLaws
 pub mod LayoutLaws
 pub mod ImagePuts

@@ -1,6 +1,5 @@
 -- What is emitted: how many records, accepted by the checker, and read back as the target's trees.
 pub mod Counting
-pub mod RecordTrees
 pub mod RecordSizes
 pub mod RecordCopies
 pub mod SizeBound

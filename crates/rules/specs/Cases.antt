@@ -13,15 +13,15 @@ use Rattle.rules.specs.Listing.{listing}
 use Rattle.rules.specs.declared.Answer.{Answer}
 
 -- a record: kind, mark, A, B, C, literal
-abbrev pub line : ℕ → ℕ → ℕ → ℕ → ℕ → ℤ → Record
-line k m a b c z = record { kind = k; mark = m; a = a; b = b; c = c; literal = z }
+abbrev pub ofAll : ℕ → ℕ → ℕ → ℕ → ℕ → ℤ → Record
+ofAll k m a b c z = record { kind = k; mark = m; a = a; b = b; c = c; literal = z }
 
 -- a record with nothing but its children, and a literal
 abbrev pub of : ℕ → ℕ → ℕ → Record
-of k a b = line k 0 a b 0 (pos 0)
+of k a b = ofAll k 0 a b 0 (pos 0)
 
 abbrev pub literal : ℤ → Record
-literal z = line 1 0 0 0 0 z
+literal z = ofAll 1 0 0 0 0 z
 
 abbrev pub minus : ℕ → ℤ
 minus n = negℤ (pos n)
@@ -52,13 +52,13 @@ p1 = of 10 0 0 ∷ of 2 1 0 ∷ of 20 2 0 ∷ of 30 3 0 ∷ of 48 4 0 ∷ []
 
 -- P2 to P4, o being the operator's number: variable 0 takes x by y, of kind 4
 abbrev pub division : ℕ → ℤ → ℤ → List Record
-division o x y = of 10 0 0 ∷ literal x ∷ literal y ∷ line 4 o 2 3 0 (pos 0) ∷ of 41 1 4 ∷ []
+division o x y = of 10 0 0 ∷ literal x ∷ literal y ∷ ofAll 4 o 2 3 0 (pos 0) ∷ of 41 1 4 ∷ []
 
 -- and the assertion that x by y, of kind 24, equals z; in P4 it ends before z counts
 abbrev pub assertion : ℕ → ℤ → ℤ → ℤ → List Record
 assertion o x y z =
-    literal x ∷ of 20 1 0 ∷ literal y ∷ of 20 3 0 ∷ line 24 o 2 4 0 (pos 0)
-    ∷ literal z ∷ of 20 6 0 ∷ line 32 7 5 7 0 (pos 0) ∷ of 48 8 0 ∷ []
+    literal x ∷ of 20 1 0 ∷ literal y ∷ of 20 3 0 ∷ ofAll 24 o 2 4 0 (pos 0)
+    ∷ literal z ∷ of 20 6 0 ∷ ofAll 32 7 5 7 0 (pos 0) ∷ of 48 8 0 ∷ []
 
 -- variable 0's cell in an execution memory: kind, owner, pointed-to name and five zeros, then its integer or offset
 abbrev pub variableCell : List ℕ → List ℤ
@@ -76,10 +76,10 @@ p5 z = of 10 0 0 ∷ of 2 1 0 ∷ literal z ∷ of 5 2 3 ∷ of 20 4 0 ∷ of 30
 
 -- variable 5, and its let
 abbrev pub five : Record
-five = line 10 5 0 0 0 (pos 0)
+five = ofAll 10 5 0 0 0 (pos 0)
 
 abbrev pub letFive : ℕ → Record
-letFive a = line 47 5 a 0 0 (pos 0)
+letFive a = ofAll 47 5 a 0 0 (pos 0)
 
 -- "P6 in a fresh let the variable is valid and not initialised"
 abbrev pub p6 : List Record
@@ -110,8 +110,8 @@ blockAfter rs k = part 8 (plain rs .memory) (blockPlace (k - 1))
 -- "P10 false 'and' a read of an undefined cell is false": 0 = 1 and x = 1
 abbrev pub p10 : List Record
 p10 =
-    literal (pos 0) ∷ of 20 1 0 ∷ literal (pos 1) ∷ of 20 3 0 ∷ line 32 7 2 4 0 (pos 0)
-    ∷ five ∷ of 2 6 0 ∷ of 20 7 0 ∷ literal (pos 1) ∷ of 20 9 0 ∷ line 32 7 8 10 0 (pos 0)
+    literal (pos 0) ∷ of 20 1 0 ∷ literal (pos 1) ∷ of 20 3 0 ∷ ofAll 32 7 2 4 0 (pos 0)
+    ∷ five ∷ of 2 6 0 ∷ of 20 7 0 ∷ literal (pos 1) ∷ of 20 9 0 ∷ ofAll 32 7 8 10 0 (pos 0)
     ∷ of 34 5 11 ∷ of 48 12 0 ∷ letFive 13 ∷ []
 
 -- what the rules give, case by case

@@ -13,7 +13,7 @@ use Rattle.rules.specs.Watched.{WatchedState, watch}
 use Rattle.rules.specs.Translation.{translate, translation}
 use Rattle.rules.specs.Layout.{blockBytes, recordedBytes}
 use Rattle.rules.specs.Answers.{endingAnswer, watchedStart, watchedOutcome, watchedEnded}
-use Rattle.rules.specs.Cases.{inputs, line, of, literal, stop, five, letFive, p5, p6, p7, p9}
+use Rattle.rules.specs.Cases.{inputs, of, literal, stop, five, letFive, p5, p6, p7, p9, ofAll}
 
 -- a program's plain run, and the watched run of its translation
 unfoldable pub plainly : List Record → Ending Memory
@@ -34,13 +34,13 @@ readBack rs = stop (watchedEnded (ending (watchedOutcome (translation (tableByte
 -- "reporting 33 where 41 stops the evaluation": in a fresh let, assert x = 1
 abbrev pub undecided : List Record
 undecided =
-    five ∷ of 2 1 0 ∷ of 20 2 0 ∷ literal (pos 1) ∷ of 20 4 0 ∷ line 32 7 3 5 0 (pos 0) ∷ of 48 6 0 ∷ letFive 7 ∷ []
+    five ∷ of 2 1 0 ∷ of 20 2 0 ∷ literal (pos 1) ∷ of 20 4 0 ∷ ofAll 32 7 3 5 0 (pos 0) ∷ of 48 6 0 ∷ letFive 7 ∷ []
 
 -- a later assertion that is false: assert 1 = 1, then assert 0 = 1
 abbrev pub later : List Record
 later =
-    literal (pos 1) ∷ of 20 1 0 ∷ literal (pos 1) ∷ of 20 3 0 ∷ line 32 7 2 4 0 (pos 0) ∷ of 48 5 0
-    ∷ literal (pos 0) ∷ of 20 7 0 ∷ literal (pos 1) ∷ of 20 9 0 ∷ line 32 7 8 10 0 (pos 0) ∷ of 48 11 0
+    literal (pos 1) ∷ of 20 1 0 ∷ literal (pos 1) ∷ of 20 3 0 ∷ ofAll 32 7 2 4 0 (pos 0) ∷ of 48 5 0
+    ∷ literal (pos 0) ∷ of 20 7 0 ∷ literal (pos 1) ∷ of 20 9 0 ∷ ofAll 32 7 8 10 0 (pos 0) ∷ of 48 11 0
     ∷ of 44 6 12 ∷ []
 
 -- p takes a new cell, which is freed, and then *p = 5

@@ -6,7 +6,7 @@ use lib.Dec.{eqb}
 use lib.IntN.{ℤ, pos}
 use lib.ListN.{getD}
 use Rattle.rules.specs.Sizes.{nameCount, cellCount, blocksLength}
-use Rattle.rules.specs.Words.{digits, wordAt, integerAt, integerBytes, table, flat}
+use Rattle.rules.specs.Words.{digits, wordAt, integerAt, integerBytes, flat, tabulate}
 use Rattle.rules.specs.Memory.{Memory, one}
 use Rattle.rules.specs.Observation.{Observation}
 use Rattle.rules.specs.declared.Value.{Value}
@@ -94,7 +94,7 @@ cellAt l i =
     (integerAt l (cellPlace i + 8))
 
 unfoldable pub memoryOf : List ℕ → Memory
-memoryOf l = record { blocks = table 0 nameCount (blockAt l); cells = table 0 cellCount (cellAt l) }
+memoryOf l = record { blocks = tabulate 0 nameCount (blockAt l); cells = tabulate 0 cellCount (cellAt l) }
 
 abbrev pub recordedFrom : ℕ → ℕ → ℕ → Recorded
 recordedFrom zero first n = recorded.Unused
@@ -109,4 +109,4 @@ unfoldable pub markAt : List ℕ → ℕ → Bool
 markAt l i = eqb (getD l (markPlace i) 0) 1
 
 unfoldable pub observationOf : List ℕ → Observation
-observationOf l = record { blocks = table 0 nameCount (recordedAt l); marks = table 0 cellCount (markAt l) }
+observationOf l = record { blocks = tabulate 0 nameCount (recordedAt l); marks = tabulate 0 cellCount (markAt l) }

@@ -26,3 +26,5 @@ pub mod Listing
 pub mod Cases
 pub mod CommonErrors
 pub mod Demand3
+pub mod Fits
+pub mod RecordTrees

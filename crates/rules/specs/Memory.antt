@@ -42,9 +42,9 @@ abbrev pub named : {A : Type 0} → List A → ℕ → A → A
 named l zero d = d
 named l (suc k) d = getD l k d
 
-abbrev pub rename : {A : Type 0} → List A → ℕ → A → List A
-rename l zero x = l
-rename l (suc k) x = set l k x
+abbrev pub setNamed : {A : Type 0} → List A → ℕ → A → List A
+setNamed l zero x = l
+setNamed l (suc k) x = set l k x
 
 abbrev pub blockOf : Memory → ℕ → Block
 blockOf m k = named (m .blocks) k block.Dead
@@ -138,7 +138,7 @@ blockFor freeable first n = block.Freeable first n
 
 abbrev pub withBlock : Memory → Use → ℕ → ℕ → ℕ → Memory
 withBlock m u k first n = record {
-  blocks = rename (m .blocks) k (blockFor u first n);
+  blocks = setNamed (m .blocks) k (blockFor u first n);
   cells = fill (m .cells) first n (cell.Holds k value.Undefined);
 }
 
@@ -163,7 +163,7 @@ makeBlock m u n = makeAt m u n (nextName m) (freeRun m n)
 abbrev pub withoutCells : Memory → ℕ → Recorded → Memory
 withoutCells m k recorded.Unused = m
 withoutCells m k (recorded.Live first n) = record {
-  blocks = rename (m .blocks) k block.Dead;
+  blocks = setNamed (m .blocks) k block.Dead;
   cells = fill (m .cells) first n cell.Free;
 }
 withoutCells m k recorded.Dead = m

@@ -7,8 +7,9 @@ use mathlib.Core.Path.{_≡_}
 use lib.Dec.{ltb, leb, eqb}
 use lib.IntN.{ℤ, pos, natAbs}
 use lib.ListN.{getD}
-use Rattle.rules.specs.Records.{Record, fieldsOf, recordCount, kindOf, recordAt}
+use Rattle.rules.specs.Records.{Record, fieldsOf, recordCount, kindOf, recordAt, literalOf}
 use Rattle.rules.specs.Kinds.{Language, source, target, sortNumber, Field, unnamed, child, number, Form, formOf}
+use Rattle.rules.specs.Kinds.{Sort}
 use Rattle.rules.specs.Kinds.{beside, expression, place, term, predicate, statement}
 use Rattle.rules.specs.Checker.{all, recordFault}
 use Rattle.rules.specs.Trees.{Operator, add, subtract, multiply, divide, nearest, atMost, equal, shift, Query}
@@ -19,7 +20,8 @@ use Rattle.rules.specs.Trees as tree
 use Rattle.rules.specs.TargetTrees.{TargetStatement}
 use Rattle.rules.specs.TargetTrees as target-tree
 
--- operators and queries by their numbers; 8 and 5 stand for what no accepted record has
+-- Operators by their numbers. Kind 5 names no operator, so that its mark is 0 ("Fields not named are zero"), and 0 is
+-- the shift: the code runs kind 5 by its mark, as it runs kind 4. No accepted record has a number above 8.
 abbrev pub operatorOf : ℕ → Operator
 operatorOf zero = shift
 operatorOf (suc zero) = add
@@ -31,6 +33,7 @@ operatorOf (suc (suc (suc (suc (suc (suc zero)))))) = atMost
 operatorOf (suc (suc (suc (suc (suc (suc (suc zero))))))) = equal
 operatorOf (suc (suc (suc (suc (suc (suc (suc (suc n)))))))) = shift
 
+-- queries by their numbers, of which an accepted record has 1 to 5
 abbrev pub queryOf : ℕ → Query
 queryOf zero = blockLength
 queryOf (suc zero) = valid
@@ -98,25 +101,25 @@ asStatement d (statementNode s) = s
 asStatement d junk = d
 
 -- what stands for a kind in a list, and else d
-infix 70 _⇒_
+infix 70 _gives_
 pub data Entry (A : Type 0) : Type 0 where
-  _⇒_ : ℕ → A → Entry A
+  _gives_ : ℕ → A → Entry A
 
 abbrev pub byKind : {A : Type 0} → ℕ → List (Entry A) → A → A
 byKind k [] d = d
-byKind k ((j ⇒ x) ∷ es) d = cond (eqb k j) x (byKind k es d)
+byKind k ((j gives x) ∷ es) d = cond (eqb k j) x (byKind k es d)
 
 -- an expression or a place of the record's kind; `temporaryOf` makes place 12
 abbrev pub expressionOf : {T S : Type 0} → (ℕ → Node T S) → Record → Node T S → Node T S → Node T S
 expressionOf temporaryOf r a b =
     byKind (r .kind)
-    (1 ⇒ expressionNode (literal (r .literal))
-    ∷ 2 ⇒ expressionNode (read (asPlace a))
-    ∷ 3 ⇒ expressionNode (address (asPlace a))
-    ∷ 4 ⇒ expressionNode (operation (operatorOf (r .mark)) (asExpression a) (asExpression b))
-    ∷ 5 ⇒ expressionNode (shifted (asExpression a) (asExpression b))
-    ∷ 10 ⇒ placeNode (variable (r .mark))
-    ∷ 11 ⇒ placeNode (pointed (asExpression a))
+    (1 gives expressionNode (literal (r .literal))
+    ∷ 2 gives expressionNode (read (asPlace a))
+    ∷ 3 gives expressionNode (address (asPlace a))
+    ∷ 4 gives expressionNode (operation (operatorOf (r .mark)) (asExpression a) (asExpression b))
+    ∷ 5 gives expressionNode (shifted (asExpression a) (asExpression b))
+    ∷ 10 gives placeNode (variable (r .mark))
+    ∷ 11 gives placeNode (pointed (asExpression a))
     ∷ [])
     (temporaryOf (r .mark))
 
@@ -139,26 +142,26 @@ sourceOf n r cs =
     let b = getD cs 1 junk in
     let c = getD cs 2 junk in
     byKind (r .kind)
-    (20 ⇒ termNode (value (asExpression a))
-    ∷ 21 ⇒ termNode (asked base (asTerm a))
-    ∷ 22 ⇒ termNode (asked offset (asTerm a))
-    ∷ 23 ⇒ termNode (asked blockLength (asTerm a))
-    ∷ 24 ⇒ termNode (combined (operatorOf (r .mark)) (asTerm a) (asTerm b))
-    ∷ 30 ⇒ predicateNode (holds valid (asTerm a))
-    ∷ 31 ⇒ predicateNode (holds initialised (asTerm a))
-    ∷ 32 ⇒ predicateNode (compared (operatorOf (r .mark)) (asTerm a) (asTerm b))
-    ∷ 33 ⇒ predicateNode (negated (asPredicate a))
-    ∷ 34 ⇒ predicateNode (both (asPredicate a) (asPredicate b))
-    ∷ 35 ⇒ predicateNode (either (asPredicate a) (asPredicate b))
-    ∷ 40 ⇒ statementNode (tree.skip n)
-    ∷ 41 ⇒ statementNode (tree.assign n (asPlace a) (asExpression b))
-    ∷ 42 ⇒ statementNode (tree.new n (asPlace a) (asExpression b))
-    ∷ 43 ⇒ statementNode (tree.free n (asExpression a))
-    ∷ 44 ⇒ statementNode (tree.sequence n (sourceStatement a) (sourceStatement b))
-    ∷ 45 ⇒ statementNode (tree.branch n (asExpression a) (sourceStatement b) (sourceStatement c))
-    ∷ 46 ⇒ statementNode (tree.while n (asExpression a) (sourceStatement b))
-    ∷ 47 ⇒ statementNode (tree.letIn n (r .mark) (sourceStatement a))
-    ∷ 48 ⇒ statementNode (tree.assert n (asPredicate a))
+    (20 gives termNode (value (asExpression a))
+    ∷ 21 gives termNode (asked base (asTerm a))
+    ∷ 22 gives termNode (asked offset (asTerm a))
+    ∷ 23 gives termNode (asked blockLength (asTerm a))
+    ∷ 24 gives termNode (combined (operatorOf (r .mark)) (asTerm a) (asTerm b))
+    ∷ 30 gives predicateNode (holds valid (asTerm a))
+    ∷ 31 gives predicateNode (holds initialised (asTerm a))
+    ∷ 32 gives predicateNode (compared (operatorOf (r .mark)) (asTerm a) (asTerm b))
+    ∷ 33 gives predicateNode (negated (asPredicate a))
+    ∷ 34 gives predicateNode (both (asPredicate a) (asPredicate b))
+    ∷ 35 gives predicateNode (either (asPredicate a) (asPredicate b))
+    ∷ 40 gives statementNode (tree.skip n)
+    ∷ 41 gives statementNode (tree.assign n (asPlace a) (asExpression b))
+    ∷ 42 gives statementNode (tree.new n (asPlace a) (asExpression b))
+    ∷ 43 gives statementNode (tree.free n (asExpression a))
+    ∷ 44 gives statementNode (tree.sequence n (sourceStatement a) (sourceStatement b))
+    ∷ 45 gives statementNode (tree.branch n (asExpression a) (sourceStatement b) (sourceStatement c))
+    ∷ 46 gives statementNode (tree.while n (asExpression a) (sourceStatement b))
+    ∷ 47 gives statementNode (tree.letIn n (r .mark) (sourceStatement a))
+    ∷ 48 gives statementNode (tree.assert n (asPredicate a))
     ∷ [])
     (expressionOf (λ m. junk) r a b)
 
@@ -169,24 +172,24 @@ targetOf s r cs =
     let b = getD cs 1 junk in
     let c = getD cs 2 junk in
     byKind (r .kind)
-    (40 ⇒ statementNode (target-tree.skip s)
-    ∷ 41 ⇒ statementNode (target-tree.assign s (asPlace a) (asExpression b))
-    ∷ 42 ⇒ statementNode (target-tree.new s (asPlace a) (asExpression b))
-    ∷ 43 ⇒ statementNode (target-tree.free s (asExpression a))
-    ∷ 44 ⇒ statementNode (target-tree.sequence s (targetStatement a) (targetStatement b))
-    ∷ 45 ⇒ statementNode (target-tree.branch s (asExpression a) (targetStatement b) (targetStatement c))
-    ∷ 46 ⇒ statementNode (target-tree.while s (asExpression a) (targetStatement b))
-    ∷ 47 ⇒ statementNode (target-tree.letIn s (r .mark) (targetStatement a))
-    ∷ 60 ⇒ statementNode (target-tree.takeAddress s (r .mark) (asPlace a))
-    ∷ 61 ⇒ statementNode (target-tree.takeValue s (r .mark) (asExpression a))
-    ∷ 63 ⇒ statementNode (target-tree.takeOperation s (r .mark) (operatorOf (r .c)))
-    ∷ 64 ⇒ statementNode (target-tree.takeQuery s (r .mark) (queryOf (r .c)))
-    ∷ 65 ⇒ statementNode (target-tree.takeNot s (r .mark))
-    ∷ 66 ⇒ statementNode (target-tree.branchOn s (r .mark) (targetStatement b) (targetStatement c))
-    ∷ 67 ⇒ statementNode (target-tree.assertOn s (r .mark))
-    ∷ 68 ⇒ statementNode (target-tree.storeBlock s (r .mark))
-    ∷ 69 ⇒ statementNode (target-tree.deleteBlock s (r .mark))
-    ∷ 70 ⇒ statementNode (target-tree.initialise s (r .mark))
+    (40 gives statementNode (target-tree.skip s)
+    ∷ 41 gives statementNode (target-tree.assign s (asPlace a) (asExpression b))
+    ∷ 42 gives statementNode (target-tree.new s (asPlace a) (asExpression b))
+    ∷ 43 gives statementNode (target-tree.free s (asExpression a))
+    ∷ 44 gives statementNode (target-tree.sequence s (targetStatement a) (targetStatement b))
+    ∷ 45 gives statementNode (target-tree.branch s (asExpression a) (targetStatement b) (targetStatement c))
+    ∷ 46 gives statementNode (target-tree.while s (asExpression a) (targetStatement b))
+    ∷ 47 gives statementNode (target-tree.letIn s (r .mark) (targetStatement a))
+    ∷ 60 gives statementNode (target-tree.takeAddress s (r .mark) (asPlace a))
+    ∷ 61 gives statementNode (target-tree.takeValue s (r .mark) (asExpression a))
+    ∷ 63 gives statementNode (target-tree.takeOperation s (r .mark) (operatorOf (r .c)))
+    ∷ 64 gives statementNode (target-tree.takeQuery s (r .mark) (queryOf (r .c)))
+    ∷ 65 gives statementNode (target-tree.takeNot s (r .mark))
+    ∷ 66 gives statementNode (target-tree.branchOn s (r .mark) (targetStatement b) (targetStatement c))
+    ∷ 67 gives statementNode (target-tree.assertOn s (r .mark))
+    ∷ 68 gives statementNode (target-tree.storeBlock s (r .mark))
+    ∷ 69 gives statementNode (target-tree.deleteBlock s (r .mark))
+    ∷ 70 gives statementNode (target-tree.initialise s (r .mark))
     ∷ [])
     (expressionOf (λ m. placeNode (temporary m)) r a b)
 
@@ -252,3 +255,34 @@ sourceProgram t = sourceStatement (nodeAt source t (recordCount t))
 
 abbrev pub targetProgram : List ℕ → TargetStatement
 targetProgram t = targetStatement (nodeAt target t (recordCount t))
+
+-- record n is there, keeps rules 3–5 and is of the sort, and all below it is in order
+abbrev pub HasSort : Language → Sort → List ℕ → ℕ → Type 0
+HasSort l s t n = sortOfNode l (nodeAt l t n) ≡ sortNumber s
+
+-- the trees of record n of a source table
+abbrev pub expressionAt : List ℕ → ℕ → Expression ⊥
+expressionAt t n = asExpression (nodeAt source t n)
+
+abbrev pub placeAt : List ℕ → ℕ → Place ⊥
+placeAt t n = asPlace (nodeAt source t n)
+
+abbrev pub predicateAt : List ℕ → ℕ → Predicate
+predicateAt t n = asPredicate (nodeAt source t n)
+
+abbrev pub statementAt : List ℕ → ℕ → Statement
+statementAt t n = sourceStatement (nodeAt source t n)
+
+-- the trees of record n of a target table
+abbrev pub targetExpressionAt : List ℕ → ℕ → Expression ℕ
+targetExpressionAt t n = asExpression (nodeAt target t n)
+
+abbrev pub targetPlaceAt : List ℕ → ℕ → Place ℕ
+targetPlaceAt t n = asPlace (nodeAt target t n)
+
+abbrev pub targetStatementAt : List ℕ → ℕ → TargetStatement
+targetStatementAt t n = targetStatement (nodeAt target t n)
+
+-- "a target literal is the number of the source statement it came from"
+abbrev pub numberAt : List ℕ → ℕ → ℕ
+numberAt t n = natAbs (literalOf t n)

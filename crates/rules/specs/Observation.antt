@@ -7,7 +7,7 @@ use lib.IntN.{ℤ, pos, negsuc}
 use lib.ListN.{length, getD, set, replicate}
 use Rattle.rules.specs.Sizes.{nameCount, cellCount}
 use Rattle.rules.specs.Trees.{Query}
-use Rattle.rules.specs.Memory.{Memory, recordedOf, named, rename, locatedIn, lowestRun, fill, onInteger}
+use Rattle.rules.specs.Memory.{Memory, recordedOf, named, locatedIn, lowestRun, fill, onInteger, setNamed}
 use Rattle.rules.specs.Memory.{onPointer}
 use Rattle.rules.specs.Evaluation.{isInitialised, queried}
 use Rattle.rules.specs.declared.Pointer.{Pointer}
@@ -30,8 +30,8 @@ pub record Observation : Type 0 where
 abbrev pub recordOf : Observation → ℕ → Recorded
 recordOf o k = named (o .blocks) k recorded.Dead
 
-abbrev pub markOf : Observation → ℕ → Bool
-markOf o i = getD (o .marks) i false
+abbrev pub isMarked : Observation → ℕ → Bool
+isMarked o i = getD (o .marks) i false
 
 -- a mark is free where it lies in no live block
 abbrev pub covers : Recorded → ℕ → Bool
@@ -53,7 +53,7 @@ pub data Noted : Type 0 where
   refused : ℕ → Noted
 
 abbrev pub withMarks : Observation → ℕ → Recorded → ℕ → ℕ → Observation
-withMarks o k b first n = record { blocks = rename (o .blocks) k b; marks = fill (o .marks) first n false }
+withMarks o k b first n = record { blocks = setNamed (o .blocks) k b; marks = fill (o .marks) first n false }
 
 -- "48 .. store not at offset 0, of a known name, below 1 or without marks": a name from 1 on that is unused
 abbrev pub storeAt : Observation → ℕ → ℕ → Recorded → Search → Noted
@@ -102,7 +102,7 @@ initialise o v = onPointer v refused (λ p. markAt o (locateMark o p))
 -- the five queries
 abbrev pub queryObservation : Query → Observation → Value → Evaluated
 queryObservation q o v =
-    onPointer v evaluated.Stopped (λ p. queried q (recordOf o (p .name)) (λ i. markOf o i) p)
+    onPointer v evaluated.Stopped (λ p. queried q (recordOf o (p .name)) (λ i. isMarked o i) p)
 
 abbrev pub emptyObservation : Observation
 emptyObservation = record { blocks = replicate nameCount recorded.Unused; marks = replicate cellCount false }

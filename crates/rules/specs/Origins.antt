@@ -6,7 +6,7 @@ use lib.Dec.{eqb}
 use Rattle.rules.specs.Records.{fieldsOf, recordCount, kindOf, recordAt}
 use Rattle.rules.specs.Kinds.{source, between}
 use Rattle.rules.specs.Checker.{total, parentOf}
-use Rattle.rules.specs.Nodes.{_⇒_, byKind}
+use Rattle.rules.specs.Nodes.{byKind, _gives_}
 use Rattle.rules.specs.declared.Search.the-variants as search
 
 -- "Parts listed in order nest as 44(first, 44(second, ..))": the records of a list, from those of its parts
@@ -20,29 +20,29 @@ abbrev pub ownRecords : ℕ → ℕ
 ownRecords k =
     byKind k
     -- "41: 60 t0 place; 41; 70 t0."
-    (41 ⇒ listRecords 1 (1 ∷ 1 ∷ [])
+    (41 gives listRecords 1 (1 ∷ 1 ∷ [])
     -- "42: 60 t0 place; 61 t2 size; 42; 61 t1 read of 12 t0; 68 n=1; 70 t0."
-    ∷ 42 ⇒ listRecords 1 (1 ∷ 1 ∷ 3 ∷ 1 ∷ 1 ∷ [])
+    ∷ 42 gives listRecords 1 (1 ∷ 1 ∷ 3 ∷ 1 ∷ 1 ∷ [])
     -- "43: 61 t0; 43; 69 t0."
-    ∷ 43 ⇒ listRecords 1 (1 ∷ 1 ∷ [])
+    ∷ 43 gives listRecords 1 (1 ∷ 1 ∷ [])
     -- "47: let of (60 t0 variable; 61 t1 literal 1; 68 n=0; body; 60 t0 variable; 69 t0)."
-    ∷ 47 ⇒ (1 + listRecords 2 (2 ∷ 1 ∷ 0 ∷ 2 ∷ 1 ∷ []))
+    ∷ 47 gives (1 + listRecords 2 (2 ∷ 1 ∷ 0 ∷ 2 ∷ 1 ∷ []))
     -- "48: predicate at level 0; 67 t0."
-    ∷ 48 ⇒ listRecords 0 (1 ∷ [])
+    ∷ 48 gives listRecords 0 (1 ∷ [])
     -- "21–23, 30, 31: child at n+1; 64."
-    ∷ 21 ⇒ listRecords 0 (1 ∷ [])
-    ∷ 22 ⇒ listRecords 0 (1 ∷ [])
-    ∷ 23 ⇒ listRecords 0 (1 ∷ [])
-    ∷ 30 ⇒ listRecords 0 (1 ∷ [])
-    ∷ 31 ⇒ listRecords 0 (1 ∷ [])
+    ∷ 21 gives listRecords 0 (1 ∷ [])
+    ∷ 22 gives listRecords 0 (1 ∷ [])
+    ∷ 23 gives listRecords 0 (1 ∷ [])
+    ∷ 30 gives listRecords 0 (1 ∷ [])
+    ∷ 31 gives listRecords 0 (1 ∷ [])
     -- "24, 32: A at n+1; B at n+2; 63."
-    ∷ 24 ⇒ listRecords 0 (0 ∷ 1 ∷ [])
-    ∷ 32 ⇒ listRecords 0 (0 ∷ 1 ∷ [])
+    ∷ 24 gives listRecords 0 (0 ∷ 1 ∷ [])
+    ∷ 32 gives listRecords 0 (0 ∷ 1 ∷ [])
     -- "33: child at n+1; 65."
-    ∷ 33 ⇒ listRecords 0 (1 ∷ [])
+    ∷ 33 gives listRecords 0 (1 ∷ [])
     -- "34: A at n; 66 with B at n, else skip. 35: A at n; 66 with skip, else B at n."
-    ∷ 34 ⇒ listRecords 0 (2 ∷ [])
-    ∷ 35 ⇒ listRecords 0 (2 ∷ [])
+    ∷ 34 gives listRecords 0 (2 ∷ [])
+    ∷ 35 gives listRecords 0 (2 ∷ [])
     ∷ [])
     -- "20 is 61 tn"; "40, 44, 45, 46 keep their form"; expressions and places are copied
     1

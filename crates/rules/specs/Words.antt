@@ -35,9 +35,9 @@ abbrev pub integerBytes : ℤ → List ℕ
 integerBytes z = digits 8 (ofZ w64 z)
 
 -- f at s, s + 1, ..: n of them
-unfoldable pub table : {A : Type 0} → ℕ → ℕ → (ℕ → A) → List A
-table s zero f = []
-table s (suc n) f = f s ∷ table (suc s) n f
+unfoldable pub tabulate : {A : Type 0} → ℕ → ℕ → (ℕ → A) → List A
+tabulate s zero f = []
+tabulate s (suc n) f = f s ∷ tabulate (suc s) n f
 
 -- the bytes of each, one after the other
 unfoldable pub flat : {A : Type 0} → (A → List ℕ) → List A → List ℕ

@@ -17,7 +17,7 @@ use Rattle.rules.specs.declared.Value.the-variants as value
 use Rattle.rules.specs.declared.Evaluated.{Evaluated}
 use Rattle.rules.specs.declared.Evaluated.the-variants as evaluated
 use Rattle.rules.proofs.runs.Keeping.{AnyNumber, AnyValue, AnyPlace, AnyMemory, MadeKeeps, makeAt-keeps}
-use Rattle.rules.proofs.layout.Fits.{FitsName}
+use Rattle.rules.specs.Fits.{FitsName}
 use Rattle.rules.proofs.layout.FitsLaws.{nextName-fits}
 use Rattle.rules.proofs.layout.FittingValues as ranged
 use Rattle.memory_cells.specs.Changes.{Becomes, EvaluatedFits}
@@ -47,7 +47,7 @@ pub does-stop : (k : ℕ) (l : List ℕ) → Does (stopped k (memoryOf l)) k l l
 does-stop k l = record { number = refl; memory = becomes-same refl }
 
 -- values whose numbers fit have names that fit
-pub names-fit : (e : Evaluated) → ranged.EvaluatedFits e → EvaluatedFits e
+pub names-fit : (e : Evaluated) → ranged.FitsEvaluated e → EvaluatedFits e
 names-fit (evaluated.Value value.Undefined) h = tt
 names-fit (evaluated.Value (value.Integer z)) h = tt
 names-fit (evaluated.Value (value.Pointer p)) h = h .0

@@ -8,7 +8,7 @@ use lib.Dec.{leb, eqb}
 use Rattle.rules.specs.Sizes.{targetLimit}
 use Rattle.rules.specs.Records.{kindOf, childA, childB, childC}
 use Rattle.rules.specs.Emission.{treeSize}
-use Rattle.rules.proofs.translation.RecordTrees.{treeAt, Sorted, sizeFrom}
+use Rattle.rules.specs.RecordTrees.{treeAt, Sorted, sizeFrom}
 use Rattle.rules.proofs.translation.RecordSizes.{none-at, SizeLaw}
 
 copies-least : (twice : Bool) (x : ℕ) → x ≤ cond twice 2 1 * x

@@ -4,8 +4,8 @@ use mathlib.Core.List.{List}
 use Rattle.rules.specs.Kinds.{source}
 use Rattle.rules.specs.Nodes.{nodeSort, nodeAt}
 use Rattle.rules.specs.Emission.{RecordTree}
-use Rattle.rules.proofs.translation.RecordTrees.{treeAt}
-pub use Rattle.rules.proofs.translation.RecordTrees.{targetTree, treeAt, Sorted}
+use Rattle.rules.specs.RecordTrees.{treeAt}
+pub use Rattle.rules.specs.RecordTrees.{targetTree, treeAt, Sorted}
 
 -- an expression's or a place's
 abbrev pub copyAt : List ℕ → ℕ → RecordTree

@@ -4,7 +4,7 @@ ghost use Prim.Native.Nat.{_≤_};
 ghost use Rattle.rules.specs.Sizes.{targetLimit};
 ghost use Rattle.rules.specs.Emission.{treeSize};
 ghost use Rattle.rules.specs.Origins.{ownRecords, copiesOfChild};
-ghost use Rattle.rules.proofs.translation.RecordTrees.{treeAt, Sorted, sizeFrom};
+ghost use Rattle.rules.specs.RecordTrees.{treeAt, Sorted, sizeFrom};
 
 // How many records are a kind's own, not its children's.
 fn own_records(kind: u8) -> usize

@@ -14,7 +14,7 @@ use Rattle.rules.specs.Words.{wordAt, integerAt, put}
 use Rattle.rules.specs.Records.{recordCount}
 use Rattle.rules.specs.Kinds.{target}
 use Rattle.rules.specs.Checker.{refuseIf, _otherwise_, check, inputsFault, memoryFault, observationFault}
-use Rattle.rules.specs.Nodes.{targetStatement, targetProgram}
+use Rattle.rules.specs.Nodes.{targetStatement, targetProgram, targetStatementAt}
 use Rattle.rules.specs.TargetTrees.{TargetStatement}
 use Rattle.rules.specs.Memory.{Memory, countFree, startMemory}
 use Rattle.rules.specs.Observation.{Observation, startObservation}
@@ -28,18 +28,16 @@ use Rattle.rules.specs.declared.Answer.{Answer}
 use Rattle.rules.specs.declared.Checked.{Checked}
 use Rattle.rules.specs.declared.Checked.the-variants as checked
 use Rattle.rules.specs.declared.Temporary.the-variants as temporary
-use Rattle.rules.proofs.lists.Lists.{All}
-use Rattle.rules.proofs.lists.Rows.{table-all, getD-zero}
+use Rattle.rules.proofs.lists.Rows.{tabulate-all, getD-zero}
 use Rattle.rules.proofs.acceptance.Sound.{startScope}
 use Rattle.rules.proofs.acceptance.AcceptedPrograms.{accepted-program, padded-program}
-use Rattle.rules.proofs.layout.Fits.{FitsTemporary, FitsMemory, FitsObservation}
+use Rattle.rules.specs.Fits.{FitsTemporary, FitsMemory, FitsObservation, All}
 use Rattle.rules.proofs.layout.KeptPredicates.{startObservation-fits}
 use Rattle.rules.proofs.layout.LayoutLaws.{memory-back, observation-back}
 use Rattle.rules.proofs.layout.Reachable.{startVariables-fit, startTemporaries-fit}
 use Rattle.rules.proofs.layout.ReachableRoundTrip.{start-inside, watched-round-trip}
 use Rattle.rules.proofs.acceptance.Padding.{node-padded}
 use Rattle.rules.proofs.claim.Inputs.{inputs-length}
-use Rattle.rules.proofs.runs.TargetFields.{statementAt}
 use Rattle.evaluation_temporaries.specs.Bytes.{temporaryIn, temporaryPlace, temporariesLength, temporaryAt}
 use Rattle.evaluation_temporaries.specs.Bytes.{temporariesOf}
 use Rattle.run_endings.specs.declared.Ended.{Ended}
@@ -48,7 +46,7 @@ use Rattle.watched_statements.specs.Watching.{lent, Ready, Ran, LeavesSo, Leave
 -- ---- the start
 pub temporaries-start : temporariesOf (replicate temporariesLength 0) ≡ startTemporaries
 unfolding temporariesOf temporaryAt
-temporaries-start = table-all temporaryCount 0 (temporaryAt (replicate temporariesLength 0)) temporary.Empty empty
+temporaries-start = tabulate-all temporaryCount 0 (temporaryAt (replicate temporariesLength 0)) temporary.Empty empty
   where
     empty : (n : ℕ) → temporaryAt (replicate temporariesLength 0) n ≡ temporary.Empty
     empty n =
@@ -73,7 +71,7 @@ module _ (t l : List ℕ) (h : check target t ≡ checked.Accepted) where
   pub table-length : length t ≤ targetLimit * 16
   table-length = let a = accepted-program target t h in omega (arith, a .whole, a .not-too-many)
 
-  pub same-program : statementAt (put l 0 t) (recordCount t) ≡ targetProgram t
+  pub same-program : targetStatementAt (put l 0 t) (recordCount t) ≡ targetProgram t
   same-program =
       ap targetStatement (node-padded t (drop (0 + length t) l) target (recordCount t) (le-refl (recordCount t)))
 

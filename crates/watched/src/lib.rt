@@ -4,15 +4,14 @@ ghost use mathlib.Core.Bool.{false};
 ghost use lib.ListN.{replicate};
 ghost use Rattle.rules.specs.Kinds.{target};
 ghost use Rattle.rules.specs.Checker.{check, inputsFault, memoryFault, observationFault};
-ghost use Rattle.rules.specs.Nodes.{targetProgram};
+ghost use Rattle.rules.specs.Nodes.{targetProgram, targetStatementAt};
 ghost use Rattle.rules.specs.Flow.{ending};
 ghost use Rattle.rules.specs.Plain.{startVariables};
 ghost use Rattle.rules.specs.Watched.{watching, watch, startTemporaries};
 ghost use Rattle.rules.specs.Layout.{memoryOf, observationOf};
 ghost use Rattle.rules.specs.Answers.{watchedEnded, watchedOutcome, watchedBy, runWatched};
 ghost use Rattle.rules.specs.declared.Checked.the-variants as checked;
-ghost use Rattle.rules.proofs.layout.Fits.{FitsMemory, FitsObservation};
-ghost use Rattle.rules.proofs.runs.TargetFields.{statementAt};
+ghost use Rattle.rules.specs.Fits.{FitsMemory, FitsObservation};
 ghost use Rattle.evaluation_temporaries.specs.Bytes.{temporariesLength};
 ghost use Rattle.watched_statements.specs.Watching.{lent, Ready, Leaves, AnsweredBy};
 use rules::Answer;
@@ -35,7 +34,7 @@ fn run_from_start(
     fuel: u32,
 ) -> Ended
     requires { ⌜ Ready (now table) n startVariables (lent (now mem) (now obs) (replicate temporariesLength 0)) ⌝ }
-    ensures { λ r. ⌜ Leaves (watch (statementAt (now (table .entry)) n) startVariables (watching (memoryOf (now (mem .entry)))
+    ensures { λ r. ⌜ Leaves (watch (targetStatementAt (now (table .entry)) n) startVariables (watching (memoryOf (now (mem .entry)))
         (observationOf (now (obs .entry))) startTemporaries) fuel) r
         (now (mem .entry)) (now (mem .exit)) (now (obs .entry)) (now (obs .exit)) ⌝ }
 {

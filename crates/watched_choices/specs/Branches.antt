@@ -9,8 +9,8 @@ use Rattle.rules.specs.Records.{kindOf, markOf, childA}
 use Rattle.rules.specs.Memory.{Memory}
 use Rattle.rules.specs.Evaluation.{Variables, evaluate, condition}
 use Rattle.rules.specs.Watched.{Temporaries, temporaryOf, heldIn}
+use Rattle.rules.specs.Nodes.{targetExpressionAt}
 use Rattle.rules.specs.declared.Test.{Test}
-use Rattle.rules.proofs.runs.TargetFields.{expressionAt}
 
 -- what decides between B and C: condition A of 45, temporary n of 66
 abbrev pub IsBranch : ℕ → Type 0
@@ -19,4 +19,5 @@ IsBranch k = (k ≡ 45) ⊎ (k ≡ 66)
 abbrev pub choice : List ℕ → ℕ → Temporaries → Variables → Memory → Test
 choice t n τ ρ m =
     condition
-    (cond (eqb (kindOf t n) 66) (heldIn τ (markOf t n)) (evaluate (expressionAt t (childA t n)) (temporaryOf τ) ρ m))
+    (cond (eqb (kindOf t n) 66) (heldIn τ (markOf t n))
+    (evaluate (targetExpressionAt t (childA t n)) (temporaryOf τ) ρ m))

@@ -1,9 +1,9 @@
 // The source statement that a target record came from, and what a branch tests.
 ghost use mathlib.Core.Path.{_≡_};
-ghost use Rattle.rules.specs.Kinds.{statement};
+ghost use Rattle.rules.specs.Kinds.{statement, target};
 ghost use Rattle.rules.specs.Records.{kindOf};
 ghost use Rattle.rules.specs.Layout.{memoryOf};
-ghost use Rattle.rules.proofs.runs.TargetFields.{HasSort, numberAt};
+ghost use Rattle.rules.specs.Nodes.{HasSort, numberAt};
 ghost use Rattle.evaluation.specs.State.{variablesOf};
 ghost use Rattle.evaluation_temporaries.specs.Bytes.{temporariesOf};
 ghost use Rattle.watched_choices.specs.Branches.{IsBranch, choice};
@@ -15,7 +15,7 @@ use rules::Variables;
 
 // The source statement that record n came from.
 pub fn statement_of(table: &Table, n: usize) -> u32
-    requires { ⌜ HasSort statement (now table) n ⌝ }
+    requires { ⌜ HasSort target statement (now table) n ⌝ }
     ensures { λ r. ⌜ r ≡ numberAt (now (table .entry)) n ⌝ }
 {
     let literal = table::literal(&table[..], n);
@@ -30,7 +30,7 @@ pub fn test(
     temporaries: &Temporaries,
     mem: &ExecutionMemory,
 ) -> Test
-    requires { ⌜ HasSort statement (now table) n × IsBranch (kindOf (now table) n) ⌝ }
+    requires { ⌜ HasSort target statement (now table) n × IsBranch (kindOf (now table) n) ⌝ }
     ensures { λ r. ⌜ r ≡ choice (now (table .entry)) n (temporariesOf (now (temporaries .entry)))
         (variablesOf (now (variables .entry))) (memoryOf (now (mem .entry))) ⌝ }
 {

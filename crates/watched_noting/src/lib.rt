@@ -2,12 +2,12 @@
 ghost use mathlib.Core.Path.{_≡_};
 ghost use Prim.Native.Nat.{suc, _+_, _<_, _≤_};
 ghost use Rattle.rules.specs.Sizes.{temporaryCount, inputLimit};
-ghost use Rattle.rules.specs.Kinds.{statement};
+ghost use Rattle.rules.specs.Kinds.{statement, target};
 ghost use Rattle.rules.specs.Records.{kindOf, markOf};
 ghost use Rattle.rules.specs.Observation.{storeBlock, deleteBlock, initialise, recordBlock, markAll, startObservation};
 ghost use Rattle.rules.specs.Watched.{heldIn, calledOn, calledOnTwo};
 ghost use Rattle.rules.specs.Layout.{observationOf, observationImage};
-ghost use Rattle.rules.proofs.runs.TargetFields.{HasSort};
+ghost use Rattle.rules.specs.Nodes.{HasSort};
 ghost use Rattle.evaluation_temporaries.specs.Bytes.{temporariesOf};
 ghost use Rattle.observation.specs.Calls.{ObservationBecomes};
 ghost use Rattle.watched_noting.specs.Calls.{Observes, notingNumber, IsNote, noteOf};
@@ -75,7 +75,7 @@ fn mark_cell(temporaries: &Temporaries, obs: &mut ObservationMemory, n: usize) -
 
 // 68 to 70: what record n says of its temporary is noted.
 pub fn note(table: &Table, n: usize, temporaries: &Temporaries, obs: &mut ObservationMemory) -> u32
-    requires { ⌜ HasSort statement (now table) n × IsNote (kindOf (now table) n) ⌝ }
+    requires { ⌜ HasSort target statement (now table) n × IsNote (kindOf (now table) n) ⌝ }
     ensures { λ r. ⌜ Observes (now (obs .entry)) (now (obs .exit)) r
         (noteOf (kindOf (now (table .entry)) n) (temporariesOf (now (temporaries .entry)))
         (markOf (now (table .entry)) n) (observationOf (now (obs .entry)))) ⌝ }

@@ -12,12 +12,13 @@ use Rattle.rules.specs.TargetTrees.{TargetStatement}
 use Rattle.rules.specs.Evaluation.{Variables, condition, extend}
 use Rattle.rules.specs.Watched.{Temporaries, WatchedState, watching, withMemory, valueIn, watch}
 use Rattle.rules.specs.Layout.{memoryOf}
+use Rattle.rules.specs.Nodes.{targetExpressionAt, targetStatementAt, numberAt}
 use Rattle.rules.specs.declared.Test.{Test}
 use Rattle.rules.proofs.runs.Fuel.{watch-fuel}
 use Rattle.rules.proofs.runs.Outcomes.{into-ending, next-ending, decide-ending}
 use Rattle.rules.proofs.runs.TargetRuns.{closing}
 use Rattle.rules.proofs.runs.StatementArms.{sequence-children, while-children}
-use Rattle.rules.proofs.runs.TargetFields.{Under, expressionAt, statementAt, numberAt}
+use Rattle.rules.proofs.runs.TargetFields.{Under}
 use Rattle.rules.proofs.runs.TargetArms.{watch-sequence, watch-branch, watch-branch-on, watch-while-zero}
 use Rattle.rules.proofs.runs.TargetArms.{watch-while-suc}
 use Rattle.rules.proofs.runs.TargetArms.{watch-let}
@@ -52,7 +53,7 @@ module _ {t : List ℕ} {n : ℕ} {ρ : Variables} {x : Lent} (h : Ready t n ρ 
 
   -- a branch, by a condition or by a temporary
   abbrev part : ℕ → WatchedState → ℕ → Outcome WatchedState
-  part k y g = watch (statementAt t k) ρ y g
+  part k y g = watch (targetStatementAt t k) ρ y g
 
   abbrev deciding : Test → ℕ → Outcome WatchedState
   deciding y f = decide (numberAt t n) ρ y (stateOf x) f (part (childB t n) (stateOf x) f) (part (childC t n) (stateOf x) f)
@@ -66,7 +67,7 @@ module _ {t : List ℕ} {n : ℕ} {ρ : Variables} {x : Lent} (h : Ready t n ρ 
       (into-ending 2 (part (childC t n) (stateOf x) f))
 
   chosen : IsBranch (kindOf t n) → (f : ℕ)
-      → ending (watchFrom (statementAt t n) ρ x f) ≡ ending (deciding (choice t n temporaries ρ memory) f)
+      → ending (watchFrom (targetStatementAt t n) ρ x f) ≡ ending (deciding (choice t n temporaries ρ memory) f)
   chosen (inl e) f =
       ap ending (watch-branch t n (h .is) ρ (stateOf x) f e)
       ∙ decided _ f
@@ -77,12 +78,12 @@ module _ {t : List ℕ} {n : ℕ} {ρ : Variables} {x : Lent} (h : Ready t n ρ 
       ∙ ap (λ (y : Test). ending (deciding y f)) (choice-on t n temporaries ρ memory e)
 
   pub branch-by : IsBranch (kindOf t n) → (f : ℕ) (y : Test) → choice t n temporaries ρ memory ≡ y
-      → ending (watchFrom (statementAt t n) ρ x f) ≡ ending (deciding y f)
+      → ending (watchFrom (targetStatementAt t n) ρ x f) ≡ ending (deciding y f)
   branch-by q f y e = chosen q f ∙ ap (λ (z : Test). ending (deciding z f)) e
 
   -- a turn of a while, from the bytes y
   abbrev conditionIn : Lent → Test
-  conditionIn y = condition (valueIn (expressionAt t (childA t n)) ρ (stateOf y))
+  conditionIn y = condition (valueIn (targetExpressionAt t (childA t n)) ρ (stateOf y))
 
   abbrev turning : Lent → Test → ℕ → Outcome WatchedState
   turning y z f =
@@ -90,27 +91,27 @@ module _ {t : List ℕ} {n : ℕ} {ρ : Variables} {x : Lent} (h : Ready t n ρ 
       (finished (stateOf y) f)
 
   pub turn-by : kindOf t n ≡ 46 → (y : Lent) (f : ℕ) → 0 < f → (z : Test) → conditionIn y ≡ z
-      → ending (watchFrom (statementAt t n) ρ y f) ≡ ending (turning y z (f - 1))
+      → ending (watchFrom (targetStatementAt t n) ρ y f) ≡ ending (turning y z (f - 1))
   turn-by q y f p z e =
       let d : f ≡ suc (f - 1) = omega arith in
-      ap (λ (k : ℕ). ending (watchFrom (statementAt t n) ρ y k)) d
+      ap (λ (k : ℕ). ending (watchFrom (targetStatementAt t n) ρ y k)) d
       ∙ ap ending (watch-while-suc t n (h .is) q ρ (stateOf y) (f - 1))
       ∙ decide-ending (numberAt t n) ρ (conditionIn y) (stateOf y) (f - 1) _ _ _ _
       (next-ending 1 (part (childB t n) (stateOf y) (f - 1)) _ _ (λ w g. refl)) refl
       ∙ ap (λ (u : Test). ending (turning y u (f - 1))) e
 
   pub turn-out : kindOf t n ≡ 46 → (y : Lent) (f : ℕ) → f ≤ 0
-      → ending (watchFrom (statementAt t n) ρ y f)
+      → ending (watchFrom (targetStatementAt t n) ρ y f)
       ≡ record { number = 32; statement = numberAt t n; state = stateOf y; fuel = 0 }
   turn-out q y f p =
       let d : f ≡ 0 = omega arith in
-      ap (λ (k : ℕ). ending (watchFrom (statementAt t n) ρ y k)) d
+      ap (λ (k : ℕ). ending (watchFrom (targetStatementAt t n) ρ y k)) d
       ∙ ap ending (watch-while-zero t n (h .is) q ρ (stateOf y))
 
   -- a sequence
   pub sequence-by : kindOf t n ≡ 44 → (y : Lent) (f : ℕ)
-      → ending (watchFrom (statementAt t n) ρ y f)
-      ≡ ending (next (watchFrom (statementAt t (childA t n)) ρ y f) (λ w g. part (childB t n) w g))
+      → ending (watchFrom (targetStatementAt t n) ρ y f)
+      ≡ ending (next (watchFrom (targetStatementAt t (childA t n)) ρ y f) (λ w g. part (childB t n) w g))
   sequence-by q y f =
       ap ending (watch-sequence t n (h .is) ρ (stateOf y) f q)
       ∙ next-ending 0 (part (childA t n) (stateOf y) f) _ _ (λ w g. into-ending 1 (part (childB t n) w g))
@@ -122,19 +123,19 @@ module _ {t : List ℕ} {n : ℕ} {ρ : Variables} {x : Lent} (h : Ready t n ρ 
     block = makeBlock memory fixed 1
 
     abbrev inside : ℕ → WatchedState → ℕ → Outcome WatchedState
-    inside k y g = watch (statementAt t (childA t n)) (extend ρ (markOf t n) k) y g
+    inside k y g = watch (targetStatementAt t (childA t n)) (extend ρ (markOf t n) k) y g
 
     abbrev letting : ℕ → Made Memory → Outcome WatchedState
     letting f z =
         inLet (numberAt t n) ρ (stateOf x) f (madeIn (withMemory (stateOf x)) z) closing (λ k y g. into 0 (inside k y g))
 
     enclosing : (f : ℕ) (y : Made Memory) → block ≡ y
-        → ending (watchFrom (statementAt t n) ρ x f) ≡ ending (letting f y)
+        → ending (watchFrom (targetStatementAt t n) ρ x f) ≡ ending (letting f y)
     enclosing f y e =
         ap ending (watch-let t n (h .is) ρ (stateOf x) f q) ∙ ap (λ (z : Made Memory). ending (letting f z)) e
 
     pub let-made : (f : ℕ) {k : ℕ} → making.Name k ≡ makingOf block
-        → ending (watchFrom (statementAt t n) ρ x f)
+        → ending (watchFrom (targetStatementAt t n) ρ x f)
         ≡ ending (enclosed t n ρ (lent l (x .observation) (x .temporaries)) f k)
     let-made f {k} e =
         enclosing f (made k (madeMemory memory block)) (made-by block k memory e)
@@ -143,7 +144,7 @@ module _ {t : List ℕ} {n : ℕ} {ρ : Variables} {x : Lent} (h : Ready t n ρ 
         (sym (w .view))
 
     pub let-unmade : (f c : ℕ) → making.Stopped c ≡ makingOf block
-        → Ran (watchFrom (statementAt t n) ρ x f) (result c (numberAt t n) f) x
+        → Ran (watchFrom (targetStatementAt t n) ρ x f) (result c (numberAt t n) f) x
         (lent l (x .observation) (x .temporaries))
     let-unmade f c e =
         let u = unmade-by block c e in
@@ -158,7 +159,7 @@ module _ {t : List ℕ} {n : ℕ} {ρ : Variables} {x : Lent} (h : Ready t n ρ 
 -- what ran so far of statement n: statement m is left to run
 pub record Remaining (t : List ℕ) (n : ℕ) (ρ : Variables) (entry : Lent) (fuel m : ℕ) (x : Lent) (left : ℕ)
     : Type 0 where
-  pub rest : ending (watchFrom (statementAt t n) ρ entry fuel) ≡ ending (watchFrom (statementAt t m) ρ x left)
+  pub rest : ending (watchFrom (targetStatementAt t n) ρ entry fuel) ≡ ending (watchFrom (targetStatementAt t m) ρ x left)
   pub bytes : Kept entry x
   pub fits : LentFits x
 
@@ -166,22 +167,22 @@ pub record Remaining (t : List ℕ) (n : ℕ) (ρ : Variables) (entry : Lent) (f
 pub record Part (t : List ℕ) (n : ℕ) (ρ : Variables) (entry : Lent) (fuel m : ℕ) (x : Lent) (left b k f : ℕ)
     (r : Ended) (y : Lent) : Type 0 where
   pub earlier : Remaining t n ρ entry fuel m x left
-  pub ran : Ran (watchFrom (statementAt t b) ρ x f) r x y
-  pub leads : ending (watchFrom (statementAt t m) ρ x left)
-      ≡ ending (next (watchFrom (statementAt t b) ρ x f) (λ w g. watch (statementAt t k) ρ w g))
+  pub ran : Ran (watchFrom (targetStatementAt t b) ρ x f) r x y
+  pub leads : ending (watchFrom (targetStatementAt t m) ρ x left)
+      ≡ ending (next (watchFrom (targetStatementAt t b) ρ x f) (λ w g. watch (targetStatementAt t k) ρ w g))
 
 module _ {t : List ℕ} {n : ℕ} {ρ : Variables} {entry : Lent} {fuel m : ℕ} {x : Lent} {left b k f : ℕ} {r : Ended}
     {y : Lent} (p : Part t n ρ entry fuel m x left b k f r y) where
   abbrev following : WatchedState → ℕ → Outcome WatchedState
-  following w g = watch (statementAt t k) ρ w g
+  following w g = watch (targetStatementAt t k) ρ w g
 
-  finish : r .number ≡ 0 → watchFrom (statementAt t b) ρ x f ≡ finished (stateOf y) (r .fuel)
-  finish d = watch-finished (statementAt t b) ρ f following r x y (p .ran) d
+  finish : r .number ≡ 0 → watchFrom (targetStatementAt t b) ρ x f ≡ finished (stateOf y) (r .fuel)
+  finish d = watch-finished (targetStatementAt t b) ρ f following r x y (p .ran) d
 
-  pub part-ends : r .number ≢ 0 → Ran (watchFrom (statementAt t n) ρ entry fuel) r entry y
+  pub part-ends : r .number ≢ 0 → Ran (watchFrom (targetStatementAt t n) ρ entry fuel) r entry y
   part-ends d =
       ran-is (p .earlier .rest ∙ p .leads)
-      (ran-from (p .earlier .bytes) (next-stays (statementAt t b) ρ f following r x y (p .ran) d))
+      (ran-from (p .earlier .bytes) (next-stays (targetStatementAt t b) ρ f following r x y (p .ran) d))
 
   pub part-finishes : r .number ≡ 0 → Ready t b ρ x → Remaining t n ρ entry fuel k y (r .fuel)
   part-finishes d h = record {
@@ -195,17 +196,17 @@ module _ {t : List ℕ} {n : ℕ} {ρ : Variables} {entry : Lent} {fuel m : ℕ}
       omega (
         arith,
         ap (λ (u : Outcome WatchedState). ending u .fuel) (finish d),
-        watch-fuel (statementAt t b) ρ (stateOf x) f,
+        watch-fuel (targetStatementAt t b) ρ (stateOf x) f,
       )
 
 -- a let's child ran: where it finished, the block ends
 module _ {t : List ℕ} {n : ℕ} {ρ : Variables} {k : ℕ} {r : Ended} {x y : Lent} (i : Inside t n ρ x k) (f : ℕ)
-    (w : Ran (watchFrom (statementAt t (childA t n)) (extend ρ (markOf t n) k) x f) r x y) where
+    (w : Ran (watchFrom (targetStatementAt t (childA t n)) (extend ρ (markOf t n) k) x f) r x y) where
   abbrev ended-block : WatchedState → ℕ → Outcome WatchedState
   ended-block w g = finished (closing w k) g
 
   abbrev child : TargetStatement
-  child = statementAt t (childA t n)
+  child = targetStatementAt t (childA t n)
 
   pub inside-ends : r .number ≡ 0 → {l : List ℕ} → Becomes (y .memory) l (endBlock (memoryOf (y .memory)) k)
       → Ran (enclosed t n ρ x f k) r x (lent l (y .observation) (y .temporaries))

@@ -7,7 +7,7 @@ use native.Mathlib.Decide.{ℕ-discrete}
 use mathlib.Core.Logic.{_≢_, _⊎_, inl, inr}
 use mathlib.Core.Path.{_≡_, refl, sym, ap, _∙_, subst}
 use borrow.Author.Tests.{ne-eqb}
-use Rattle.rules.specs.Kinds.{statement}
+use Rattle.rules.specs.Kinds.{statement, target}
 use Rattle.rules.specs.Records.{kindOf, markOf, childC}
 use Rattle.rules.specs.Memory.{Memory, Change, changed, stopped, changeIn}
 use Rattle.rules.specs.Evaluation.{Variables}
@@ -22,9 +22,10 @@ use Rattle.rules.specs.declared.Evaluated.the-variants as evaluated
 use Rattle.rules.specs.declared.Test.{Test}
 use Rattle.rules.specs.declared.Test.the-variants as test
 use Rattle.rules.specs.Answers.{watchedEndings}
+use Rattle.rules.specs.Nodes.{HasSort, targetStatementAt, numberAt}
 use Rattle.rules.proofs.lists.Among.{Among}
 use Rattle.rules.proofs.runs.Endings.{EndsAmong, watch-endings}
-use Rattle.rules.proofs.runs.TargetFields.{HasSort, statementAt, numberAt, statement-kinds}
+use Rattle.rules.proofs.runs.TargetFields.{statement-kinds}
 use Rattle.rules.proofs.runs.TargetArms.{watch-operation, watch-query, watch-not, watch-store-block, watch-delete-block}
 use Rattle.rules.proofs.runs.TargetArms.{watch-initialise}
 use Rattle.evaluation_temporaries.specs.Bytes.{temporariesOf}
@@ -142,12 +143,12 @@ module _ (a : TargetStatement) (ρ : Variables) (l o τ : List ℕ) (s r : ℕ) 
   acts-asserted t e w f = ran-is (ap ending (e f)) (ran-asserted l o τ s ρ f r t (ends f _ (e f)) w)
 
 -- what takes from the temporaries after its own, and what changes the observation memory
-module _ (t : List ℕ) (n : ℕ) (h : HasSort statement t n) (ρ : Variables) (x : WatchedState) (f : ℕ) where
+module _ (t : List ℕ) (n : ℕ) (h : HasSort target statement t n) (ρ : Variables) (x : WatchedState) (f : ℕ) where
   gives : Evaluated → Outcome WatchedState
   gives v = after (numberAt t n) ρ f (taken x (markOf t n) v)
 
   pub watch-take : IsTake (kindOf t n)
-      → watch (statementAt t n) ρ x f
+      → watch (targetStatementAt t n) ρ x f
       ≡ after (numberAt t n) ρ f
       (taken x (markOf t n) (takenOf (kindOf t n) (childC t n) (x .temporaries) (markOf t n) (x .observation)))
   unfolding gives
@@ -165,7 +166,7 @@ module _ (t : List ℕ) (n : ℕ) (h : HasSort statement t n) (ρ : Variables) (
   calls z = after (numberAt t n) ρ f (observed x z)
 
   pub watch-note : IsNote (kindOf t n)
-      → watch (statementAt t n) ρ x f
+      → watch (targetStatementAt t n) ρ x f
       ≡ after (numberAt t n) ρ f (observed x (noteOf (kindOf t n) (x .temporaries) (markOf t n) (x .observation)))
   unfolding calls
   watch-note (inl e) =
@@ -185,7 +186,7 @@ take-between k a b = go (ℕ-discrete k 63) (ℕ-discrete k 64)
     go (no p) (no q) = inr (inr (omega arith))
 
 -- the last of these kinds are what is left
-pub last-act : {X : Type 0} (t : List ℕ) (n : ℕ) → HasSort statement t n → IsAct (kindOf t n) → {k : ℕ}
+pub last-act : {X : Type 0} (t : List ℕ) (n : ℕ) → HasSort target statement t n → IsAct (kindOf t n) → {k : ℕ}
     → k ≡ kindOf t n
     → (((((((X × (k ≢ 40)) × (k ≢ 41)) × (k ≢ 42)) × (k ≢ 43)) × (k ≢ 60)) × (k ≢ 61)) × (k ≢ 67))
     → ((k < 63) ⊎ (66 ≤ k))

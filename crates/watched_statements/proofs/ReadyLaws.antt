@@ -11,10 +11,11 @@ use Rattle.rules.specs.Flow.{Ending, ending}
 use Rattle.rules.specs.Watched.{Temporaries, temporaryOf, WatchedState}
 use Rattle.rules.specs.Layout.{memoryOf, observationOf}
 use Rattle.rules.specs.declared.Temporary.the-variants as temporary
-use Rattle.rules.proofs.lists.Lists.{All, all-getD}
+use Rattle.rules.proofs.lists.Lists.{all-getD}
 use Rattle.rules.proofs.acceptance.Sound.{adding, Named, SoundTarget}
 use Rattle.rules.proofs.runs.Keeping.{AnyNumber, MadeKeeps}
-use Rattle.rules.proofs.layout.Fits.{FitsTemporary, FitsMemory, FitsObservation}
+use Rattle.rules.specs.Fits.{FitsTemporary, FitsMemory, FitsObservation, All}
+use Rattle.rules.specs.Nodes.{targetExpressionAt, targetStatementAt}
 use Rattle.rules.proofs.layout.KeptPredicates.{MadeWith, fits-invariant, fits-observation-invariant, makeBlock-keeps}
 use Rattle.rules.proofs.layout.FittingValues.{held-fits, evaluate-fits}
 use Rattle.rules.proofs.layout.FittingValues as ranged
@@ -23,7 +24,7 @@ use Rattle.rules.proofs.layout.ReachableRoundTrip.{watch-fits}
 use Rattle.rules.proofs.runs.StatementArms.{statement-within, sequence-children, branch-children, while-children}
 use Rattle.rules.proofs.runs.StatementArms.{let-child, sound-assign, sound-sequence, sound-branch, sound-while}
 use Rattle.rules.proofs.runs.StatementArms.{sound-let}
-use Rattle.rules.proofs.runs.TargetFields.{Under, expressionAt, statementAt, branch-on-fields, sound-branch-on}
+use Rattle.rules.proofs.runs.TargetFields.{Under, branch-on-fields, sound-branch-on}
 use Rattle.table.specs.Within.{Within}
 use Rattle.memory_cells.specs.Changes.{Becomes, EvaluatedFits}
 use Rattle.memory_blocks.specs.Blocks.{makingOf, madeMemory}
@@ -54,29 +55,30 @@ module _ (t : List ℕ) (n : ℕ) (ρ : Variables) (x : Lent) (h : Ready t n ρ 
   abbrev temporaries : Temporaries
   temporaries = temporariesOf (x .temporaries)
 
-  holding : (k : ℕ) → ranged.EvaluatedFits (held (temporaryOf temporaries k))
+  holding : (k : ℕ) → ranged.FitsEvaluated (held (temporaryOf temporaries k))
   holding k = held-fits (temporaryOf temporaries k) (all-getD (h .fits .temporaries) k temporary.Empty tt)
 
   -- the value that an assignment stores
   pub assign-fits : kindOf t n ≡ 41
-      → EvaluatedFits (evaluate (expressionAt t (childB t n)) (temporaryOf temporaries) ρ memory)
+      → EvaluatedFits (evaluate (targetExpressionAt t (childB t n)) (temporaryOf temporaries) ρ memory)
   assign-fits e =
-      names-fit (evaluate (expressionAt t (childB t n)) (temporaryOf temporaries) ρ memory)
+      names-fit (evaluate (targetExpressionAt t (childB t n)) (temporaryOf temporaries) ρ memory)
       (evaluate-fits Named (temporaryOf temporaries) holding ρ (h .names) memory (h .fits .memory) (h .scope)
-      (expressionAt t (childB t n)) (sound-assign target t n (h .is) (h .scope) (h .sound) e .1))
+      (targetExpressionAt t (childB t n)) (sound-assign target t n (h .is) (h .scope) (h .sound) e .1))
 
   -- after the run the numbers still fit
-  pub run-kept : (f : ℕ) (r : Ended) (y : Lent) → Ran (watchFrom (statementAt t n) ρ x f) r x y → LentFits y
+  pub run-kept : (f : ℕ) (r : Ended) (y : Lent) → Ran (watchFrom (targetStatementAt t n) ρ x f) r x y → LentFits y
   run-kept f r y w =
-      lent-fits (ending (watchFrom (statementAt t n) ρ x f)) r x y
-      (watch-fits (statementAt t n) (h .scope) (h .sound) ρ (h .names) (stateOf x) f (record {
+      lent-fits (ending (watchFrom (targetStatementAt t n) ρ x f)) r x y
+      (watch-fits (targetStatementAt t n) (h .scope) (h .sound) ρ (h .names) (stateOf x) f (record {
         memory-kept = h .fits .memory;
         observation-kept = h .fits .observation;
         temporaries-fit = h .fits .temporaries;
       })) w
 
   -- a part that runs with the same variables
-  pub ready-part : (k : ℕ) (y : Lent) → Under statement t n k → SoundTarget (statementAt t k) (h .scope) → LentFits y
+  pub ready-part : (k : ℕ) (y : Lent) → Under statement t n k → SoundTarget (targetStatementAt t k) (h .scope)
+      → LentFits y
       → Ready t k ρ y
   ready-part k y u s f = record { is = u .2; scope = h .scope; sound = s; names = h .names; fits = f }
 
@@ -95,7 +97,8 @@ module _ (t : List ℕ) (n : ℕ) (ρ : Variables) (x : Lent) (h : Ready t n ρ 
   branch-parts (inr e) = let u = branch-on-fields t n (h .is) e in (u .1, u .2)
 
   sound-parts : IsBranch (kindOf t n)
-      → SoundTarget (statementAt t (childB t n)) (h .scope) × SoundTarget (statementAt t (childC t n)) (h .scope)
+      → SoundTarget (targetStatementAt t (childB t n)) (h .scope)
+      × SoundTarget (targetStatementAt t (childC t n)) (h .scope)
   sound-parts (inl e) = sound-branch target t n (h .is) (h .scope) (h .sound) e
   sound-parts (inr e) = sound-branch-on t n (h .is) (h .scope) (h .sound) e
 
@@ -142,6 +145,6 @@ module _ (t : List ℕ) (n : ℕ) (ρ : Variables) (x : Lent) (h : Ready t n ρ 
 
 -- where the first of two statements left the bytes, the second may run
 pub ready-later : (t : List ℕ) (n : ℕ) (ρ : Variables) (f : ℕ) (r : Ended) (x y : Lent) → Ready t n ρ x
-    → kindOf t n ≡ 44 → Ran (watchFrom (statementAt t (childA t n)) ρ x f) r x y → Ready t (childB t n) ρ y
+    → kindOf t n ≡ 44 → Ran (watchFrom (targetStatementAt t (childA t n)) ρ x f) r x y → Ready t (childB t n) ρ y
 ready-later t n ρ f r x y h q w =
     ready-second t n ρ x h q y (run-kept t (childA t n) ρ x (ready-first t n ρ x h q) f r y w)

@@ -4,7 +4,7 @@ use mathlib.Core.List.{List}
 use mathlib.Core.Logic.{_≢_}
 use mathlib.Core.Path.{_≡_}
 use Rattle.rules.specs.Records.{markOf, childA}
-use Rattle.rules.specs.Kinds.{statement}
+use Rattle.rules.specs.Kinds.{statement, target}
 use Rattle.rules.specs.Memory.{endBlock}
 use Rattle.rules.specs.Flow.{Outcome, finished, Ending, ending, next}
 use Rattle.rules.specs.Evaluation.{Variables, extend}
@@ -13,11 +13,9 @@ use Rattle.rules.specs.Watched.{WatchedState, watching, withMemory, watch}
 use Rattle.rules.specs.Layout.{memoryOf, observationOf}
 use Rattle.rules.specs.Answers.{WatchedRun}
 use Rattle.rules.specs.declared.Answer.{Answer}
-use Rattle.rules.proofs.lists.Lists.{All}
 use Rattle.rules.proofs.acceptance.Sound.{Scope, SoundTarget}
-use Rattle.rules.proofs.layout.Fits.{FitsTemporary, FitsMemory, FitsObservation}
-use Rattle.rules.proofs.layout.Reachable.{NamesFit}
-use Rattle.rules.proofs.runs.TargetFields.{HasSort, statementAt, numberAt}
+use Rattle.rules.specs.Fits.{FitsTemporary, FitsMemory, FitsObservation, All, VariablesFit}
+use Rattle.rules.specs.Nodes.{HasSort, targetStatementAt, numberAt}
 use Rattle.table.specs.Within.{Within}
 use Rattle.memory_cells.specs.Changes.{Becomes}
 use Rattle.observation.specs.Calls.{ObservationBecomes}
@@ -49,10 +47,10 @@ pub record LentFits (x : Lent) : Type 0 where
 
 -- statement n may run: its numbers and names fit, and so do those that it finds
 pub record Ready (t : List ℕ) (n : ℕ) (ρ : Variables) (x : Lent) : Type 0 where
-  pub is : HasSort statement t n
+  pub is : HasSort target statement t n
   pub scope : Scope
-  pub sound : SoundTarget (statementAt t n) scope
-  pub names : NamesFit ρ
+  pub sound : SoundTarget (targetStatementAt t n) scope
+  pub names : VariablesFit ρ
   pub fits : LentFits x
 
 -- child A of let n may run, its variable being block k
@@ -65,7 +63,7 @@ pub record Inside (t : List ℕ) (n : ℕ) (ρ : Variables) (x : Lent) (k : ℕ)
 -- a let from where its block is made
 abbrev pub enclosed : List ℕ → ℕ → Variables → Lent → ℕ → ℕ → Outcome WatchedState
 enclosed t n ρ x f k =
-    next (watchFrom (statementAt t (childA t n)) (extend ρ (markOf t n) k) x f)
+    next (watchFrom (targetStatementAt t (childA t n)) (extend ρ (markOf t n) k) x f)
     (λ y g. finished (withMemory y (endBlock (y .memory) k)) g)
 
 -- a run's result and bytes are those of an ending
@@ -81,7 +79,7 @@ Ran o r entry exit = EndsSo (ending o) r entry exit
 
 -- statement n ran, with the variables ρ and fuel f
 abbrev pub Runs : List ℕ → ℕ → Variables → ℕ → Ended → Lent → Lent → Type 0
-Runs t n ρ f r x y = Ran (watchFrom (statementAt t n) ρ x f) r x y
+Runs t n ρ f r x y = Ran (watchFrom (targetStatementAt t n) ρ x f) r x y
 
 -- the kinds without a statement for a child
 abbrev pub IsAct : ℕ → Type 0

@@ -1,12 +1,12 @@
 // The statements of the target language that run no other.
 ghost use mathlib.Core.Path.{_≡_};
-ghost use Rattle.rules.specs.Kinds.{statement};
+ghost use Rattle.rules.specs.Kinds.{statement, target};
 ghost use Rattle.rules.specs.Records.{kindOf, markOf, childA, childB};
 ghost use Rattle.rules.specs.Memory.{assigned, allocated, freed};
 ghost use Rattle.rules.specs.Evaluation.{addressOf, condition};
 ghost use Rattle.rules.specs.Watched.{heldIn};
 ghost use Rattle.rules.specs.Layout.{memoryOf};
-ghost use Rattle.rules.proofs.runs.TargetFields.{HasSort, numberAt};
+ghost use Rattle.rules.specs.Nodes.{HasSort, numberAt};
 ghost use Rattle.memory_cells.specs.Changes.{EvaluatedFits};
 ghost use Rattle.evaluation.specs.State.{variablesOf};
 ghost use Rattle.evaluation_temporaries.specs.Bytes.{temporariesOf};
@@ -30,7 +30,7 @@ fn assign(
     temporaries: &Temporaries,
     mem: &mut ExecutionMemory,
 ) -> u32
-    requires { ⌜ HasSort statement (now table) n × (kindOf (now table) n ≡ 41)
+    requires { ⌜ HasSort target statement (now table) n × (kindOf (now table) n ≡ 41)
         × EvaluatedFits (valueIn (now table) (childB (now table) n) (now variables) (now temporaries) (now mem)) ⌝ }
     ensures { λ r. ⌜ Does (assigned (memoryOf (now (mem .entry)))
         (foundIn (now (table .entry)) (childA (now (table .entry)) n) (now (variables .entry))
@@ -52,7 +52,7 @@ fn allocate(
     temporaries: &Temporaries,
     mem: &mut ExecutionMemory,
 ) -> u32
-    requires { ⌜ HasSort statement (now table) n × (kindOf (now table) n ≡ 42) ⌝ }
+    requires { ⌜ HasSort target statement (now table) n × (kindOf (now table) n ≡ 42) ⌝ }
     ensures { λ r. ⌜ Does (allocated (memoryOf (now (mem .entry)))
         (foundIn (now (table .entry)) (childA (now (table .entry)) n) (now (variables .entry))
         (now (temporaries .entry)) (now (mem .entry)))
@@ -73,7 +73,7 @@ fn release(
     temporaries: &Temporaries,
     mem: &mut ExecutionMemory,
 ) -> u32
-    requires { ⌜ HasSort statement (now table) n × (kindOf (now table) n ≡ 43) ⌝ }
+    requires { ⌜ HasSort target statement (now table) n × (kindOf (now table) n ≡ 43) ⌝ }
     ensures { λ r. ⌜ Does (freed (memoryOf (now (mem .entry)))
         (valueIn (now (table .entry)) (childA (now (table .entry)) n) (now (variables .entry))
         (now (temporaries .entry)) (now (mem .entry))))
@@ -91,7 +91,7 @@ fn take_address(
     temporaries: &mut Temporaries,
     mem: &ExecutionMemory,
 ) -> u32
-    requires { ⌜ HasSort statement (now table) n × (kindOf (now table) n ≡ 60) ⌝ }
+    requires { ⌜ HasSort target statement (now table) n × (kindOf (now table) n ≡ 60) ⌝ }
     ensures { λ r. ⌜ Takes (now (temporaries .entry)) (now (temporaries .exit)) r (markOf (now (table .entry)) n)
         (addressOf (foundIn (now (table .entry)) (childA (now (table .entry)) n) (now (variables .entry))
         (now (temporaries .entry)) (now (mem .entry)))) ⌝ }
@@ -109,7 +109,7 @@ fn take_value(
     temporaries: &mut Temporaries,
     mem: &ExecutionMemory,
 ) -> u32
-    requires { ⌜ HasSort statement (now table) n × (kindOf (now table) n ≡ 61) ⌝ }
+    requires { ⌜ HasSort target statement (now table) n × (kindOf (now table) n ≡ 61) ⌝ }
     ensures { λ r. ⌜ Takes (now (temporaries .entry)) (now (temporaries .exit)) r (markOf (now (table .entry)) n)
         (valueIn (now (table .entry)) (childA (now (table .entry)) n) (now (variables .entry))
         (now (temporaries .entry)) (now (mem .entry))) ⌝ }
@@ -120,7 +120,7 @@ fn take_value(
 
 // 67: the temporary is asserted.
 fn assert(table: &Table, n: usize, temporaries: &Temporaries) -> u32
-    requires { ⌜ HasSort statement (now table) n × (kindOf (now table) n ≡ 67) ⌝ }
+    requires { ⌜ HasSort target statement (now table) n × (kindOf (now table) n ≡ 67) ⌝ }
     ensures { λ r. ⌜ r ≡ assertNumber (condition (heldIn (temporariesOf (now (temporaries .entry)))
         (markOf (now (table .entry)) n))) ⌝ }
 {

@@ -7,7 +7,7 @@ use mathlib.Core.Path.{_≡_, refl, sym, ap, _∙_, subst}
 use Rattle.rules.specs.Kinds.{target, statement}
 use Rattle.rules.specs.Records.{kindOf, childC}
 use Rattle.rules.specs.Trees.{blockLength}
-use Rattle.rules.specs.Nodes.{operatorOf, queryOf}
+use Rattle.rules.specs.Nodes.{operatorOf, queryOf, HasSort}
 use Rattle.rules.specs.Memory.{onValue}
 use Rattle.rules.specs.Evaluation.{operated, opposite}
 use Rattle.rules.specs.Observation.{Observation, queryObservation}
@@ -16,7 +16,7 @@ use Rattle.rules.specs.declared.Evaluated.{Evaluated}
 use Rattle.rules.specs.declared.Evaluated.the-variants as evaluated
 use Rattle.evaluation_temporaries.specs.Bytes.{temporariesOf}
 use Rattle.rules.proofs.runs.StatementArms.{statement-form}
-use Rattle.rules.proofs.runs.TargetFields.{HasSort, operation-fields, query-fields}
+use Rattle.rules.proofs.runs.TargetFields.{operation-fields, query-fields}
 use Rattle.watched_steps.specs.Steps.{Takes, IsTake, takenOf}
 
 -- ---- a temporary takes a value
@@ -71,7 +71,7 @@ module _ {l l′ : List ℕ} {r m n : ℕ} (o : Observation) (e : m ≡ n) where
   takes-not c q h = takes-is (take-not-is c (temporariesOf l) n o q) (rw e at h)
 
 -- ---- field C is a byte's number
-pub chosen-fits : (t : List ℕ) (n : ℕ) → HasSort statement t n → IsTake (kindOf t n) → childC t n < 256
+pub chosen-fits : (t : List ℕ) (n : ℕ) → HasSort target statement t n → IsTake (kindOf t n) → childC t n < 256
 chosen-fits t n h (inl e) = let f = operation-fields t n h e in omega (arith, f .2)
 chosen-fits t n h (inr (inl e)) = let f = query-fields t n h e in omega (arith, f .2)
 chosen-fits t n h (inr (inr e)) = omega (arith, statement-form target t n h 65 e .c)

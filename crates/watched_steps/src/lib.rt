@@ -3,16 +3,15 @@
 ghost use mathlib.Core.Path.{_≡_};
 ghost use Prim.Native.Nat.{suc, _+_, _<_};
 ghost use Rattle.rules.specs.Sizes.{temporaryCount};
-ghost use Rattle.rules.specs.Kinds.{statement};
+ghost use Rattle.rules.specs.Kinds.{statement, target};
 ghost use Rattle.rules.specs.Records.{kindOf, markOf, childC};
-ghost use Rattle.rules.specs.Nodes.{operatorOf, queryOf};
+ghost use Rattle.rules.specs.Nodes.{operatorOf, queryOf, HasSort};
 ghost use Rattle.rules.specs.Memory.{onValue};
 ghost use Rattle.rules.specs.Evaluation.{operated, opposite, condition};
 ghost use Rattle.rules.specs.Observation.{queryObservation};
 ghost use Rattle.rules.specs.Watched.{heldIn};
 ghost use Rattle.rules.specs.Layout.{observationOf};
 ghost use Rattle.rules.specs.declared.Evaluated.the-variants as evaluated;
-ghost use Rattle.rules.proofs.runs.TargetFields.{HasSort};
 ghost use Rattle.evaluation_temporaries.specs.Bytes.{temporariesOf};
 ghost use Rattle.watched_steps.specs.Steps.{Takes, IsTake, takenOf};
 use rules::Evaluated;
@@ -98,7 +97,7 @@ fn take_not(temporaries: &mut Temporaries, n: usize) -> u32
 
 // 63 to 65: the temporary of record n takes what those after it give.
 pub fn take(table: &Table, n: usize, temporaries: &mut Temporaries, obs: &ObservationMemory) -> u32
-    requires { ⌜ HasSort statement (now table) n × IsTake (kindOf (now table) n) ⌝ }
+    requires { ⌜ HasSort target statement (now table) n × IsTake (kindOf (now table) n) ⌝ }
     ensures { λ r. ⌜ Takes (now (temporaries .entry)) (now (temporaries .exit)) r (markOf (now (table .entry)) n)
         (takenOf (kindOf (now (table .entry)) n) (childC (now (table .entry)) n)
         (temporariesOf (now (temporaries .entry))) (markOf (now (table .entry)) n)

@@ -6,7 +6,7 @@ use mathlib.Core.Path.{sym, ap, _∙_}
 use denote.Ref.{now}
 use Rattle.rules.specs.Evaluation.{initialisedAt}
 use Rattle.rules.specs.Layout.{observationOf}
-use Rattle.rules.specs.Observation.{markOf}
+use Rattle.rules.specs.Observation.{isMarked}
 
 enum-known-at : tie.Need-enum-known-at
 enum-known-at c = search needs
@@ -23,7 +23,7 @@ enum-told-2 c = search needs
 returns : tie.Need-returns
 returns c =
     let s = c .before .before .before .before in
-    c .is-marked .ensures ∙ ap (initialisedAt (markOf (observationOf (now (s .args .obs)))))
+    c .is-marked .ensures ∙ ap (initialisedAt (isMarked (observationOf (now (s .args .obs)))))
     (sym (c .before .before .at .given .1))
 
 returns-2 : tie.Need-returns-2

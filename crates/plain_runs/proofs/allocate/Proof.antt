@@ -7,8 +7,9 @@ use Rattle.rules.specs.Memory.{allocated}
 use Rattle.rules.specs.Records.{childA, childB}
 use Rattle.rules.proofs.runs.SharedExpressions.{target-expression, target-place, evaluated-alike, found-alike}
 use Rattle.rules.specs.Kinds.{source}
+use Rattle.rules.specs.Nodes.{statementAt}
 use Rattle.rules.proofs.runs.StatementArms.{new-children}
-use Rattle.rules.proofs.runs.PlainArms.{statementAt, run-new}
+use Rattle.rules.proofs.runs.PlainArms.{run-new}
 use Rattle.plain_runs.proofs.Laws.{ran-does}
 use Rattle.plain_runs.proofs.ReadyLaws.{ready-within, ready-number}
 use Rattle.plain_runs.proofs.allocate.Statement.{statement}

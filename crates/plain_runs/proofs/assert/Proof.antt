@@ -3,8 +3,9 @@ use Rattle.rules.specs.Flow.{after}
 use Rattle.rules.specs.Plain.{asserted}
 use Rattle.rules.specs.declared.Test.{Test}
 use Rattle.rules.specs.Layout.{memoryOf}
+use Rattle.rules.specs.Nodes.{statementAt}
 use Rattle.evaluation.specs.State.{variablesOf}
-use Rattle.rules.proofs.runs.PlainArms.{statementAt, assert-child, run-assert}
+use Rattle.rules.proofs.runs.PlainArms.{assert-child, run-assert}
 use Rattle.plain_runs.proofs.Laws.{ran-asserts}
 use Rattle.plain_runs.proofs.ReadyLaws.{ready-within, ready-number}
 use Rattle.plain_runs.proofs.assert.Statement.{statement}

@@ -7,8 +7,9 @@ use Rattle.rules.specs.Memory.{assigned}
 use Rattle.rules.specs.Records.{childA, childB}
 use Rattle.rules.proofs.runs.SharedExpressions.{target-expression, target-place, evaluated-alike, found-alike}
 use Rattle.rules.specs.Kinds.{source}
+use Rattle.rules.specs.Nodes.{statementAt}
 use Rattle.rules.proofs.runs.StatementArms.{assign-children}
-use Rattle.rules.proofs.runs.PlainArms.{statementAt, run-assign}
+use Rattle.rules.proofs.runs.PlainArms.{run-assign}
 use Rattle.plain_runs.proofs.Laws.{ran-does}
 use Rattle.plain_runs.proofs.ReadyLaws.{ready-within, ready-number, assign-fits}
 use Rattle.plain_runs.proofs.assign.Statement.{statement}

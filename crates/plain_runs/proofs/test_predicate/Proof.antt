@@ -2,7 +2,7 @@ use Prim.Native.Nat.{ℕ}
 use mathlib.Core.Path.{ap, _∙_}
 use Rattle.rules.specs.Evaluation.{condition, evaluatePredicate}
 use Rattle.rules.specs.Layout.{memoryOf}
-use Rattle.rules.proofs.runs.PlainArms.{predicateAt}
+use Rattle.rules.specs.Nodes.{predicateAt}
 use Rattle.evaluation.specs.State.{variablesOf}
 use Rattle.plain_runs.proofs.test_predicate.Statement.{statement}
 use Rattle.plain_runs.proofs.test_predicate.Tie as tie

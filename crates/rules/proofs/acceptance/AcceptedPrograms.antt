@@ -7,7 +7,7 @@ use lib.ListN.{length}
 use Rattle.rules.specs.Records.{recordCount}
 use Rattle.rules.specs.Kinds.{Language, source, target, Sort, statement, recordLimit}
 use Rattle.rules.specs.Checker.{check}
-use Rattle.rules.specs.Nodes.{NodeOf, sortOfNode, nodeAt}
+use Rattle.rules.specs.Nodes.{NodeOf, sortOfNode, nodeAt, HasSort}
 use Rattle.rules.specs.declared.Checked.the-variants as checked
 use Rattle.rules.proofs.acceptance.Sound.{startScope}
 use Rattle.rules.proofs.acceptance.Acceptance.{Accepted, accepted-says}
@@ -19,12 +19,12 @@ use Rattle.rules.proofs.acceptance.Readiness.{SoundAs, Ready, sound-las
 use Rattle.rules.proofs.acceptance.SoundSource.{source-arm}
 use Rattle.rules.proofs.acceptance.SoundTargets.{target-arm}
 use Rattle.rules.proofs.acceptance.Padding.{node-padded}
-use Rattle.rules.proofs.runs.StatementArms.{OfSort, SoundIn}
+use Rattle.rules.proofs.runs.StatementArms.{SoundIn}
 
 -- record n is a statement to run from the start: every variable that it meets is in scope, every temporary is below
 -- 64, and every number in its range
 pub record Runs (l : Language) (t : List ℕ) (n : ℕ) : Type 0 where
-  pub is : OfSort l statement t n
+  pub is : HasSort l statement t n
   pub sound : SoundIn l statement t n startScope
 
 pub record AcceptedProgram (l : Language) (t : List ℕ) : Type 0 where

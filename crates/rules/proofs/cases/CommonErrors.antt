@@ -2,7 +2,7 @@
 use mathlib.Core.List.{[], _∷_, _++_}
 use mathlib.Core.Path.{_≡_, refl}
 use lib.IntN.{pos}
-use Rattle.rules.specs.Words.{little, digits, wordAt, table, flat}
+use Rattle.rules.specs.Words.{little, digits, wordAt, flat, tabulate}
 use Rattle.rules.specs.Kinds.{lookUp, formOf}
 use Rattle.rules.specs.Checker.{lowest, recordFault, timesChildOf, timesChild, shapeFault, parentOf, inScope}
 use Rattle.rules.specs.Checker.{scopeFault, levelOf, levelFault, check}
@@ -31,7 +31,7 @@ pub each-right :
     × (stops dangling ≡ (42 ∷ 11 ∷ 42 ∷ 11 ∷ []))
     × (states (plainly freedBlock .state) ++ watchedStates (watchedly freedBlock .state)
     ≡ (3 ∷ 3 ∷ 3 ∷ 3 ∷ 2 ∷ 2 ∷ []))
-unfolding little digits wordAt table flat lookUp formOf lowest recordFault timesChildOf timesChild shapeFault
+unfolding little digits wordAt tabulate flat lookUp formOf lowest recordFault timesChildOf timesChild shapeFault
     parentOf inScope scopeFault levelOf levelFault check makeNode nodes nodeAt onIntegers onPointerAndInteger
     onPointers operate locate allFree lowestRun startMemory evaluate queried evaluateTerm evaluatePredicate turns
     runBy covered markAll watch embed translateTerm translatePredicate translate expressionTree statementTree emit

@@ -18,12 +18,13 @@ use Rattle.rules.specs.Plain.{startVariables}
 use Rattle.rules.specs.Watched.{startTemporaries, WatchedState, watch}
 use Rattle.rules.specs.Translation.{translate}
 use Rattle.rules.specs.Answers.{inputsOf, plainOutcome, watchedStart, watchedOutcome}
+use Rattle.rules.specs.Fits.{All, none, also}
 use Rattle.rules.proofs.acceptance.Sound.{startScope, SoundTarget}
 use Rattle.rules.proofs.translation.SoundTranslation.{sound-translation}
 use Rattle.rules.proofs.acceptance.AcceptedPrograms.{accepted-program}
 use Rattle.rules.proofs.runs.Keeping.{AnyNumber}
 use Rattle.rules.proofs.runs.Outcomes.{outcomes-state}
-use Rattle.rules.proofs.lists.Lists.{All, none, also, all-append, all-replicate}
+use Rattle.rules.proofs.lists.Lists.{all-append, all-replicate}
 use Rattle.rules.proofs.runs.EvaluatedValues.{CellHas}
 use Rattle.rules.proofs.memory.WatchedGiven.{PointersGiven, GivenState, watch-given}
 use Rattle.rules.proofs.memory.GivenNames.{IsGiven, GivenValue, CellsGiven, TemporariesGiven}

@@ -15,12 +15,12 @@ use Rattle.rules.specs.Memory.{isUnused, nextName, Use, fixed, freeable,
 use Rattle.rules.specs.Memory.{endBlock, startMemory}
 use Rattle.rules.specs.Observation.{Observation, recordOf, locateMark, withMarks}
 use Rattle.rules.proofs.lists.SearchLaws.{Outcome, lowest-outcome}
-use Rattle.rules.proofs.lists.Lists.{All, also, all-set, all-fill, all-append, all-replicate, all-named}
-use Rattle.rules.proofs.lists.Lists.{all-rename}
-use Rattle.rules.proofs.lists.Lists.{all-map, length-fill, length-rename}
-use Rattle.rules.proofs.layout.Fits.{FitsName, FitsPlaces, FitsBlock, FitsRecorded, FitsCell, FitsMemory}
-use Rattle.rules.proofs.layout.Fits.{FitsObservation, InsideRecorded, InsideBlock, InsideMemory}
-use Rattle.rules.proofs.layout.Fits.{InsideObservation}
+use Rattle.rules.proofs.lists.Lists.{all-set, all-fill, all-append, all-replicate, all-named}
+use Rattle.rules.proofs.lists.Lists.{all-setNamed}
+use Rattle.rules.proofs.lists.Lists.{all-map, length-fill, length-setNamed}
+use Rattle.rules.specs.Fits.{FitsName, FitsPlaces, FitsBlock, FitsRecorded, FitsCell, FitsMemory, All, also}
+use Rattle.rules.specs.Fits.{FitsObservation, InsideRecorded, InsideBlock, InsideMemory}
+use Rattle.rules.specs.Fits.{InsideObservation}
 use Rattle.rules.specs.declared.Value.the-variants as value
 use Rattle.rules.specs.declared.Pointer.{Pointer}
 use Rattle.rules.specs.declared.Located.{Located}
@@ -54,9 +54,9 @@ setCell-inside m i c h k =
 pub withBlock-fits : (m : Memory) (u : Use) (k first n : ℕ) → FitsMemory m → FitsName k → FitsPlaces first n
     → FitsMemory (withBlock m u k first n)
 withBlock-fits m u k first n h l r = record {
-  block-count = length-rename (m .blocks) k (blockFor u first n) ∙ h .block-count;
+  block-count = length-setNamed (m .blocks) k (blockFor u first n) ∙ h .block-count;
   cell-count = length-fill (m .cells) first n (cell.Holds k value.Undefined) ∙ h .cell-count;
-  blocks-fit = all-rename (h .blocks-fit) k (made-fits u);
+  blocks-fit = all-setNamed (h .blocks-fit) k (made-fits u);
   cells-fit = all-fill (h .cells-fit) first n (l, tt);
 }
   where
@@ -68,7 +68,7 @@ pub withBlock-inside : (m : Memory) (u : Use) (k first n : ℕ) → InsideMemory
     → InsideMemory (withBlock m u k first n)
 withBlock-inside m u k first n h l r = record {
   memory-fits = withBlock-fits m u k first n (h .memory-fits) l (omega arith, omega arith);
-  blocks-inside = all-rename (h .blocks-inside) k (made-inside u);
+  blocks-inside = all-setNamed (h .blocks-inside) k (made-inside u);
 }
   where
     made-inside : (u : Use) → InsideBlock (blockFor u first n)
@@ -81,9 +81,9 @@ endBlock-fits m k h = of (recordedOf (blockOf m k))
     of : (b : Recorded) → FitsMemory (withoutCells m k b)
     of recorded.Unused = h
     of (recorded.Live first n) = record {
-      block-count = length-rename (m .blocks) k block.Dead ∙ h .block-count;
+      block-count = length-setNamed (m .blocks) k block.Dead ∙ h .block-count;
       cell-count = length-fill (m .cells) first n cell.Free ∙ h .cell-count;
-      blocks-fit = all-rename (h .blocks-fit) k tt;
+      blocks-fit = all-setNamed (h .blocks-fit) k tt;
       cells-fit = all-fill (h .cells-fit) first n tt;
     }
     of recorded.Dead = h
@@ -94,7 +94,7 @@ endBlock-inside m k h =
   where
     of : (b : Recorded) → All InsideBlock (withoutCells m k b .blocks)
     of recorded.Unused = h .blocks-inside
-    of (recorded.Live first n) = all-rename (h .blocks-inside) k tt
+    of (recorded.Live first n) = all-setNamed (h .blocks-inside) k tt
     of recorded.Dead = h .blocks-inside
 
 abbrev pub InRange : ℤ → Type 0
@@ -140,16 +140,16 @@ startMemory-inside inputs h l = record {
 pub withMarks-fits : (o : Observation) (k : ℕ) (b : Recorded) (first n : ℕ) → FitsObservation o → FitsRecorded b
     → FitsObservation (withMarks o k b first n)
 withMarks-fits o k b first n h r = record {
-  record-count = length-rename (o .blocks) k b ∙ h .record-count;
+  record-count = length-setNamed (o .blocks) k b ∙ h .record-count;
   mark-count = length-fill (o .marks) _ _ _ ∙ h .mark-count;
-  records-fit = all-rename (h .records-fit) k r;
+  records-fit = all-setNamed (h .records-fit) k r;
 }
 
 pub withMarks-inside : (o : Observation) (k : ℕ) (b : Recorded) (first n : ℕ) → InsideObservation o → FitsRecorded b
     → InsideRecorded b → InsideObservation (withMarks o k b first n)
 withMarks-inside o k b first n h r s = record {
   observation-fits = withMarks-fits o k b first n (h .observation-fits) r;
-  records-inside = all-rename (h .records-inside) k s;
+  records-inside = all-setNamed (h .records-inside) k s;
 }
 
 pub marked-fits : (o : Observation) (i : ℕ) → FitsObservation o

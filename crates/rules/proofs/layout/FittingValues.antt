@@ -11,14 +11,14 @@ use Rattle.rules.specs.Numbers.{inRange, truthValue}
 use Rattle.rules.specs.Memory.{Memory, cellOf, locatedIn}
 use Rattle.rules.specs.Evaluation.{Variables, Holding, held, addressOf, operated, evaluate}
 use Rattle.rules.specs.Evaluation.{findPlace, isValid, initialisedAt, ofLive, queried, opposite}
-use Rattle.rules.specs.Observation.{Observation, recordOf, markOf, queryObservation}
+use Rattle.rules.specs.Observation.{Observation, recordOf, queryObservation, isMarked}
 use Rattle.rules.proofs.acceptance.Sound.{Scope, SoundExpression, SoundPlace}
 use Rattle.rules.proofs.runs.Operations.{truth-gives, operated-gives, opposite-gives}
 use Rattle.rules.proofs.runs.Keeping.{AnyNumber, Gives, Finds, on-pointer}
 use Rattle.rules.proofs.runs.EvaluatedValues.{CellHas, addressOf-has, evaluate-has, findPlace-has}
 use Rattle.rules.proofs.lists.Lists.{all-getD, all-named}
-use Rattle.rules.proofs.layout.Fits.{FitsName, FitsPointer, FitsValue, FitsRecorded, FitsCell, FitsTemporary}
-use Rattle.rules.proofs.layout.Fits.{FitsMemory, FitsObservation}
+use Rattle.rules.specs.Fits.{FitsName, FitsPointer, FitsValue, FitsRecorded, FitsCell, FitsTemporary}
+use Rattle.rules.specs.Fits.{FitsMemory, FitsObservation}
 use Rattle.rules.specs.declared.Pointer.{Pointer}
 use Rattle.rules.specs.declared.Value.{Value}
 use Rattle.rules.specs.declared.Evaluated.{Evaluated}
@@ -31,8 +31,8 @@ use Rattle.rules.specs.declared.Cell.the-variants as cell
 use Rattle.rules.specs.declared.Temporary.{Temporary}
 use Rattle.rules.specs.declared.Temporary.the-variants as temporaries
 
-abbrev pub EvaluatedFits : Evaluated → Type 0
-EvaluatedFits e = Gives FitsValue AnyNumber e
+abbrev pub FitsEvaluated : Evaluated → Type 0
+FitsEvaluated e = Gives FitsValue AnyNumber e
 
 abbrev pub FoundFits : Found → Type 0
 FoundFits f = Finds FitsPointer AnyNumber f
@@ -42,22 +42,22 @@ moved-fits : (p : Pointer) (z : ℤ) → FitsPointer p → inRange z ≡ true
     → FitsPointer (record { name = p .name; offset = z })
 moved-fits p z h e = (h .0, e)
 
-truth-fits : (b : Bool) → EvaluatedFits (truthValue b)
+truth-fits : (b : Bool) → FitsEvaluated (truthValue b)
 truth-fits b = truth-gives FitsValue AnyNumber (λ z e. e) moved-fits (λ c h. tt) b
 
-pub operated-fits : (o : Operator) (a b : Evaluated) → EvaluatedFits a → EvaluatedFits b
-    → EvaluatedFits (operated o a b)
+pub operated-fits : (o : Operator) (a b : Evaluated) → FitsEvaluated a → FitsEvaluated b
+    → FitsEvaluated (operated o a b)
 operated-fits o a b g h = operated-gives FitsValue AnyNumber (λ z e. e) moved-fits (λ c h. tt) o a b g h
 
 -- queries
 ofLive-fits : (b : Recorded) (f : ℕ → Value) → FitsRecorded b → ((n : ℕ) → n < 65536 → FitsValue (f n))
-    → EvaluatedFits (ofLive b f)
+    → FitsEvaluated (ofLive b f)
 ofLive-fits recorded.Unused f h g = tt
 ofLive-fits (recorded.Live first n) f h g = g n (h .1)
 ofLive-fits recorded.Dead f h g = tt
 
 queried-fits : (q : Query) (b : Recorded) (marked : ℕ → Bool) (p : Pointer) → FitsRecorded b → FitsPointer p
-    → EvaluatedFits (queried q b marked p)
+    → FitsEvaluated (queried q b marked p)
 unfolding queried
 queried-fits valid b marked p h k = truth-fits (isValid (locatedIn b (p .offset)))
 queried-fits initialised b marked p h k = truth-fits (initialisedAt marked (locatedIn b (p .offset)))
@@ -66,21 +66,21 @@ queried-fits offset b marked p h k = ofLive-fits b _ h (λ n l. k .1)
 queried-fits blockLength b marked p h k = ofLive-fits b _ h (λ n l. lt-ltb n (2 ^ 63) (omega arith))
 
 pub queryObservation-fits : (q : Query) (o : Observation) (v : Value) → FitsObservation o → FitsValue v
-    → EvaluatedFits (queryObservation q o v)
+    → FitsEvaluated (queryObservation q o v)
 queryObservation-fits q o v h k =
-    on-pointer EvaluatedFits AnyNumber evaluated.Stopped (λ c x. tt) FitsValue v _ tt k (λ p l.
-    queried-fits q (recordOf o (p .name)) (λ i. markOf o i) p
+    on-pointer FitsEvaluated AnyNumber evaluated.Stopped (λ c x. tt) FitsValue v _ tt k (λ p l.
+    queried-fits q (recordOf o (p .name)) (λ i. isMarked o i) p
     (all-named (h .records-fit) (p .name) recorded.Dead tt) l)
 
-pub opposite-fits : (v : Value) → EvaluatedFits (opposite v)
+pub opposite-fits : (v : Value) → FitsEvaluated (opposite v)
 opposite-fits v = opposite-gives FitsValue AnyNumber (λ z e. e) moved-fits (λ c h. tt) v
 
 -- temporaries, places and expressions
-pub held-fits : (t : Temporary) → FitsTemporary t → EvaluatedFits (held t)
+pub held-fits : (t : Temporary) → FitsTemporary t → FitsEvaluated (held t)
 held-fits temporaries.Empty h = tt
 held-fits (temporaries.Holds v) h = h
 
-pub addressOf-fits : (f : Found) → FoundFits f → EvaluatedFits (addressOf f)
+pub addressOf-fits : (f : Found) → FoundFits f → FitsEvaluated (addressOf f)
 addressOf-fits f h = addressOf-has FitsValue f h
 
 cell-fits : (c : Cell) → FitsCell c → CellHas FitsValue c
@@ -88,12 +88,12 @@ cell-fits cell.Free h = tt
 cell-fits (cell.Holds o v) h = h .1
 
 -- N is what a temporary's name keeps, of no account here
-module _ {T : Type 0} (N : T → Type 0) (τ : Holding T) (holding : (t : T) → EvaluatedFits (held (τ t))) (ρ : Variables)
+module _ {T : Type 0} (N : T → Type 0) (τ : Holding T) (holding : (t : T) → FitsEvaluated (held (τ t))) (ρ : Variables)
     (names : (x : ℕ) → FitsName (ρ x)) (m : Memory) (fits : FitsMemory m) (σ : Scope) where
   cells : (i : ℕ) → CellHas FitsValue (cellOf m i)
   cells i = cell-fits (cellOf m i) (all-getD (fits .cells-fit) i cell.Free tt)
 
-  pub evaluate-fits : (e : Expression T) → SoundExpression e N σ → EvaluatedFits (evaluate e τ ρ m)
+  pub evaluate-fits : (e : Expression T) → SoundExpression e N σ → FitsEvaluated (evaluate e τ ρ m)
   evaluate-fits e h =
       evaluate-has FitsValue (λ z e. e) moved-fits N τ holding ρ σ (λ x e. (names x, refl)) m cells e h
 

@@ -13,8 +13,8 @@ use Rattle.rules.proofs.runs.Keeping.{AnyNumber, AnyValue, AnyPlace, An
 use Rattle.rules.proofs.runs.Calls.{CallsKeep}
 use Rattle.rules.proofs.memory.ObservationKept.{startObservation-keeps}
 use Rattle.rules.proofs.lists.Lists.{all-replicate}
-use Rattle.rules.proofs.layout.Fits.{FitsName, FitsCell, FitsMemory, FitsObservation, InsideMemory}
-use Rattle.rules.proofs.layout.Fits.{InsideObservation}
+use Rattle.rules.specs.Fits.{FitsName, FitsCell, FitsMemory, FitsObservation, InsideMemory}
+use Rattle.rules.specs.Fits.{InsideObservation}
 use Rattle.rules.proofs.lists.RunLaws.{run-bound}
 use Rattle.rules.proofs.layout.FitsLaws.{nextName-fits, setCell-fits, setCell-inside}
 use Rattle.rules.proofs.layout.FitsLaws.{withBlock-fits, withBlock-inside, endBlock-fits, endBlock-inside}

@@ -19,9 +19,9 @@ use Rattle.rules.specs.Layout.{blockAt, cellFrom, cellAt, memoryOf, reco
 use Rattle.rules.specs.Layout.{observationOf}
 use Rattle.rules.proofs.lists.WordLaws.{digits-value, integer-value, Bytes, no-bytes, more-bytes, bytes-append}
 use Rattle.rules.proofs.lists.WordLaws.{bytes-digits}
-use Rattle.rules.proofs.lists.Rows.{table-list, length-flat, row-byte, row-word}
-use Rattle.rules.proofs.lists.Lists.{All, none, also, all-getD}
-use Rattle.rules.proofs.layout.Fits.{FitsBlock, FitsRecorded, FitsCell, FitsMemory, FitsObservation}
+use Rattle.rules.proofs.lists.Rows.{tabulate-list, length-flat, row-byte, row-word}
+use Rattle.rules.proofs.lists.Lists.{all-getD}
+use Rattle.rules.specs.Fits.{FitsBlock, FitsRecorded, FitsCell, FitsMemory, FitsObservation, All, none, also}
 use Rattle.rules.specs.declared.Value.the-variants as value
 use Rattle.rules.specs.declared.Block.{Block}
 use Rattle.rules.specs.declared.Block.the-variants as block
@@ -225,8 +225,8 @@ module _ (m : Memory) (fits : FitsMemory m) where
   pub memory-back : memoryOf (memoryImage m) ≡ m
   unfolding memoryOf
   memory-back = λ t. record {
-    blocks = table-list nameCount (blockAt (memoryImage m)) (m .blocks) block.Dead (fits .block-count) image-block t;
-    cells = table-list cellCount (cellAt (memoryImage m)) (m .cells) cell.Free (fits .cell-count) image-cell t;
+    blocks = tabulate-list nameCount (blockAt (memoryImage m)) (m .blocks) block.Dead (fits .block-count) image-block t;
+    cells = tabulate-list cellCount (cellAt (memoryImage m)) (m .cells) cell.Free (fits .cell-count) image-cell t;
   }
 
 module _ (o : Observation) (fits : FitsObservation o) where
@@ -256,7 +256,7 @@ module _ (o : Observation) (fits : FitsObservation o) where
   pub observation-back : observationOf (observationImage o) ≡ o
   unfolding observationOf
   observation-back = λ t. record {
-    blocks = table-list nameCount (recordedAt (observationImage o)) (o .blocks) recorded.Dead (fits .record-count)
+    blocks = tabulate-list nameCount (recordedAt (observationImage o)) (o .blocks) recorded.Dead (fits .record-count)
         image-recorded t;
-    marks = table-list cellCount (markAt (observationImage o)) (o .marks) false (fits .mark-count) image-mark t;
+    marks = tabulate-list cellCount (markAt (observationImage o)) (o .marks) false (fits .mark-count) image-mark t;
   }

@@ -17,9 +17,8 @@ use Rattle.rules.specs.Layout.{blockRecord, recordedBytes, markBytes, ob
 use Rattle.rules.specs.Layout.{recordedFrom, recordedAt, markAt, observationOf}
 use Rattle.rules.specs.Flow.{ending}
 use Rattle.rules.specs.Answers.{watchedOutcome, runWatched}
-use Rattle.rules.proofs.lists.Lists.{All, none, also}
 use Rattle.rules.proofs.lists.Rows.{row-part}
-use Rattle.rules.proofs.layout.Fits.{FitsRecorded, FitsObservation}
+use Rattle.rules.specs.Fits.{FitsRecorded, FitsObservation, All, none, also}
 use Rattle.rules.proofs.layout.LayoutLaws.{length-recordedBytes, length-observationImage, image-recorded}
 use Rattle.rules.proofs.layout.LayoutLaws.{image-mark-byte, image-mark, observation-back}
 use Rattle.rules.proofs.claim.UnrefusedRuns.{watched-runs}

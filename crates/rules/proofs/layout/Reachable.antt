@@ -12,11 +12,11 @@ use Rattle.rules.specs.TargetTrees.{TargetStatement, skip, assign, new, 
 use Rattle.rules.specs.TargetTrees.{takeAddress, takeValue, takeOperation, takeQuery, takeNot, branchOn}
 use Rattle.rules.specs.TargetTrees.{assertOn, storeBlock, deleteBlock, initialise}
 use Rattle.rules.specs.Memory.{Memory, Change, changeIn, fixed, freeable, makeBlock, endBlock, assigned}
-use Rattle.rules.specs.Memory.{allocated, freed, onValue}
+use Rattle.rules.specs.Memory.{allocated, freed}
 use Rattle.rules.specs.Evaluation.{Variables, Holding, noTemporaries, held, evaluate, findPlace, addressOf}
-use Rattle.rules.specs.Evaluation.{operated, opposite, evaluateSource, findSource, evaluatePredicate, condition}
+use Rattle.rules.specs.Evaluation.{evaluateSource, findSource, evaluatePredicate, condition}
 use Rattle.rules.specs.Evaluation.{extend}
-use Rattle.rules.specs.Observation.{Observation, Noted, queryObservation}
+use Rattle.rules.specs.Observation.{Observation, Noted}
 use Rattle.rules.specs.Observation as observation
 use Rattle.rules.specs.Flow.{Outcome, into, after, runBy}
 use Rattle.rules.specs.Plain.{asserted, run, startVariables}
@@ -33,10 +33,10 @@ use Rattle.rules.proofs.runs.Outcomes.{reach-decide, reach-turns, reach
 use Rattle.rules.proofs.runs.TargetRuns.{NotedKeeps, taken-keeps, observed-keeps, operating, querying, negating}
 use Rattle.rules.proofs.runs.TargetRuns.{storing, deleting, initialising, making, closing}
 use Rattle.rules.proofs.runs.Calls.{store-called, delete-called, initialise-called}
-use Rattle.rules.proofs.lists.Lists.{All, all-getD, all-set, all-replicate}
-use Rattle.rules.proofs.layout.Fits.{FitsName, FitsPointer, FitsValue, FitsTemporary}
+use Rattle.rules.proofs.lists.Lists.{all-getD, all-set, all-replicate}
+use Rattle.rules.specs.Fits.{FitsName, FitsPointer, FitsValue, FitsTemporary, All, VariablesFit}
 use Rattle.rules.proofs.layout.KeptPredicates.{MemoryInvariant, ObservationInvariant, MadeWith, makeBlock-keeps}
-use Rattle.rules.proofs.layout.FittingValues.{EvaluatedFits, operated-fits, queryObservation-fits, opposite-fits}
+use Rattle.rules.proofs.layout.FittingValues.{operated-fits, queryObservation-fits, opposite-fits, FitsEvaluated}
 use Rattle.rules.proofs.layout.FittingValues.{held-fits, addressOf-fits, evaluate-fits, findPlace-fits}
 use Rattle.rules.specs.declared.Value.the-variants as value
 use Rattle.rules.specs.declared.Evaluated.{Evaluated}
@@ -44,24 +44,20 @@ use Rattle.rules.specs.declared.Evaluated.the-variants as evaluated
 use Rattle.rules.specs.declared.Cell.the-variants as cell
 use Rattle.rules.specs.declared.Temporary.the-variants as temporary
 
--- the blocks of all variables have names
-abbrev pub NamesFit : Variables → Type 0
-NamesFit ρ = (x : ℕ) → FitsName (ρ x)
-
-pub extend-fits : (ρ : Variables) (x k : ℕ) → NamesFit ρ → FitsName k → NamesFit (extend ρ x k)
+pub extend-fits : (ρ : Variables) (x k : ℕ) → VariablesFit ρ → FitsName k → VariablesFit (extend ρ x k)
 extend-fits ρ x k h l y = pick (eqb y x)
   where
     pick : (b : Bool) → FitsName (cond b k (ρ y))
     pick true = l
     pick false = h y
 
-pub startVariables-fit : NamesFit startVariables
+pub startVariables-fit : VariablesFit startVariables
 startVariables-fit zero = omega arith
 startVariables-fit (suc x) = omega arith
 
 -- a change of the memory, with the temporaries of either language
 module _ (J : Memory → Type 0) (v : MemoryInvariant J) {T : Type 0} (N : T → Type 0) (τ : Holding T)
-    (holding : (t : T) → EvaluatedFits (held (τ t))) (ρ : Variables) (names : NamesFit ρ) (m : Memory) (j : J m)
+    (holding : (t : T) → FitsEvaluated (held (τ t))) (ρ : Variables) (names : VariablesFit ρ) (m : Memory) (j : J m)
     (σ : Scope) where
   assigned-kept : (p : Place T) (e : Expression T) → SoundPlace p N σ → SoundExpression e N σ
       → ChangeKeeps J AnyNumber (assigned m (findPlace p τ ρ m) (evaluate e τ ρ m))
@@ -91,7 +87,7 @@ module _ (J : Memory → Type 0) (v : MemoryInvariant J) {T : Type 0} (N : T →
       (evaluate e τ ρ m) j (evaluate-fits N τ holding ρ names m (v .fitting m j) σ e g) tt (λ k. v .ending m k j)
 
 -- ---- the plain run
-no-holding : (t : ⊥) → EvaluatedFits (held (noTemporaries t))
+no-holding : (t : ⊥) → FitsEvaluated (held (noTemporaries t))
 no-holding t = elim t [ ]
 
 module _ (J : Memory → Type 0) (v : MemoryInvariant J) where
@@ -102,7 +98,7 @@ module _ (J : Memory → Type 0) (v : MemoryInvariant J) where
   abbrev stay : Onwards J (λ m₁ m₂. J m₂)
   stay = staying J
 
-  pub run-keeps : (a : Statement) (σ : Scope) → SoundStatement a σ → (ρ : Variables) → NamesFit ρ
+  pub run-keeps : (a : Statement) (σ : Scope) → SoundStatement a σ → (ρ : Variables) → VariablesFit ρ
       → (m : Memory) (f : ℕ) → J m → Runs m f (run a ρ m f)
   unfolding runBy
   run-keeps (tree.skip s) σ h ρ r m f i = reach-itself AnyNumber stay m f i
@@ -155,7 +151,7 @@ module _ (J : Memory → Type 0) (v : MemoryInvariant J) (O : Observation → Ty
   stays = staying (Watchedly J O)
 
   module _ (x : WatchedState) (i : Watchedly J O x) where
-    held-kept : (n : ℕ) → EvaluatedFits (holding x n)
+    held-kept : (n : ℕ) → FitsEvaluated (holding x n)
     held-kept n =
         held-fits (temporaryOf (x .temporaries) n) (all-getD (i .temporaries-fit) n temporary.Empty tt)
 
@@ -169,7 +165,7 @@ module _ (J : Memory → Type 0) (v : MemoryInvariant J) (O : Observation → Ty
         reach-after AnyNumber stays x s ρ f (changeIn (withMemory x) c)
         (change-in J (Watchedly J O) AnyNumber (withMemory x) c with-memory h)
 
-    taken-kept : (s : ℕ) (ρ : Variables) (f n : ℕ) (e : Evaluated) → EvaluatedFits e
+    taken-kept : (s : ℕ) (ρ : Variables) (f n : ℕ) (e : Evaluated) → FitsEvaluated e
         → WatchedRuns x f (after s ρ f (taken x n e))
     taken-kept s ρ f n e h =
         reach-after AnyNumber stays x s ρ f (taken x n e)
@@ -189,7 +185,7 @@ module _ (J : Memory → Type 0) (v : MemoryInvariant J) (O : Observation → Ty
           temporaries-fit = i .temporaries-fit;
         }))
 
-  pub watch-keeps : (a : TargetStatement) (σ : Scope) → SoundTarget a σ → (ρ : Variables) → NamesFit ρ
+  pub watch-keeps : (a : TargetStatement) (σ : Scope) → SoundTarget a σ → (ρ : Variables) → VariablesFit ρ
       → (x : WatchedState) (f : ℕ) → Watchedly J O x → WatchedRuns x f (watch a ρ x f)
   unfolding watch
   watch-keeps (skip s) σ h ρ r x f i = reach-itself AnyNumber stays x f i
@@ -242,11 +238,11 @@ module _ (J : Memory → Type 0) (v : MemoryInvariant J) (O : Observation → Ty
       (held-kept x i (suc (suc n))))
   watch-keeps (takeQuery s n q) σ h ρ r x f i =
       taken-kept x i s ρ f n (querying q n x)
-      (on-value EvaluatedFits AnyNumber evaluated.Stopped (λ c y. tt) (holding x (suc n)) _ (held-kept x i (suc n))
+      (on-value FitsEvaluated AnyNumber evaluated.Stopped (λ c y. tt) (holding x (suc n)) _ (held-kept x i (suc n))
       (λ w g. queryObservation-fits q (x .observation) w (u .fitting (x .observation) (i .observation-kept)) g))
   watch-keeps (takeNot s n) σ h ρ r x f i =
       taken-kept x i s ρ f n (negating n x)
-      (on-value EvaluatedFits AnyNumber evaluated.Stopped (λ c y. tt) (holding x (suc n)) _ (held-kept x i (suc n))
+      (on-value FitsEvaluated AnyNumber evaluated.Stopped (λ c y. tt) (holding x (suc n)) _ (held-kept x i (suc n))
       (λ w g. opposite-fits w))
   watch-keeps (branchOn s n a b) σ h ρ r x f i =
       reach-decide AnyNumber stays s ρ (condition (holding x n)) x f (into 1 (watch a ρ x f)) (into 2 (watch b ρ x f)) i

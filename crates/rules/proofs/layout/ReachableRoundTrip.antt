@@ -25,16 +25,16 @@ use Rattle.rules.specs.Answers.{numbersIn, inputsOf, plainOutcome, watch
 use Rattle.rules.proofs.acceptance.Sound.{Scope, startScope, SoundStatement, SoundTarget}
 use Rattle.rules.proofs.runs.Keeping.{AnyNumber}
 use Rattle.rules.proofs.lists.WordLaws.{integer-range, Bytes}
-use Rattle.rules.proofs.lists.Lists.{All, none, also}
 use Rattle.rules.proofs.runs.Outcomes.{Reaches, outcomes-state}
-use Rattle.rules.proofs.layout.Fits.{FitsTemporary, FitsMemory, FitsObservation, InsideMemory, InsideObservation}
+use Rattle.rules.specs.Fits.{FitsTemporary, FitsMemory, FitsObservation, InsideMemory, InsideObservation, All}
+use Rattle.rules.specs.Fits.{none, also, VariablesFit}
 use Rattle.rules.proofs.layout.FitsLaws.{InRange, startMemory-inside}
 use Rattle.rules.proofs.layout.KeptPredicates.{fits-invariant, inside-invariant, fits-observation-invariant}
 use Rattle.rules.proofs.layout.KeptPredicates.{inside-observation-invariant, startObservation-inside}
 use Rattle.rules.proofs.layout.LayoutLaws.{length-memoryImage, length-observationImage, memory-back}
 use Rattle.rules.proofs.layout.LayoutLaws.{observation-back}
 use Rattle.rules.proofs.layout.LayoutLaws.{bytes-memoryImage, bytes-observationImage}
-use Rattle.rules.proofs.layout.Reachable.{NamesFit, startVariables-fit, run-keeps, Watchedly, watch-keeps}
+use Rattle.rules.proofs.layout.Reachable.{startVariables-fit, run-keeps, Watchedly, watch-keeps}
 use Rattle.rules.proofs.layout.Reachable.{startTemporaries-fit}
 
 -- the inputs
@@ -93,12 +93,14 @@ after-kept : (J : Memory → Type 0) (m : Memory) (f : ℕ) (o : Outcome Memory)
 after-kept J m f o h = outcomes-state (λ m₁ g. J m₁ × (g ≤ f)) AnyNumber o h .0
 
 -- to fit is kept by every run
-pub run-fits : (a : Statement) (σ : Scope) → SoundStatement a σ → (ρ : Variables) → NamesFit ρ → (m : Memory) (f : ℕ)
+pub run-fits : (a : Statement) (σ : Scope) → SoundStatement a σ → (ρ : Variables) → VariablesFit ρ
+    → (m : Memory) (f : ℕ)
     → FitsMemory m → FitsMemory (ending (run a ρ m f) .state)
 run-fits a σ h ρ r m f i =
     after-kept FitsMemory m f (run a ρ m f) (run-keeps FitsMemory fits-invariant a σ h ρ r m f i)
 
-pub run-shown : (a : Statement) (σ : Scope) → SoundStatement a σ → (ρ : Variables) → NamesFit ρ → (m : Memory) (f : ℕ)
+pub run-shown : (a : Statement) (σ : Scope) → SoundStatement a σ → (ρ : Variables) → VariablesFit ρ
+    → (m : Memory) (f : ℕ)
     → FitsMemory m → Shown (ending (run a ρ m f) .state)
 run-shown a σ h ρ r m f i = shown (ending (run a ρ m f) .state) (run-fits a σ h ρ r m f i)
 
@@ -118,7 +120,7 @@ both-kept : (J : Memory → Type 0) (O : Observation → Type 0) (x : WatchedSta
     → Reaches (λ y z. Watchedly J O z) AnyNumber x f o → Watchedly J O (ending o .state)
 both-kept J O x f o h = outcomes-state (λ y g. Watchedly J O y × (g ≤ f)) AnyNumber o h .0
 
-pub watch-fits : (a : TargetStatement) (σ : Scope) → SoundTarget a σ → (ρ : Variables) → NamesFit ρ
+pub watch-fits : (a : TargetStatement) (σ : Scope) → SoundTarget a σ → (ρ : Variables) → VariablesFit ρ
     → (x : WatchedState) (f : ℕ) → Watchedly FitsMemory FitsObservation x
     → Watchedly FitsMemory FitsObservation (ending (watch a ρ x f) .state)
 watch-fits a σ h ρ r x f i =

@@ -1,13 +1,10 @@
--- A predicate of every element of a list, and the lists that memories make.
+-- Laws of a predicate of every element, and of the lists that memories make.
 use Prim.Native.Nat.{ℕ, zero, suc}
 use mathlib.Core.Path.{_≡_, refl, ap}
 use mathlib.Core.List.{List, [], _∷_, _++_, map}
 use lib.ListN.{length, getD, set, replicate, length-set}
-use Rattle.rules.specs.Memory.{named, rename, fill}
-
-pub data All {A : Type 0} (P : A → Type 0) : List A → Type 0 where
-  none : All P []
-  also : {x : A} {xs : List A} → P x → All P xs → All P (x ∷ xs)
+use Rattle.rules.specs.Memory.{named, fill, setNamed}
+use Rattle.rules.specs.Fits.{All, none, also}
 
 module _ {A : Type 0} {P : A → Type 0} where
   pub all-getD : {xs : List A} → All P xs → (i : ℕ) (d : A) → P d → P (getD xs i d)
@@ -38,9 +35,9 @@ module _ {A : Type 0} {P : A → Type 0} where
   all-named r zero d h = h
   all-named r (suc k) d h = all-getD r k d h
 
-  pub all-rename : {xs : List A} → All P xs → (k : ℕ) {x : A} → P x → All P (rename xs k x)
-  all-rename r zero h = r
-  all-rename r (suc k) h = all-set r k h
+  pub all-setNamed : {xs : List A} → All P xs → (k : ℕ) {x : A} → P x → All P (setNamed xs k x)
+  all-setNamed r zero h = r
+  all-setNamed r (suc k) h = all-set r k h
 
 pub all-change : {A : Type 0} {P Q : A → Type 0} → ((x : A) → P x → Q x) → {xs : List A} → All P xs → All Q xs
 all-change g none = none
@@ -57,6 +54,6 @@ length-fill (y ∷ ys) zero zero x = refl
 length-fill (y ∷ ys) zero (suc n) x = ap suc (length-fill ys zero n x)
 length-fill (y ∷ ys) (suc s) n x = ap suc (length-fill ys s n x)
 
-pub length-rename : {A : Type 0} (xs : List A) (k : ℕ) (x : A) → length (rename xs k x) ≡ length xs
-length-rename xs zero x = refl
-length-rename xs (suc k) x = length-set xs k x
+pub length-setNamed : {A : Type 0} (xs : List A) (k : ℕ) (x : A) → length (setNamed xs k x) ≡ length xs
+length-setNamed xs zero x = refl
+length-setNamed xs (suc k) x = length-set xs k x

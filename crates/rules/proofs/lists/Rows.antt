@@ -1,4 +1,4 @@
--- Laws of `table` and `flat`: rows of one width, what stands in each, and a put of one.
+-- Laws of `tabulate` and `flat`: rows of one width, what stands in each, and a put of one.
 use Prim.Native.Nat.{ℕ, zero, suc, _+_, _*_, _<_, _≤_}
 use native.Mathlib.Nat.{le-of-suc-le-suc, add-zero, zero-add}
 use native.Mathlib.Omega.{arith}
@@ -10,54 +10,54 @@ use lib.ListN.{replicate, replicate-append-replicate, length, getD, set, take, d
 use lib.ListN.{length-set, List·getD-append}
 use lib.Seq.{ext-getD, getD-set-same, getD-set-other, getD-drop, take-append-add, drop-append-add, take-append-le}
 use lib.Seq.{drop-append-le, drop-append-seam, drop-drop}
-use Rattle.rules.specs.Words.{little, part, put, wordAt, table, flat}
+use Rattle.rules.specs.Words.{little, part, put, wordAt, flat, tabulate}
 
 -- ---- table
 module _ {A : Type 0} where
-  pub length-table : (n s : ℕ) (f : ℕ → A) → length (table s n f) ≡ n
-  unfolding table
-  length-table zero s f = refl
-  length-table (suc n) s f = ap suc (length-table n (suc s) f)
+  pub length-tabulate : (n s : ℕ) (f : ℕ → A) → length (tabulate s n f) ≡ n
+  unfolding tabulate
+  length-tabulate zero s f = refl
+  length-tabulate (suc n) s f = ap suc (length-tabulate n (suc s) f)
 
-  pub getD-table : (n s i : ℕ) (f : ℕ → A) (d : A) → i < n → getD (table s n f) i d ≡ f (s + i)
-  unfolding table
-  getD-table zero s i f d h = absurd (omega arith)
-  getD-table (suc n) s zero f d h = ap f (sym (add-zero s))
-  getD-table (suc n) s (suc i) f d h = getD-table n (suc s) i f d (le-of-suc-le-suc h) ∙ ap f (omega arith)
+  pub getD-tabulate : (n s i : ℕ) (f : ℕ → A) (d : A) → i < n → getD (tabulate s n f) i d ≡ f (s + i)
+  unfolding tabulate
+  getD-tabulate zero s i f d h = absurd (omega arith)
+  getD-tabulate (suc n) s zero f d h = ap f (sym (add-zero s))
+  getD-tabulate (suc n) s (suc i) f d h = getD-tabulate n (suc s) i f d (le-of-suc-le-suc h) ∙ ap f (omega arith)
 
-  table-from : (k s : ℕ) (f g : ℕ → A) → ((j : ℕ) → s ≤ j → j < s + k → g j ≡ f j) → table s k g ≡ table s k f
-  unfolding table
-  table-from zero s f g h = refl
-  table-from (suc k) s f g h =
+  tabulate-from : (k s : ℕ) (f g : ℕ → A) → ((j : ℕ) → s ≤ j → j < s + k → g j ≡ f j) → tabulate s k g ≡ tabulate s k f
+  unfolding tabulate
+  tabulate-from zero s f g h = refl
+  tabulate-from (suc k) s f g h =
       let here : g s ≡ f s = h s (omega arith) (omega arith) in
-      rw (here, table-from k (suc s) f g (λ j a b. h j (omega arith) (omega arith))) refl
+      rw (here, tabulate-from k (suc s) f g (λ j a b. h j (omega arith) (omega arith))) refl
 
-  pub table-same : (n : ℕ) (f g : ℕ → A) → ((j : ℕ) → j < n → g j ≡ f j) → table 0 n g ≡ table 0 n f
-  table-same n f g e = table-from n 0 f g (λ j a b. e j (omega arith))
+  pub tabulate-same : (n : ℕ) (f g : ℕ → A) → ((j : ℕ) → j < n → g j ≡ f j) → tabulate 0 n g ≡ tabulate 0 n f
+  tabulate-same n f g e = tabulate-from n 0 f g (λ j a b. e j (omega arith))
 
   -- a list by its elements
-  pub table-list : (n : ℕ) (f : ℕ → A) (xs : List A) (d : A) → length xs ≡ n
-      → ((j : ℕ) → j < n → f j ≡ getD xs j d) → table 0 n f ≡ xs
-  table-list n f xs d e h = ext-getD d (table 0 n f) xs (length-table n 0 f ∙ sym e) each
+  pub tabulate-list : (n : ℕ) (f : ℕ → A) (xs : List A) (d : A) → length xs ≡ n
+      → ((j : ℕ) → j < n → f j ≡ getD xs j d) → tabulate 0 n f ≡ xs
+  tabulate-list n f xs d e h = ext-getD d (tabulate 0 n f) xs (length-tabulate n 0 f ∙ sym e) each
     where
-      each : (j : ℕ) → j < length (table 0 n f) → getD (table 0 n f) j d ≡ getD xs j d
+      each : (j : ℕ) → j < length (tabulate 0 n f) → getD (tabulate 0 n f) j d ≡ getD xs j d
       each j l =
-          let k : j < n = omega (arith, length-table n 0 f) in
-          getD-table n 0 j f d k ∙ ap f (zero-add j) ∙ h j k
+          let k : j < n = omega (arith, length-tabulate n 0 f) in
+          getD-tabulate n 0 j f d k ∙ ap f (zero-add j) ∙ h j k
 
-  pub table-set : (n i : ℕ) (f g : ℕ → A) (v : A) → i < n → g i ≡ v → ((j : ℕ) → j < n → j ≢ i → g j ≡ f j)
-      → table 0 n g ≡ set (table 0 n f) i v
-  table-set n i f g v h here rest =
-      table-list n g (set (table 0 n f) i v) v (length-set (table 0 n f) i v ∙ length-table n 0 f)
+  pub tabulate-set : (n i : ℕ) (f g : ℕ → A) (v : A) → i < n → g i ≡ v → ((j : ℕ) → j < n → j ≢ i → g j ≡ f j)
+      → tabulate 0 n g ≡ set (tabulate 0 n f) i v
+  tabulate-set n i f g v h here rest =
+      tabulate-list n g (set (tabulate 0 n f) i v) v (length-set (tabulate 0 n f) i v ∙ length-tabulate n 0 f)
       (λ j l. at j l (ℕ-discrete j i))
     where
-      at : (j : ℕ) → j < n → Dec (j ≡ i) → g j ≡ getD (set (table 0 n f) i v) j v
+      at : (j : ℕ) → j < n → Dec (j ≡ i) → g j ≡ getD (set (tabulate 0 n f) i v) j v
       at j l (yes e) =
-          let there : i < length (table 0 n f) = omega (arith, length-table n 0 f) in
-          ap g e ∙ here ∙ sym (ap (λ (k : ℕ). getD (set (table 0 n f) i v) k v) e
-          ∙ getD-set-same (table 0 n f) i v v there)
+          let there : i < length (tabulate 0 n f) = omega (arith, length-tabulate n 0 f) in
+          ap g e ∙ here ∙ sym (ap (λ (k : ℕ). getD (set (tabulate 0 n f) i v) k v) e
+          ∙ getD-set-same (tabulate 0 n f) i v v there)
       at j l (no d) =
-          rest j l d ∙ sym (getD-set-other (table 0 n f) i j v v d ∙ getD-table n 0 j f v l ∙ ap f (zero-add j))
+          rest j l d ∙ sym (getD-set-other (tabulate 0 n f) i j v v d ∙ getD-tabulate n 0 j f v l ∙ ap f (zero-add j))
 
 -- ---- put
 pub put-right : (a b : List ℕ) (n : ℕ) (bs : List ℕ) → put (a ++ b) (length a + n) bs ≡ a ++ put b n bs
@@ -131,10 +131,10 @@ module _ {A : Type 0} (f : A → List ℕ) (w : ℕ) (wide : (x : A) → length 
     row-word n at k e h = ap little (row-part n at k e h)
 
 -- ---- all alike
-pub table-all : {A : Type 0} (n s : ℕ) (f : ℕ → A) (x : A) → ((j : ℕ) → f j ≡ x) → table s n f ≡ replicate n x
-unfolding table
-table-all zero s f x h = refl
-table-all (suc n) s f x h = rw (h s, table-all n (suc s) f x h) refl
+pub tabulate-all : {A : Type 0} (n s : ℕ) (f : ℕ → A) (x : A) → ((j : ℕ) → f j ≡ x) → tabulate s n f ≡ replicate n x
+unfolding tabulate
+tabulate-all zero s f x h = refl
+tabulate-all (suc n) s f x h = rw (h s, tabulate-all n (suc s) f x h) refl
 
 pub flat-all : {A : Type 0} (f : A → List ℕ) (x : A) (w n : ℕ) → f x ≡ replicate w 0
     → flat f (replicate n x) ≡ replicate (n * w) 0

@@ -9,22 +9,22 @@ use mathlib.Core.List.{List, [], _∷_, map}
 use lib.ListN.{length, getD, set, length-set, length-map}
 use lib.Seq.{getD-set-same, getD-set-other}
 use Rattle.rules.specs.Sizes.{cellCount}
-use Rattle.rules.specs.Memory.{Memory, recordedOf, named, rename, blockOf, cellOf, stopped, setCell, storeCell}
+use Rattle.rules.specs.Memory.{Memory, recordedOf, named, blockOf, cellOf, stopped, setCell, storeCell, setNamed}
 use Rattle.rules.specs.Memory.{isFree, isUnused, Use, fixed, freeable, blockFor, withBlock, withoutCells}
 use Rattle.rules.specs.Memory.{endBlock, one}
 use Rattle.rules.specs.Observation.{covers}
-use Rattle.rules.proofs.lists.Lists.{length-rename, length-fill}
-use Rattle.rules.proofs.memory.MemoryLaws.{map-rename, named-map, named-in, named-rename-same}
-use Rattle.rules.proofs.memory.MemoryLaws.{named-rename-other}
-use Rattle.rules.proofs.memory.MemoryLaws.{named-rename, fill-inside, fill-below, fill-above, Covering, inside}
+use Rattle.rules.proofs.lists.Lists.{length-setNamed, length-fill}
+use Rattle.rules.proofs.memory.MemoryLaws.{map-setNamed, named-map, named-in, named-setNamed-same}
+use Rattle.rules.proofs.memory.MemoryLaws.{named-setNamed-other}
+use Rattle.rules.proofs.memory.MemoryLaws.{named-setNamed, fill-inside, fill-below, fill-above, Covering, inside}
 use Rattle.rules.proofs.memory.MemoryLaws.{below}
-use Rattle.rules.proofs.memory.MemoryLaws.{above, covering, coverage, coverage-rename, coverage-named}
+use Rattle.rules.proofs.memory.MemoryLaws.{above, covering, coverage, coverage-setNamed, coverage-named}
 use Rattle.rules.proofs.memory.Invariant.{occupied, at-most-one, recordsOf, Owned, Invariant, Becomes}
 use Rattle.rules.proofs.memory.Invariant.{becomes-itself}
 use Rattle.rules.proofs.memory.Invariant.{Onward, onward-itself, changedMemory}
 use Rattle.rules.proofs.memory.Room.{Room}
 use Rattle.rules.proofs.memory.Pointing.{at-pointed}
-use Rattle.rules.proofs.memory.Owners.{given-renamed, rising-renamed, owned-renamed, owned-set}
+use Rattle.rules.proofs.memory.Owners.{given-setNamed, rising-setNamed, owned-setNamed, owned-set}
 use Rattle.rules.specs.declared.Pointer.{Pointer}
 use Rattle.rules.specs.declared.Value.{Value}
 use Rattle.rules.specs.declared.Value.the-variants as value
@@ -78,11 +78,11 @@ onward-cell m p v y =
 
 -- the number of blocks that cover a cell, after the block of one name was set
 coverage-block : (l : List Block) (k : ℕ) (x : Block) (i : ℕ) → 1 ≤ k → k ≤ length l
-    → coverage (map recordedOf (rename l k x)) i + one (covers (recordedOf (named l k block.Dead)) i)
+    → coverage (map recordedOf (setNamed l k x)) i + one (covers (recordedOf (named l k block.Dead)) i)
     ≡ coverage (map recordedOf l) i + one (covers (recordedOf x) i)
 coverage-block l k x i h le =
-    let r = coverage-rename (map recordedOf l) k (recordedOf x) i h (omega (arith, length-map l recordedOf)) in
-    rw (map-rename recordedOf l k x, ← (named-map recordedOf l k block.Dead)) r
+    let r = coverage-setNamed (map recordedOf l) k (recordedOf x) i h (omega (arith, length-map l recordedOf)) in
+    rw (map-setNamed recordedOf l k x, ← (named-map recordedOf l k block.Dead)) r
 
 pub recorded-for : (u : Use) (first n : ℕ) → recordedOf (blockFor u first n) ≡ recorded.Live first n
 recorded-for fixed first n = refl
@@ -104,11 +104,11 @@ pub onward-make : (m : Memory) (u : Use) (n k first : ℕ) → Room m n k first 
     → Onward m (withBlock m u k first n)
 onward-make m u n k first r y = record {
   invariant = record {
-    names = length-rename (m .blocks) k (blockFor u first n) ∙ y .names;
+    names = length-setNamed (m .blocks) k (blockFor u first n) ∙ y .names;
     size = length-fill (m .cells) first n (cell.Holds k value.Undefined) ∙ y .size;
-    within = λ j a l e. inside-cells j a l (named-rename (m .blocks) k j (blockFor u first n) block.Dead) e;
+    within = λ j a l e. inside-cells j a l (named-setNamed (m .blocks) k j (blockFor u first n) block.Dead) e;
     cover = λ i. go i (covers (recorded.Live first n) i) refl (covering first n i);
-    rising = rising-renamed (m .blocks) k (blockFor u first n) (for-given u first n) (r .lower) (y .rising);
+    rising = rising-setNamed (m .blocks) k (blockFor u first n) (for-given u first n) (r .lower) (y .rising);
     owned = λ i. owner i (covers (recorded.Live first n) i) refl (covering first n i);
   };
   becomes = λ j. later j (ℕ-discrete j k);
@@ -141,18 +141,18 @@ onward-make m u n k first r y = record {
         rw (fill-above (m .cells) first n (cell.Holds k value.Undefined) i cell.Free p)
         (omega (arith, sum i, ap one e, y .cover i))
 
-    kept : (i : ℕ) → Owned (rename (m .blocks) k (blockFor u first n)) i (cellOf m i)
+    kept : (i : ℕ) → Owned (setNamed (m .blocks) k (blockFor u first n)) i (cellOf m i)
     kept i =
-        owned-renamed (m .blocks) k i (blockFor u first n) (cellOf m i) (ap (λ b. covers (recordedOf b) i) (r .unused))
+        owned-setNamed (m .blocks) k i (blockFor u first n) (cellOf m i) (ap (λ b. covers (recordedOf b) i) (r .unused))
         (y .owned i)
 
     owner : (i : ℕ) (b : Bool) → covers (recorded.Live first n) i ≡ b → Covering first n i b
-        → Owned (rename (m .blocks) k (blockFor u first n)) i (cellOf (withBlock m u k first n) i)
+        → Owned (setNamed (m .blocks) k (blockFor u first n)) i (cellOf (withBlock m u k first n) i)
     owner i true e (inside p q) =
         rw (
           fill-inside (m .cells) first n (cell.Holds k value.Undefined) i cell.Free
               (omega (arith, y .size, r .fits)) p q,
-          named-rename-same (m .blocks) k (blockFor u first n) block.Dead (r .from) (omega (arith, r .to, y .names)),
+          named-setNamed-same (m .blocks) k (blockFor u first n) block.Dead (r .from) (omega (arith, r .to, y .names)),
           recorded-for u first n,
         ) e
     owner i false e (below p) =
@@ -163,12 +163,12 @@ onward-make m u n k first r y = record {
     later : (j : ℕ) → Dec (j ≡ k) → Becomes (blockOf m j) (blockOf (withBlock m u k first n) j)
     later j (yes e) = rw (e, r .unused) tt
     later j (no d) =
-        rw (named-rename-other (m .blocks) k j (blockFor u first n) block.Dead d) (becomes-itself (blockOf m j))
+        rw (named-setNamed-other (m .blocks) k j (blockFor u first n) block.Dead d) (becomes-itself (blockOf m j))
 
 pub make-given : (m : Memory) (u : Use) (n k first : ℕ) → Room m n k first → Invariant m
     → isUnused (blockOf (withBlock m u k first n) k) ≡ false
 make-given m u n k first r y =
-    ap isUnused (named-rename-same (m .blocks) k (blockFor u first n) block.Dead (r .from)
+    ap isUnused (named-setNamed-same (m .blocks) k (blockFor u first n) block.Dead (r .from)
     (omega (arith, r .to, y .names)))
     ∙ for-given u first n
 
@@ -189,11 +189,11 @@ live-given block.Dead a n e = refl
 without-invariant : (m : Memory) (k first n : ℕ) → recordedOf (blockOf m k) ≡ recorded.Live first n → Invariant m
     → Invariant (withoutCells m k (recorded.Live first n))
 without-invariant m k first n e y = record {
-  names = length-rename (m .blocks) k block.Dead ∙ y .names;
+  names = length-setNamed (m .blocks) k block.Dead ∙ y .names;
   size = length-fill (m .cells) first n cell.Free ∙ y .size;
-  within = λ j a l h. inside-cells j a l (named-rename (m .blocks) k j block.Dead block.Dead) h;
+  within = λ j a l h. inside-cells j a l (named-setNamed (m .blocks) k j block.Dead block.Dead) h;
   cover = λ i. go i (covers (recorded.Live first n) i) refl (covering first n i);
-  rising = rising-renamed (m .blocks) k block.Dead refl lower (y .rising);
+  rising = rising-setNamed (m .blocks) k block.Dead refl lower (y .rising);
   owned = λ i. owner i (covers (recorded.Live first n) i) refl (covering first n i);
 }
   where
@@ -202,12 +202,12 @@ without-invariant m k first n e y = record {
         let r = live-named (m .blocks) k first n e in
         y .rising j k a (omega arith) (omega (arith, r .1, y .names)) (live-given (blockOf m k) first n e)
 
-    kept : (i : ℕ) → covers (recorded.Live first n) i ≡ false → Owned (rename (m .blocks) k block.Dead) i (cellOf m i)
+    kept : (i : ℕ) → covers (recorded.Live first n) i ≡ false → Owned (setNamed (m .blocks) k block.Dead) i (cellOf m i)
     kept i h =
-        owned-renamed (m .blocks) k i block.Dead (cellOf m i) (ap (λ b. covers b i) e ∙ h) (y .owned i)
+        owned-setNamed (m .blocks) k i block.Dead (cellOf m i) (ap (λ b. covers b i) e ∙ h) (y .owned i)
 
     owner : (i : ℕ) (b : Bool) → covers (recorded.Live first n) i ≡ b → Covering first n i b
-        → Owned (rename (m .blocks) k block.Dead) i (cellOf (withoutCells m k (recorded.Live first n)) i)
+        → Owned (setNamed (m .blocks) k block.Dead) i (cellOf (withoutCells m k (recorded.Live first n)) i)
     owner i true g (inside p q) =
         rw (fill-inside (m .cells) first n cell.Free i cell.Free (omega (arith, y .size, y .within k first n e)) p q) tt
     owner i false g (below p) = rw (fill-below (m .cells) first n cell.Free i cell.Free p) (kept i g)
@@ -252,7 +252,7 @@ end-other m k j d = go (recordedOf (blockOf m k))
   where
     go : (x : Recorded) → blockOf (withoutCells m k x) j ≡ blockOf m j
     go recorded.Unused = refl
-    go (recorded.Live first n) = named-rename-other (m .blocks) k j block.Dead block.Dead d
+    go (recorded.Live first n) = named-setNamed-other (m .blocks) k j block.Dead block.Dead d
     go recorded.Dead = refl
 
 -- the end of a block leaves every name given
@@ -261,7 +261,7 @@ end-given m k j h = go (recordedOf (blockOf m k))
   where
     go : (x : Recorded) → isUnused (blockOf (withoutCells m k x) j) ≡ false
     go recorded.Unused = h
-    go (recorded.Live first n) = given-renamed (m .blocks) k block.Dead refl j h
+    go (recorded.Live first n) = given-setNamed (m .blocks) k block.Dead refl j h
     go recorded.Dead = h
 
 -- a freeable block is freed
@@ -273,7 +273,7 @@ onward-free m k first n e y =
     go : (j : ℕ) → Dec (j ≡ k) → Becomes (blockOf m j) (blockOf (endBlock m k) j)
     go j (yes d) =
         let r = live-named (m .blocks) k first n (ap recordedOf e) in
-        rw (d, e) (inr (named-rename-same (m .blocks) k block.Dead block.Dead (r .0) (r .1)))
+        rw (d, e) (inr (named-setNamed-same (m .blocks) k block.Dead block.Dead (r .0) (r .1)))
     go j (no d) = rw (end-other m k j d) (becomes-itself (blockOf m j))
 
 -- a block ends that was not there at first

@@ -11,10 +11,11 @@ use Rattle.rules.specs.Memory.{freeable, Change, changed, stopped, makeA
 use Rattle.rules.specs.Memory.{endBlock, assigned, allocated, freed}
 use Rattle.rules.specs.Evaluation.{isValid, initialisedAt, ofLive, queried, opposite}
 use Rattle.rules.specs.Watched.{Temporaries}
+use Rattle.rules.specs.Fits.{All}
 use Rattle.rules.proofs.runs.Operations.{truth-gives, opposite-gives}
 use Rattle.rules.proofs.runs.Keeping.{AnyNumber, ChangeKeeps, MadeKeeps, assigned-keeps, allocated-keeps}
 use Rattle.rules.proofs.runs.Keeping.{freed-keeps}
-use Rattle.rules.proofs.lists.Lists.{All, all-change, all-set, all-fill}
+use Rattle.rules.proofs.lists.Lists.{all-change, all-set, all-fill}
 use Rattle.rules.proofs.memory.Invariant.{Invariant, becomes-given, Onward}
 use Rattle.rules.proofs.memory.Room.{HasRoom, room}
 use Rattle.rules.proofs.memory.BlockChanges.{onward-make, make-given, end-given}

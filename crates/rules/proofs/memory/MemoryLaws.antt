@@ -10,7 +10,7 @@ use lib.Dec.{leb, ltb}
 use lib.ListN.{length, getD, set, List·getD-map}
 use lib.Seq.{getD-set-same, getD-set-other}
 use borrow.Author.Tests.{leb-true, leb-false, ltb-true, ltb-false}
-use Rattle.rules.specs.Memory.{named, rename, fill, allFree, one}
+use Rattle.rules.specs.Memory.{named, fill, allFree, one, setNamed}
 use Rattle.rules.specs.Observation.{covers, covered}
 use Rattle.rules.specs.declared.Recorded.{Recorded}
 use Rattle.rules.specs.declared.Recorded.the-variants as recorded
@@ -21,9 +21,9 @@ module _ {A B : Type 0} (g : A → B) where
   map-set (y ∷ l) zero x = refl
   map-set (y ∷ l) (suc i) x = ap (λ r. g y ∷ r) (map-set l i x)
 
-  pub map-rename : (l : List A) (k : ℕ) (x : A) → map g (rename l k x) ≡ rename (map g l) k (g x)
-  map-rename l zero x = refl
-  map-rename l (suc k) x = map-set l k x
+  pub map-setNamed : (l : List A) (k : ℕ) (x : A) → map g (setNamed l k x) ≡ setNamed (map g l) k (g x)
+  map-setNamed l zero x = refl
+  map-setNamed l (suc k) x = map-set l k x
 
   pub map-fill : (l : List A) (s n : ℕ) (x : A) → map g (fill l s n x) ≡ fill (map g l) s n (g x)
   map-fill [] s n x = refl
@@ -43,21 +43,21 @@ module _ {A : Type 0} where
   named-in (x ∷ l) (suc zero) d h = (omega arith, omega arith)
   named-in (x ∷ l) (suc (suc k)) d h = let r = named-in l (suc k) d h in (omega arith, omega arith)
 
-  pub named-rename-same : (l : List A) (k : ℕ) (x d : A) → 1 ≤ k → k ≤ length l → named (rename l k x) k d ≡ x
-  named-rename-same l zero x d h le = absurd (omega arith)
-  named-rename-same l (suc k) x d h le = getD-set-same l k x d (omega arith)
+  pub named-setNamed-same : (l : List A) (k : ℕ) (x d : A) → 1 ≤ k → k ≤ length l → named (setNamed l k x) k d ≡ x
+  named-setNamed-same l zero x d h le = absurd (omega arith)
+  named-setNamed-same l (suc k) x d h le = getD-set-same l k x d (omega arith)
 
-  pub named-rename-other : (l : List A) (k j : ℕ) (x d : A) → j ≢ k → named (rename l k x) j d ≡ named l j d
-  named-rename-other l zero j x d h = refl
-  named-rename-other l (suc k) zero x d h = refl
-  named-rename-other l (suc k) (suc j) x d h = getD-set-other l k j x d (λ e. h (ap suc e))
+  pub named-setNamed-other : (l : List A) (k j : ℕ) (x d : A) → j ≢ k → named (setNamed l k x) j d ≡ named l j d
+  named-setNamed-other l zero j x d h = refl
+  named-setNamed-other l (suc k) zero x d h = refl
+  named-setNamed-other l (suc k) (suc j) x d h = getD-set-other l k j x d (λ e. h (ap suc e))
 
   -- what a name names after another was set: that, or what it named
-  pub named-rename : (l : List A) (k j : ℕ) (x d : A)
-      → (named (rename l k x) j d ≡ x) ⊎ (named (rename l k x) j d ≡ named l j d)
-  named-rename l zero j x d = inr refl
-  named-rename l (suc k) zero x d = inr refl
-  named-rename l (suc k) (suc j) x d = go l k j
+  pub named-setNamed : (l : List A) (k j : ℕ) (x d : A)
+      → (named (setNamed l k x) j d ≡ x) ⊎ (named (setNamed l k x) j d ≡ named l j d)
+  named-setNamed l zero j x d = inr refl
+  named-setNamed l (suc k) zero x d = inr refl
+  named-setNamed l (suc k) (suc j) x d = go l k j
     where
       go : (l : List A) (k j : ℕ) → (getD (set l k x) j d ≡ x) ⊎ (getD (set l k x) j d ≡ getD l j d)
       go [] k j = inr refl
@@ -145,10 +145,10 @@ coverage-set [] k x i h = absurd (omega arith)
 coverage-set (y ∷ l) zero x i h = omega arith
 coverage-set (y ∷ l) (suc k) x i h = omega (arith, coverage-set l k x i (omega arith))
 
-pub coverage-rename : (l : List Recorded) (k : ℕ) (x : Recorded) (i : ℕ) → 1 ≤ k → k ≤ length l
-    → coverage (rename l k x) i + one (covers (named l k recorded.Dead) i) ≡ coverage l i + one (covers x i)
-coverage-rename l zero x i h le = absurd (omega arith)
-coverage-rename l (suc k) x i h le = coverage-set l k x i (omega arith)
+pub coverage-setNamed : (l : List Recorded) (k : ℕ) (x : Recorded) (i : ℕ) → 1 ≤ k → k ≤ length l
+    → coverage (setNamed l k x) i + one (covers (named l k recorded.Dead) i) ≡ coverage l i + one (covers x i)
+coverage-setNamed l zero x i h le = absurd (omega arith)
+coverage-setNamed l (suc k) x i h le = coverage-set l k x i (omega arith)
 
 coverage-at : (l : List Recorded) (k i : ℕ) → one (covers (getD l k recorded.Dead) i) ≤ coverage l i
 coverage-at [] k i = omega arith

@@ -12,18 +12,19 @@ use lib.ListN.{length, set, replicate, length-set, length-replicate}
 use lib.Seq.{getD-set-other}
 use borrow.Author.Tests.{ltb-true}
 use Rattle.rules.specs.Sizes.{nameCount, cellCount}
-use Rattle.rules.specs.Memory.{rename, locatedIn, lowestRun, one}
-use Rattle.rules.specs.Observation.{Observation, recordOf, markOf, covers, covered, markRun, noted, withMarks}
+use Rattle.rules.specs.Memory.{locatedIn, lowestRun, one, setNamed}
+use Rattle.rules.specs.Observation.{Observation, recordOf, covers, covered, markRun, noted, withMarks, isMarked}
 use Rattle.rules.specs.Observation.{storeAt, storeSized, storeBlock, locateMark, emptyObservation}
 use Rattle.rules.proofs.lists.SearchLaws.{Outcome, lowest-outcome}
 use Rattle.rules.proofs.lists.RunLaws.{run-bound}
-use Rattle.rules.proofs.lists.Lists.{All, all-getD, all-named, all-replicate, length-rename, length-fill}
-use Rattle.rules.proofs.memory.MemoryLaws.{named-in, named-rename-same, named-rename, fill-inside, fill-below}
+use Rattle.rules.proofs.lists.Lists.{all-getD, all-named, all-replicate, length-setNamed, length-fill}
+use Rattle.rules.proofs.memory.MemoryLaws.{named-in, named-setNamed-same, named-setNamed, fill-inside}
+use Rattle.rules.proofs.memory.MemoryLaws.{fill-below}
 use Rattle.rules.proofs.memory.MemoryLaws.{fill-above, allFree-at, Covering, inside, below, above, covering}
-use Rattle.rules.proofs.memory.MemoryLaws.{covers-inside, coverage, coverage-rename, coverage-named, separate}
+use Rattle.rules.proofs.memory.MemoryLaws.{covers-inside, coverage, coverage-setNamed, coverage-named, separate}
 use Rattle.rules.proofs.memory.MemoryLaws.{Covered}
 use Rattle.rules.proofs.memory.MemoryLaws.{some, none, covered-is}
-use Rattle.rules.proofs.layout.Fits.{InsideRecorded}
+use Rattle.rules.specs.Fits.{InsideRecorded, All}
 use Rattle.rules.proofs.memory.BlockChanges.{live-parts, dead-is-not-live}
 use Rattle.rules.proofs.runs.Keeping.{AnyNumber}
 use Rattle.rules.proofs.runs.TargetRuns.{NotedKeeps}
@@ -47,7 +48,7 @@ pub record OrderlyObservation (o : Observation) : Type 0 where
   -- no mark lies in two live blocks
   pub once : (i : ℕ) → coverage (o .blocks) i ≤ 1
   -- "marks outside live blocks are 0"
-  pub outside : (i : ℕ) → covered (o .blocks) i ≡ false → markOf o i ≡ false
+  pub outside : (i : ℕ) → covered (o .blocks) i ≡ false → isMarked o i ≡ false
 
 -- the live blocks of two names share no mark
 pub marks-apart : (o : Observation) → OrderlyObservation o → (j k first n first₁ n₁ : ℕ) → j ≢ k
@@ -56,7 +57,7 @@ pub marks-apart : (o : Observation) → OrderlyObservation o → (j k first n fi
 marks-apart o y = separate (o .blocks) (y .once)
 
 -- a mark that is set lies in a live block
-pub marked-inside : (o : Observation) → OrderlyObservation o → (i : ℕ) → markOf o i ≡ true
+pub marked-inside : (o : Observation) → OrderlyObservation o → (i : ℕ) → isMarked o i ≡ true
     → covered (o .blocks) i ≡ true
 marked-inside o y i e = go (covered (o .blocks) i) refl
   where
@@ -97,16 +98,16 @@ dead-is-not-unused e = let z : _≡_ {A = ℕ} 0 1 = cc in omega arith
 -- ---- a block is stored or deleted: the marks from first on are cleared, the others are covered as before
 with-marks : (o : Observation) (k : ℕ) (b : Recorded) (first n : ℕ) → OrderlyObservation o → first + n ≤ cellCount
     → ((a l : ℕ) → b ≡ recorded.Live a l → a + l ≤ cellCount)
-    → ((i : ℕ) → coverage (rename (o .blocks) k b) i ≤ 1)
+    → ((i : ℕ) → coverage (setNamed (o .blocks) k b) i ≤ 1)
     → ((i : ℕ) → covers (recorded.Live first n) i ≡ false
-    → coverage (rename (o .blocks) k b) i ≡ coverage (o .blocks) i)
+    → coverage (setNamed (o .blocks) k b) i ≡ coverage (o .blocks) i)
     → OrderlyObservation (withMarks o k b first n)
 with-marks o k b first n y places fits once rest = record {
-  record-count = length-rename (o .blocks) k b ∙ y .record-count;
+  record-count = length-setNamed (o .blocks) k b ∙ y .record-count;
   mark-count = length-fill (o .marks) _ _ _ ∙ y .mark-count;
-  within = λ j a l e. inside-marks j a l (named-rename (o .blocks) k j b recorded.Dead) e;
+  within = λ j a l e. inside-marks j a l (named-setNamed (o .blocks) k j b recorded.Dead) e;
   once = once;
-  outside = λ i e. go i (coverage-none (rename (o .blocks) k b) i e) (covers (recorded.Live first n) i) refl
+  outside = λ i e. go i (coverage-none (setNamed (o .blocks) k b) i e) (covers (recorded.Live first n) i) refl
       (covering first n i);
 }
   where
@@ -116,12 +117,12 @@ with-marks o k b first n y places fits once rest = record {
     inside-marks j a l (inl d) e = fits a l (sym d ∙ e)
     inside-marks j a l (inr d) e = y .within j a l (sym d ∙ e)
 
-    free-before : (i : ℕ) → coverage (rename (o .blocks) k b) i ≡ 0 → covers (recorded.Live first n) i ≡ false
-        → markOf o i ≡ false
+    free-before : (i : ℕ) → coverage (setNamed (o .blocks) k b) i ≡ 0 → covers (recorded.Live first n) i ≡ false
+        → isMarked o i ≡ false
     free-before i c e = y .outside i (uncovered (o .blocks) i (sym (rest i e) ∙ c))
 
-    go : (i : ℕ) → coverage (rename (o .blocks) k b) i ≡ 0 → (t : Bool) → covers (recorded.Live first n) i ≡ t
-        → Covering first n i t → markOf (withMarks o k b first n) i ≡ false
+    go : (i : ℕ) → coverage (setNamed (o .blocks) k b) i ≡ 0 → (t : Bool) → covers (recorded.Live first n) i ≡ t
+        → Covering first n i t → isMarked (withMarks o k b first n) i ≡ false
     go i c true e (inside p q) =
         fill-inside (o .marks) first n false i false (omega (arith, y .mark-count)) p q
     go i c false e (below p) = fill-below (o .marks) first n false i false p ∙ free-before i c e
@@ -138,15 +139,15 @@ store-orderly o k first n y d e =
     places : first + n ≤ cellCount
     places = run-bound _ n first e
 
-    sum : (i : ℕ) → coverage (rename (o .blocks) k (recorded.Live first n)) i
+    sum : (i : ℕ) → coverage (setNamed (o .blocks) k (recorded.Live first n)) i
         ≡ coverage (o .blocks) i + one (covers (recorded.Live first n) i)
     sum i =
         let r = named-in (o .blocks) k recorded.Dead (λ h. dead-is-not-unused (sym h ∙ d)) in
-        let z = rw d at (coverage-rename (o .blocks) k (recorded.Live first n) i (r .0) (r .1)) in
+        let z = rw d at (coverage-setNamed (o .blocks) k (recorded.Live first n) i (r .0) (r .1)) in
         omega (arith, z)
 
     go : (i : ℕ) (t : Bool) → covers (recorded.Live first n) i ≡ t → Covering first n i t
-        → coverage (rename (o .blocks) k (recorded.Live first n)) i ≤ 1
+        → coverage (setNamed (o .blocks) k (recorded.Live first n)) i ≤ 1
     go i true h (inside p q) = omega (arith, sum i, ap one h, markRun-free o n first i e p q)
     go i false h c = omega (arith, sum i, ap one h, y .once i)
 
@@ -156,11 +157,11 @@ delete-orderly o k first n y d =
     with-marks o k recorded.Dead first n y (y .within k first n d) (λ a l h. absurd (dead-is-not-live a l h))
     (λ i. omega (arith, sum i, y .once i)) (λ i h. omega (arith, sum i, ap one h))
   where
-    sum : (i : ℕ) → coverage (rename (o .blocks) k recorded.Dead) i + one (covers (recorded.Live first n) i)
+    sum : (i : ℕ) → coverage (setNamed (o .blocks) k recorded.Dead) i + one (covers (recorded.Live first n) i)
         ≡ coverage (o .blocks) i
     sum i =
         let r = named-in (o .blocks) k recorded.Dead (λ h. dead-is-not-live first n (sym h ∙ d)) in
-        let z = rw d at (coverage-rename (o .blocks) k recorded.Dead i (r .0) (r .1)) in
+        let z = rw d at (coverage-setNamed (o .blocks) k recorded.Dead i (r .0) (r .1)) in
         omega (arith, z)
 
 -- what a store of a block of z marks under name k has done where it is not refused
@@ -172,7 +173,7 @@ pub record Stored (o : Observation) (k : ℕ) (z : ℤ) (o₁ : Observation) : T
   pub placed : markRun o size ≡ search.At first
   pub live : recordOf o₁ k ≡ recorded.Live first size
   -- "a stored block's marks start at 0"
-  pub clear : (i : ℕ) → first ≤ i → i < first + size → markOf o₁ i ≡ false
+  pub clear : (i : ℕ) → first ≤ i → i < first + size → isMarked o₁ i ≡ false
 
 pub stored : (o : Observation) (p : Pointer) (z : ℤ) (o₁ : Observation) → OrderlyObservation o
     → storeBlock o (value.Pointer p) (value.Integer z) ≡ noted o₁ → Stored o (p .name) z o₁
@@ -188,7 +189,7 @@ stored o p z o₁ y e = subst (NotedKeeps (Stored o (p .name) z) AnyNumber) e (s
           size = n;
           asked = refl;
           placed = g;
-          live = named-rename-same (o .blocks) k (recorded.Live first n) recorded.Dead (r .0) (r .1);
+          live = named-setNamed-same (o .blocks) k (recorded.Live first n) recorded.Dead (r .0) (r .1);
           clear = λ i a b. fill-inside (o .marks) first n false i false (omega (arith, places, y .mark-count)) a b;
         }
     found k n recorded.Unused search.Nothing d g = tt

@@ -12,7 +12,7 @@ use Rattle.rules.specs.TargetTrees as target
 use Rattle.rules.specs.Memory.{Memory, Change, changeIn, cellOf, fixed, makeBlock, endBlock, assigned, allocated}
 use Rattle.rules.specs.Memory.{freed, onValue}
 use Rattle.rules.specs.Evaluation.{Variables, evaluate, findPlace, addressOf, opposite, condition, extend}
-use Rattle.rules.specs.Observation.{Noted, noted, refused, recordOf, markOf, queryObservation}
+use Rattle.rules.specs.Observation.{Noted, noted, refused, recordOf, queryObservation, isMarked}
 use Rattle.rules.specs.Flow.{Outcome, finished, ended, into, after}
 use Rattle.rules.specs.Plain.{asserted}
 use Rattle.rules.specs.Watched.{Temporaries, temporaryOf, heldIn, WatchedState, withMemory, valueIn, placeIn}
@@ -164,7 +164,7 @@ module _ (σ : Scope) (ρ : Variables) (x : WatchedState) (i : GivenState σ ρ 
       on-value (EvaluatedHas (GivenValue m)) AnyNumber evaluated.Stopped (λ c y. tt) (heldIn τ n) _ (held-given n)
       (λ v g.
       on-pointer (EvaluatedHas (GivenValue m)) AnyNumber evaluated.Stopped (λ c y. tt) (GivenValue m) v _ tt g (λ p h.
-      queried-given m q (recordOf (x .observation) (p .name)) (λ j. markOf (x .observation) j) p h))
+      queried-given m q (recordOf (x .observation) (p .name)) (λ j. isMarked (x .observation) j) p h))
 
   not-given : (n : ℕ) → EvaluatedHas (GivenValue m) (onValue (heldIn τ n) evaluated.Stopped opposite)
   not-given n =

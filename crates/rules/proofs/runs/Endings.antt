@@ -10,7 +10,7 @@ use Rattle.rules.specs.TargetTrees.{TargetStatement}
 use Rattle.rules.specs.Memory.{Memory, Change, changeIn, fixed, makeBlock, assigned, allocated, freed}
 use Rattle.rules.specs.Evaluation.{Variables, noTemporaries, held, evaluate, findPlace, addressOf}
 use Rattle.rules.specs.Evaluation.{evaluateSource, findSource, evaluatePredicate, condition}
-use Rattle.rules.specs.Observation.{Observation, Noted, recordOf, markOf, queryObservation}
+use Rattle.rules.specs.Observation.{Observation, Noted, recordOf, queryObservation, isMarked}
 use Rattle.rules.specs.Flow.{Outcome, finished, ended, ending}
 use Rattle.rules.specs.Plain.{plainMeaning, run}
 use Rattle.rules.specs.Watched.{Temporaries, temporaryOf, WatchedState, withMemory, valueIn, placeIn, holding}
@@ -106,7 +106,7 @@ query-among q o v =
     on-pointer (EvaluatedAmong AnyValue temporaryEndings) (Among temporaryEndings) evaluated.Stopped (λ c x. x) AnyValue
     v _ refl tt (λ p u.
     queried-among AnyValue (λ z. tt) (λ p. tt) temporaryEndings (watchedly .enough) q (recordOf o (p .name))
-    (λ i. markOf o i) p)
+    (λ i. isMarked o i) p)
 
 changes-end : (x : WatchedState) (c : Change Memory) → ChangeKeeps AnyMemory (Among watchedEndings) c
     → ChangeKeeps AnyState (Among watchedEndings) (changeIn (withMemory x) c)

@@ -5,8 +5,9 @@ use mathlib.Core.Logic.{_≢_}
 use mathlib.Core.Path.{_≡_, refl, sym, ap, _∙_}
 use Rattle.rules.specs.Records.{kindOf, markOf, childA, childB, childC}
 use Rattle.rules.specs.Kinds.{source, Sort, predicate, statement}
-use Rattle.rules.specs.Trees.{Expression, Place, Predicate, Statement}
-use Rattle.rules.specs.Nodes.{SourceNode, asExpression, asPlace, asPredicate, sourceStatement, nodeAt}
+use Rattle.rules.specs.Trees.{Statement}
+use Rattle.rules.specs.Nodes.{SourceNode, sourceStatement, HasSort, expressionAt, placeAt, predicateAt}
+use Rattle.rules.specs.Nodes.{statementAt}
 use Rattle.rules.specs.Memory.{Memory, fixed, makeBlock, endBlock, assigned, allocated, freed}
 use Rattle.rules.specs.Evaluation.{Variables, evaluateSource, findSource, evaluatePredicate, condition, extend}
 use Rattle.rules.specs.Flow.{finished, ended, into, next, after, decide, inLet, runBy}
@@ -17,29 +18,13 @@ use Rattle.rules.proofs.acceptance.KindViews.{assert}
 use Rattle.rules.proofs.acceptance.FormLaws.{FormHolds, nodeAs}
 use Rattle.rules.proofs.acceptance.Standing.{stands}
 use Rattle.rules.proofs.runs.Turns.{while-zero, while-suc}
-use Rattle.rules.proofs.runs.StatementArms.{OfSort, ChildOfSort, statement-form}
-
--- the trees of record n
-abbrev pub expressionAt : List ℕ → ℕ → Expression ⊥
-expressionAt t n = asExpression (nodeAt source t n)
-
-abbrev pub placeAt : List ℕ → ℕ → Place ⊥
-placeAt t n = asPlace (nodeAt source t n)
-
-abbrev pub predicateAt : List ℕ → ℕ → Predicate
-predicateAt t n = asPredicate (nodeAt source t n)
-
-abbrev pub statementAt : List ℕ → ℕ → Statement
-statementAt t n = sourceStatement (nodeAt source t n)
-
-abbrev pub HasSort : Sort → List ℕ → ℕ → Type 0
-HasSort s t n = OfSort source s t n
+use Rattle.rules.proofs.runs.StatementArms.{ChildOfSort, statement-form}
 
 -- a child of record n
 abbrev pub Under : Sort → List ℕ → ℕ → ℕ → Type 0
 Under s t n x = ChildOfSort source s t n x
 
-module _ (t : List ℕ) (n : ℕ) (h : HasSort statement t n) where
+module _ (t : List ℕ) (n : ℕ) (h : HasSort source statement t n) where
   form : (k : ℕ) → kindOf t n ≡ k → FormHolds source t n (formAt source k)
   form k e = statement-form source t n h k e
 

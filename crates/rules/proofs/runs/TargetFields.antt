@@ -1,5 +1,5 @@
--- The statements of a target table: their trees, numbers, kinds and fields. The kinds that both languages have get
--- their children from StatementArms.
+-- The statements of a target table: their kinds and fields. The kinds that both languages have get their children
+-- from StatementArms.
 use Prim.Native.Nat.{ℕ, suc, _≤_, _<_}
 use native.Mathlib.Omega.{arith}
 use mathlib.Core.Bool.{Bool, true, false, cond, false≢true}
@@ -15,9 +15,7 @@ use mir.Val.{Fits}
 use Rattle.rules.specs.Records.{kindOf, markOf, childA, childB, childC, literalOf}
 use Rattle.rules.specs.Kinds.{target, sortNumber, Sort, expression, place, statement, Literal, zeroLiteral}
 use Rattle.rules.specs.Kinds.{anyLiteral, statementLiteral, Form}
-use Rattle.rules.specs.Trees.{Expression, Place}
-use Rattle.rules.specs.TargetTrees.{TargetStatement}
-use Rattle.rules.specs.Nodes.{asExpression, asPlace, targetStatement, nodeAt}
+use Rattle.rules.specs.Nodes.{HasSort, targetStatementAt, numberAt}
 use Rattle.rules.proofs.lists.BooleanLaws.{and-split}
 use Rattle.rules.proofs.acceptance.KindViews.{formAt, found-passes, TargetKind}
 use Rattle.rules.proofs.acceptance.KindViews as kind
@@ -25,30 +23,13 @@ use Rattle.rules.proofs.acceptance.FormLaws.{FormHolds, LiteralHolds}
 use Rattle.rules.proofs.acceptance.Standing.{stands}
 use Rattle.rules.proofs.acceptance.Sound.{Scope, Numbered, SoundTarget}
 use Rattle.rules.proofs.acceptance.SoundSource.{up-to}
-use Rattle.rules.proofs.runs.StatementArms.{OfSort, ChildOfSort, statement-form, sound-as}
-
--- the trees of record n
-abbrev pub expressionAt : List ℕ → ℕ → Expression ℕ
-expressionAt t n = asExpression (nodeAt target t n)
-
-abbrev pub placeAt : List ℕ → ℕ → Place ℕ
-placeAt t n = asPlace (nodeAt target t n)
-
-abbrev pub statementAt : List ℕ → ℕ → TargetStatement
-statementAt t n = targetStatement (nodeAt target t n)
-
-abbrev pub HasSort : Sort → List ℕ → ℕ → Type 0
-HasSort s t n = OfSort target s t n
+use Rattle.rules.proofs.runs.StatementArms.{ChildOfSort, statement-form, sound-as}
 
 -- a child of record n
 abbrev pub Under : Sort → List ℕ → ℕ → ℕ → Type 0
 Under s t n x = ChildOfSort target s t n x
 
--- "the number of the source statement it came from"
-abbrev pub numberAt : List ℕ → ℕ → ℕ
-numberAt t n = natAbs (literalOf t n)
-
--- every statement of the target language has such a number
+-- every statement of the target language has the number of a source statement
 isStatementLiteral : Literal → Bool
 isStatementLiteral zeroLiteral = false
 isStatementLiteral anyLiteral = false
@@ -63,7 +44,7 @@ literal-numbered zeroLiteral h = absurd (false≢true h)
 literal-numbered anyLiteral h = absurd (false≢true h)
 literal-numbered statementLiteral h = refl
 
-module _ (t : List ℕ) (n : ℕ) (h : HasSort statement t n) where
+module _ (t : List ℕ) (n : ℕ) (h : HasSort target statement t n) where
   form : (k : ℕ) → kindOf t n ≡ k → FormHolds target t n (formAt target k)
   form = statement-form target t n h
 
@@ -152,6 +133,6 @@ module _ (t : List ℕ) (n : ℕ) (h : HasSort statement t n) where
   pub initialise-fields : kindOf t n ≡ 70 → markOf t n < 64
   initialise-fields e = omega (arith, up-to 63 (markOf t n) (form 70 e .mark))
 
-  pub sound-branch-on : (σ : Scope) → SoundTarget (statementAt t n) σ → kindOf t n ≡ 66
-      → SoundTarget (statementAt t (childB t n)) σ × SoundTarget (statementAt t (childC t n)) σ
+  pub sound-branch-on : (σ : Scope) → SoundTarget (targetStatementAt t n) σ → kindOf t n ≡ 66
+      → SoundTarget (targetStatementAt t (childB t n)) σ × SoundTarget (targetStatementAt t (childC t n)) σ
   sound-branch-on σ s e = let w = sound-as target t n h σ s 66 e in (w .2, w .3)

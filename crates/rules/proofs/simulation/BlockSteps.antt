@@ -17,7 +17,7 @@ use Rattle.rules.proofs.memory.Invariant.{Invariant, Onward}
 use Rattle.rules.proofs.memory.Pointing.{Leads, leads}
 use Rattle.rules.proofs.memory.Room.{Room, HasRoom, room}
 use Rattle.rules.proofs.memory.BlockChanges.{onward-make}
-use Rattle.rules.proofs.memory.MemoryLaws.{named-rename-same}
+use Rattle.rules.proofs.memory.MemoryLaws.{named-setNamed-same}
 use Rattle.rules.proofs.simulation.Mirror.{mirror-initialise, mirror-store, mirror-delete}
 use Rattle.rules.proofs.simulation.PredicateSimulation.{Full, put, full-put, put-same, put-other}
 use Rattle.rules.proofs.simulation.StatementSteps.{Watching, Running, Agree, both-finish, both-end, Agreeing}
@@ -204,7 +204,7 @@ agree-let s ρ m τ f inner at b bw (search.At k) (search.At first) h g y l e i 
     (onward-make m fixed 1 k first h y .invariant)
     (full-put (put τ 0 (pointerTo k 0)) 1 (value.Integer (pos 1)) (full-put τ 0 (pointerTo k 0) l)))
     (v k m₁ f (onward-make m fixed 1 k first h y .invariant))
-    (named-rename-same (m .blocks) k (block.Fixed first 1) block.Dead (h .from) (omega (arith, h .to, y .names))))
+    (named-setNamed-same (m .blocks) k (block.Fixed first 1) block.Dead (h .from) (omega (arith, h .to, y .names))))
   where
     m₁ : Memory
     m₁ = withBlock m fixed k first 1

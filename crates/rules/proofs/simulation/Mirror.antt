@@ -7,14 +7,14 @@ use mathlib.Core.List.{map}
 use lib.IntN.{pos}
 use lib.ListN.{set, List·getD-map}
 use Rattle.rules.specs.Trees.{Query}
-use Rattle.rules.specs.Memory.{Memory, recordedOf, rename, blockOf, cellOf, locate, locatedIn, setCell}
+use Rattle.rules.specs.Memory.{Memory, recordedOf, blockOf, cellOf, locate, locatedIn, setCell, setNamed}
 use Rattle.rules.specs.Memory.{lowestRun, isFree, freeRun, fill, Use, blockFor, withBlock, withoutCells}
 use Rattle.rules.specs.Memory.{endBlock}
 use Rattle.rules.specs.Evaluation.{isInitialised, queried, queryMemory}
-use Rattle.rules.specs.Observation.{recordOf, markOf, covered, markRun, noted, storeAt, storeBlock, deleteAt}
+use Rattle.rules.specs.Observation.{recordOf, covered, markRun, noted, storeAt, storeBlock, deleteAt, isMarked}
 use Rattle.rules.specs.Observation.{deleteBlock, locateMark, markAt, initialise, queryObservation, pointerTo}
 use Rattle.rules.specs.Observation.{mirror}
-use Rattle.rules.proofs.memory.MemoryLaws.{map-set, map-rename, map-fill, named-map, coverage, Covered, some}
+use Rattle.rules.proofs.memory.MemoryLaws.{map-set, map-setNamed, map-fill, named-map, coverage, Covered, some}
 use Rattle.rules.proofs.memory.MemoryLaws.{none}
 use Rattle.rules.proofs.memory.MemoryLaws.{covered-is}
 use Rattle.rules.proofs.memory.Invariant.{occupied, recordsOf, Invariant}
@@ -34,7 +34,7 @@ module _ (m : Memory) where
   pub mirror-record : (k : ℕ) → recordOf (mirror m) k ≡ recordedOf (blockOf m k)
   mirror-record k = named-map recordedOf (m .blocks) k block.Dead
 
-  pub mirror-marks : _≡_ {A = ℕ → Bool} (λ i. markOf (mirror m) i) (λ i. isInitialised (cellOf m i))
+  pub mirror-marks : _≡_ {A = ℕ → Bool} (λ i. isMarked (mirror m) i) (λ i. isInitialised (cellOf m i))
   mirror-marks = fun-ext (λ i. List·getD-map isInitialised (m .cells) i cell.Free)
 
   pub mirror-locate : (p : Pointer) → locateMark (mirror m) p ≡ locate m p
@@ -89,10 +89,10 @@ mirror-store m u n k first y e g =
     run : markRun (mirror m) (suc n) ≡ search.At first
     run = mirror-run m y (suc n) ∙ g
 
-    blocks : rename (recordsOf m) k (recorded.Live first (suc n))
-        ≡ map recordedOf (rename (m .blocks) k (blockFor u first (suc n)))
-    blocks = ap (rename (recordsOf m) k) (sym (recorded-for u first (suc n)))
-        ∙ sym (map-rename recordedOf (m .blocks) k (blockFor u first (suc n)))
+    blocks : setNamed (recordsOf m) k (recorded.Live first (suc n))
+        ≡ map recordedOf (setNamed (m .blocks) k (blockFor u first (suc n)))
+    blocks = ap (setNamed (recordsOf m) k) (sym (recorded-for u first (suc n)))
+        ∙ sym (map-setNamed recordedOf (m .blocks) k (blockFor u first (suc n)))
 
     marks : fill (map isInitialised (m .cells)) first (suc n) false
         ≡ map isInitialised (fill (m .cells) first (suc n) (cell.Holds k value.Undefined))
@@ -105,8 +105,8 @@ mirror-delete m k first n e =
     ∙ (λ j. noted (record { blocks = blocks j; marks = marks j }))
     ∙ ap (λ x. noted (mirror (withoutCells m k x))) (sym e)
   where
-    blocks : rename (recordsOf m) k recorded.Dead ≡ map recordedOf (rename (m .blocks) k block.Dead)
-    blocks = sym (map-rename recordedOf (m .blocks) k block.Dead)
+    blocks : setNamed (recordsOf m) k recorded.Dead ≡ map recordedOf (setNamed (m .blocks) k block.Dead)
+    blocks = sym (map-setNamed recordedOf (m .blocks) k block.Dead)
 
     marks : fill (map isInitialised (m .cells)) first n false ≡ map isInitialised (fill (m .cells) first n cell.Free)
     marks = sym (map-fill isInitialised (m .cells) first n cell.Free)

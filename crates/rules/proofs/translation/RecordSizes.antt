@@ -29,7 +29,7 @@ use Rattle.rules.proofs.acceptance.FormLaws.{some-sort, FieldHolds, nod
 use Rattle.rules.proofs.acceptance.NodeLaws.{node-zero}
 use Rattle.rules.proofs.acceptance.Standing.{Stands, stands}
 use Rattle.rules.proofs.acceptance.Readiness.{node-as}
-use Rattle.rules.proofs.translation.RecordTrees.{targetTree, treeAt, Sorted, sizeFrom}
+use Rattle.rules.specs.RecordTrees.{targetTree, treeAt, Sorted, sizeFrom}
 
 -- the tree of a child that is none
 pub none-at : (t : List ℕ) (x s v : ℕ) → x ≡ 0 → none ≡ treeAt t x s v

@@ -16,13 +16,13 @@ use Rattle.rules.specs.Nodes.{sourceProgram, nodeAt}
 use Rattle.rules.specs.Emission.{statementTree, treeSize}
 use Rattle.rules.specs.Translation.{translate}
 use Rattle.rules.specs.Origins.{ownRecords, copiesOfChild, copiesIn, copiesOf, targetRecords, sum}
-use Rattle.rules.specs.Cases.{line, of}
+use Rattle.rules.specs.Cases.{of, ofAll}
 use Rattle.rules.specs.declared.Checked.the-variants as checked
 use Rattle.rules.proofs.acceptance.Acceptance.{Accepted, accepted-says, passed-of}
 use Rattle.rules.proofs.acceptance.AcceptedTrees.{accepted-record, accepted-last}
 use Rattle.rules.proofs.acceptance.ScopeLaws.{copies-last}
 use Rattle.rules.proofs.translation.Counting.{sum-equal, sum-plus, sum-child, sum-most, count-all}
-use Rattle.rules.proofs.translation.RecordTrees.{treeAt}
+use Rattle.rules.specs.RecordTrees.{treeAt}
 use Rattle.rules.proofs.translation.RecordSizes.{none-at, tree-as, size-law}
 use Rattle.rules.proofs.translation.RecordCopies.{copies-in-all, copies-handed, last-in-none, at-most-14}
 
@@ -86,7 +86,7 @@ size-bound t h =
 
 -- a let reaches it, here of a skip
 abbrev pub skipInLet : List ℕ
-skipInLet = tableBytes (of 40 0 0 ∷ line 47 1 1 0 0 (pos 0) ∷ [])
+skipInLet = tableBytes (of 40 0 0 ∷ ofAll 47 1 1 0 0 (pos 0) ∷ [])
 
 pub let-reaches-14 : (check source skipInLet ≡ checked.Accepted) × (targetRecords skipInLet 2 ≡ 14)
 unfolding little digits wordAt flat lookUp formOf lowest recordFault timesChildOf timesChild shapeFault parentOf inScope

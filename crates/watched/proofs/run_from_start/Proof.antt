@@ -1,6 +1,6 @@
-use Rattle.rules.proofs.runs.TargetFields.{statementAt}
 use Rattle.watched.proofs.EntryLaws.{leaves-start}
 use borrow.Author.Needs.{needs}
+use Rattle.rules.specs.Nodes.{targetStatementAt}
 use Rattle.watched.proofs.run_from_start.Statement.{statement}
 use Rattle.watched.proofs.run_from_start.Tie as tie
 
@@ -16,7 +16,7 @@ returns : tie.Need-returns
 returns c =
     let after-start-variables = c .before .before .before .before .before in
     let s = after-start-variables .before .args in
-    leaves-start (statementAt (s .table .now) (s .n)) (s .fuel) (c .run .result) (s .mem .now) _ (s .obs .now) _ _
+    leaves-start (targetStatementAt (s .table .now) (s .n)) (s .fuel) (c .run .result) (s .mem .now) _ (s .obs .now) _ _
     (rw (after-start-variables .start-variables .ensures) at (c .run .ensures))
 
 pub run-from-start-spec : {M : Type 1} → statement M

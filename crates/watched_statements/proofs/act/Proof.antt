@@ -5,7 +5,7 @@ use Rattle.rules.specs.Records.{markOf}
 use Rattle.rules.specs.Evaluation.{condition}
 use Rattle.rules.specs.Watched.{heldIn}
 use Rattle.rules.specs.Flow.{ending}
-use Rattle.rules.proofs.runs.TargetFields.{statementAt, numberAt}
+use Rattle.rules.specs.Nodes.{targetStatementAt, numberAt}
 use Rattle.rules.proofs.runs.TargetArms.{watch-skip, watch-assign, watch-new, watch-free, watch-address, watch-value}
 use Rattle.rules.proofs.runs.TargetArms.{watch-assert-on}
 use Rattle.evaluation.specs.State.{variablesOf}
@@ -108,7 +108,7 @@ returns-2 c =
     let τ = s .args .temporaries .now in
     let h = s .pre .0 .is in
     let q = sym (after-kind .kind .ensures) ∙ after-match .match .keys2 in
-    acts-change (statementAt T n) ρ l o τ (numberAt T n) (c .assign .result) _ _
+    acts-change (targetStatementAt T n) ρ l o τ (numberAt T n) (c .assign .result) _ _
     (λ f. watch-assign T n h ρ (stateOf (lent l o τ)) f q) (c .assign .ensures)
 
 returns-3 : tie.Need-returns-3
@@ -124,7 +124,7 @@ returns-3 c =
     let τ = s .args .temporaries .now in
     let h = s .pre .0 .is in
     let q = sym (after-kind .kind .ensures) ∙ after-match .match .keys3 in
-    acts-change (statementAt T n) ρ l o τ (numberAt T n) (c .allocate .result) _ _
+    acts-change (targetStatementAt T n) ρ l o τ (numberAt T n) (c .allocate .result) _ _
     (λ f. watch-new T n h ρ (stateOf (lent l o τ)) f q) (c .allocate .ensures)
 
 returns-4 : tie.Need-returns-4
@@ -140,7 +140,7 @@ returns-4 c =
     let τ = s .args .temporaries .now in
     let h = s .pre .0 .is in
     let q = sym (after-kind .kind .ensures) ∙ after-match .match .keys4 in
-    acts-change (statementAt T n) ρ l o τ (numberAt T n) (c .release .result) _ _
+    acts-change (targetStatementAt T n) ρ l o τ (numberAt T n) (c .release .result) _ _
     (λ f. watch-free T n h ρ (stateOf (lent l o τ)) f q) (c .release .ensures)
 
 returns-5 : tie.Need-returns-5
@@ -156,7 +156,7 @@ returns-5 c =
     let τ = s .args .temporaries .now in
     let h = s .pre .0 .is in
     let q = sym (after-kind .kind .ensures) ∙ after-match .match .keys5 in
-    acts-taken (statementAt T n) ρ l o τ (numberAt T n) (c .take-address .result) _ _ _
+    acts-taken (targetStatementAt T n) ρ l o τ (numberAt T n) (c .take-address .result) _ _ _
     (λ f. watch-address T n h ρ (stateOf (lent l o τ)) f q) (c .take-address .ensures)
 
 returns-6 : tie.Need-returns-6
@@ -172,7 +172,7 @@ returns-6 c =
     let τ = s .args .temporaries .now in
     let h = s .pre .0 .is in
     let q = sym (after-kind .kind .ensures) ∙ after-match .match .keys6 in
-    acts-taken (statementAt T n) ρ l o τ (numberAt T n) (c .take-value .result) _ _ _
+    acts-taken (targetStatementAt T n) ρ l o τ (numberAt T n) (c .take-value .result) _ _ _
     (λ f. watch-value T n h ρ (stateOf (lent l o τ)) f q) (c .take-value .ensures)
 
 returns-7 : tie.Need-returns-7
@@ -188,7 +188,7 @@ returns-7 c =
     let τ = s .args .temporaries .now in
     let h = s .pre .0 .is in
     let q = sym (after-kind .kind .ensures) ∙ after-match .match .keys7 in
-    acts-asserted (statementAt T n) ρ l o τ (numberAt T n) (c .assert .result)
+    acts-asserted (targetStatementAt T n) ρ l o τ (numberAt T n) (c .assert .result)
     (condition (heldIn (temporariesOf τ) (markOf T n)))
     (λ f. watch-assert-on T n h ρ (stateOf (lent l o τ)) f q) (c .assert .ensures)
 
@@ -206,7 +206,7 @@ returns-8 c =
     let τ = s .args .temporaries .now in
     let h = s .pre .0 .is in
     let q = rw (after-kind .kind .ensures) at (take-between _ (after-if1 .if1 .left) (after-if2 .if2 .taken)) in
-    acts-taken (statementAt T n) ρ l o τ (numberAt T n) (c .take .result) _ _ _
+    acts-taken (targetStatementAt T n) ρ l o τ (numberAt T n) (c .take .result) _ _ _
     (λ f. watch-take T n h ρ (stateOf (lent l o τ)) f q) (c .take .ensures)
 
 returns-9 : tie.Need-returns-9
@@ -225,7 +225,7 @@ returns-9 c =
     let k = after-kind .kind .result in
     let out : (k < 63) ⊎ (66 ≤ k) = ⊎-elim (λ w. inl (w .taken)) (λ w. inr (w .1 .left)) (after-if1 .if1 .came) in
     let q = last-act T n h (s .pre .1) (after-kind .kind .ensures) (after-match .match .rest) out in
-    acts-observed (statementAt T n) ρ l o τ (numberAt T n) (c .note .result) _ _
+    acts-observed (targetStatementAt T n) ρ l o τ (numberAt T n) (c .note .result) _ _
     (λ f. watch-note T n h ρ (stateOf (lent l o τ)) f q) (c .note .ensures)
 
 pub act-spec : {M : Type 1} → statement M

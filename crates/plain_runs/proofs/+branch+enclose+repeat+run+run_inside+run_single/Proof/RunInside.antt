@@ -5,7 +5,7 @@ use Rattle.rules.specs.Records.{markOf, childA}
 use Rattle.rules.specs.Evaluation.{extend}
 use Rattle.rules.specs.Plain as plain
 use Rattle.rules.specs.Layout.{memoryOf}
-use Rattle.rules.proofs.runs.PlainArms.{statementAt}
+use Rattle.rules.specs.Nodes.{statementAt}
 use Rattle.evaluation.specs.State.{variablesOf}
 use Rattle.plain_runs.specs.Running.{Ran}
 use Rattle.plain_runs.proofs.MemberLaws.{inside-ends, inside-stays}

@@ -3,8 +3,8 @@ use Prim.Native.Nat.{ℕ}
 use native.Mathlib.Omega.{arith}
 use mathlib.Core.Path.{sym, _∙_}
 use borrow.Author.Needs.{needs}
+use Rattle.rules.specs.Nodes.{numberAt}
 use Rattle.rules.specs.declared.Test.the-variants as test
-use Rattle.rules.proofs.runs.TargetFields.{numberAt}
 use Rattle.watched_statements.specs.Watching.{lent}
 use Rattle.watched_statements.proofs.Laws.{ran-is, ran-ended}
 use Rattle.watched_statements.proofs.ReadyLaws.{ready-within, branch-parts, ready-then, ready-else}

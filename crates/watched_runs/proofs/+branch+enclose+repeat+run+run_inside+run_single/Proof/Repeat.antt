@@ -4,8 +4,8 @@ use native.Mathlib.Omega.{arith}
 use mathlib.Core.Path.{refl, sym, _∙_}
 use borrow.Author.Needs.{needs}
 use Rattle.rules.specs.Records.{childB}
+use Rattle.rules.specs.Nodes.{numberAt}
 use Rattle.rules.specs.declared.Test.the-variants as test
-use Rattle.rules.proofs.runs.TargetFields.{numberAt}
 use Rattle.evaluation.specs.State.{variablesOf}
 use Rattle.watched_statements.specs.Watching.{lent}
 use Rattle.watched_statements.proofs.Laws.{kept-same, ran-is, ran-from, ran-finished, ran-ended}

@@ -3,12 +3,13 @@ use Prim.Native.Nat.{ℕ, _+_, _≤_, _<_}
 use mathlib.Core.Bool.{true}
 use mathlib.Core.Path.{_≡_}
 use lib.ListN.{length}
+use mathlib.Core.List.{List, [], _∷_}
 use Rattle.rules.specs.Sizes.{nameCount, cellCount}
 use Rattle.rules.specs.Layout.{nameLimit}
 use Rattle.rules.specs.Numbers.{inRange}
 use Rattle.rules.specs.Memory.{Memory, recordedOf}
 use Rattle.rules.specs.Observation.{Observation}
-use Rattle.rules.proofs.lists.Lists.{All}
+use Rattle.rules.specs.Evaluation.{Variables}
 use Rattle.rules.specs.declared.Pointer.{Pointer}
 use Rattle.rules.specs.declared.Value.{Value}
 use Rattle.rules.specs.declared.Value.the-variants as value
@@ -20,6 +21,11 @@ use Rattle.rules.specs.declared.Cell.{Cell}
 use Rattle.rules.specs.declared.Cell.the-variants as cell
 use Rattle.rules.specs.declared.Temporary.{Temporary}
 use Rattle.rules.specs.declared.Temporary.the-variants as temporary
+
+-- a predicate of every element of a list
+pub data All {A : Type 0} (P : A → Type 0) : List A → Type 0 where
+  none : All P []
+  also : {x : A} {xs : List A} → P x → All P xs → All P (x ∷ xs)
 
 -- a name that a cell holds, a first cell or a length in two bytes
 abbrev pub FitsName : ℕ → Type 0
@@ -82,3 +88,7 @@ pub record InsideMemory (m : Memory) : Type 0 where
 pub record InsideObservation (o : Observation) : Type 0 where
   pub observation-fits : FitsObservation o
   pub records-inside : All InsideRecorded (o .blocks)
+
+-- the blocks of all variables have names that fit
+abbrev pub VariablesFit : Variables → Type 0
+VariablesFit ρ = (x : ℕ) → FitsName (ρ x)
