@@ -4,8 +4,7 @@ use native.Mathlib.Omega.{arith}
 use mathlib.Core.Bool.{Bool, true, false, cond}
 use mathlib.Core.Path.{_≡_, refl, sym, ap, subst, _∙_}
 use Rattle.rules.specs.Checker.{lowest}
-use Rattle.rules.specs.declared.Search.{Search}
-use Rattle.rules.specs.declared.Search.the-variants as search
+use Rattle.rules.specs.declared.{Search.Search}
 use Rattle.rules.proofs.lists.SearchLaws.{Outcome, lowest-outcome}
 use Rattle.checker.specs.Searches.{searchOf}
 
@@ -19,7 +18,7 @@ unfolding lowest
 lowest-here p n k found r b e h i = go b e h
   where
     go : (b : Bool) → b ≡ p (suc n) → r ≡ cond b (suc n) found
-        → elim (p (suc n)) as (λ q. Search) [ true ↦ search.At (suc n) | false ↦ lowest p (suc (suc n)) k ] ≡ searchOf r
+        → elim (p (suc n)) as (λ q. Search) [ true ↦ Search.At (suc n) | false ↦ lowest p (suc (suc n)) k ] ≡ searchOf r
     go true e h = rw (sym e) (ap searchOf (sym h))
     go false e h = rw (sym e) (i ∙ ap searchOf (sym h))
 

@@ -8,10 +8,7 @@ use borrow.Author.Tests.{eq-eqb, ne-eqb, lt-ltb, le-ltb}
 use lib.Dec.{eqb, ltb}
 use lib.ListN.{length}
 use Rattle.rules.specs.Sizes.{targetLimit}
-use Rattle.rules.specs.declared.Search.{Search}
-use Rattle.rules.specs.declared.Search.the-variants as search
-use Rattle.rules.specs.declared.Checked.{Checked}
-use Rattle.rules.specs.declared.Checked.the-variants as checked
+use Rattle.rules.specs.declared.{Search.Search, Checked.Checked}
 use Rattle.rules.specs.Records.{recordCount}
 use Rattle.rules.specs.Kinds.{Language, source, target, recordLimit}
 use Rattle.rules.specs.Checker.{lowestRecord, lengthFault, countFault}
@@ -24,24 +21,24 @@ pub next-none : (rule : ℕ → ℕ) (s : Search) (r : ℕ) (next : Checked) →
 next-none rule s r next e h = sym (ap (λ (x : Search). orNext rule x next) (e ∙ ap searchOf h))
 
 pub next-at : (rule : ℕ → ℕ) (s : Search) (r : ℕ) (next : Checked) → s ≡ searchOf r → (r ≡ 0 → ⊥)
-    → checked.Refused (rule r) r ≡ orNext rule s next
+    → Checked.Refused (rule r) r ≡ orNext rule s next
 next-at rule s zero next e h = absurd (h refl)
 next-at rule s (suc n) next e h = sym (ap (λ (x : Search). orNext rule x next) e)
 
-pub none-found : (s : Search) (r : ℕ) → s ≡ searchOf r → r ≡ 0 → s ≡ search.Nothing
+pub none-found : (s : Search) (r : ℕ) → s ≡ searchOf r → r ≡ 0 → s ≡ Search.Nothing
 none-found s r e h = e ∙ ap searchOf h
 
 -- ---- rule 8
-pub last-target : (b : Bool) (t : List ℕ) → b ≡ true → checked.Accepted ≡ lastRule (languageOf b) t
+pub last-target : (b : Bool) (t : List ℕ) → b ≡ true → Checked.Accepted ≡ lastRule (languageOf b) t
 last-target b t e = sym (ap (λ (x : Bool). lastRule (languageOf x) t) e)
 
 pub last-none : (b : Bool) (t : List ℕ) (r : ℕ) → b ≡ false → lowestRecord t (levelFault t) ≡ searchOf r → r ≡ 0
-    → checked.Accepted ≡ lastRule (languageOf b) t
+    → Checked.Accepted ≡ lastRule (languageOf b) t
 last-none b t r e s h =
     sym (ap (λ (x : Bool). lastRule (languageOf x) t) e ∙ ap (refuseAt 8) (s ∙ ap searchOf h))
 
 pub last-at : (b : Bool) (t : List ℕ) (r : ℕ) → b ≡ false → lowestRecord t (levelFault t) ≡ searchOf r → (r ≡ 0 → ⊥)
-    → checked.Refused 8 r ≡ lastRule (languageOf b) t
+    → Checked.Refused 8 r ≡ lastRule (languageOf b) t
 last-at b t zero e s h = absurd (h refl)
 last-at b t (suc n) e s h = sym (ap (λ (x : Bool). lastRule (languageOf x) t) e ∙ ap (refuseAt 8) s)
 
@@ -53,19 +50,19 @@ check-as : (l : Language) (t : List ℕ) → check l t ≡ inOrder (lengthFault 
 unfolding check fromRecords fromShapes fromScopes
 check-as l t = refl
 
-pub check-empty : (l : Language) (t : List ℕ) → length t ≡ 0 → checked.Refused 1 0 ≡ check l t
+pub check-empty : (l : Language) (t : List ℕ) → length t ≡ 0 → Checked.Refused 1 0 ≡ check l t
 check-empty l t e =
     sym (check-as l t
     ∙ (λ i. inOrder (eq-eqb (length t) 0 e i || not (eqb (length t % 16) 0)) (countFault l t) (fromRecords l t)))
 
 pub check-uneven : (l : Language) (t : List ℕ) → (length t ≡ 0 → ⊥) → (length t % 16 ≡ 0 → ⊥)
-    → checked.Refused 1 0 ≡ check l t
+    → Checked.Refused 1 0 ≡ check l t
 check-uneven l t d e =
     sym (check-as l t
     ∙ (λ i. inOrder (ne-eqb (length t) 0 d i || not (ne-eqb (length t % 16) 0 e i)) (countFault l t) (fromRecords l t)))
 
 pub check-many : (l : Language) (t : List ℕ) → (length t ≡ 0 → ⊥) → length t % 16 ≡ 0 → recordLimit l < recordCount t
-    → checked.Refused 2 0 ≡ check l t
+    → Checked.Refused 2 0 ≡ check l t
 check-many l t d e h =
     sym (check-as l t
     ∙ (λ i. inOrder (ne-eqb (length t) 0 d i || not (eq-eqb (length t % 16) 0 e i))

@@ -12,8 +12,7 @@ use Rattle.rules.specs.Kinds.{Language, source, target, Field, upTo, Form, look
 use Rattle.rules.specs.Checker.{fieldFits, fieldsFit, childrenFit, faultOf, recordFault, parentOf}
 use Rattle.rules.specs.Checker.{isLetOf, inScope, markInScope, scopeFault, levelBelow, positionIn, levelOf}
 use Rattle.rules.specs.Checker.{levelFault}
-use Rattle.rules.specs.declared.Search.{Search}
-use Rattle.rules.specs.declared.Search.the-variants as search
+use Rattle.rules.specs.declared.{Search.Search}
 use Rattle.rules.proofs.acceptance.KindViews.{formAt}
 use Rattle.rules.proofs.acceptance.ParentLaws.{Passed, IsParent, two-pass}
 use Rattle.rules.proofs.acceptance.FormLaws.{fields-split}
@@ -106,11 +105,11 @@ level-most t (suc d) n = go (parentOf source t n) (λ m. level-most t d m)
   where
     go : (s : Search) → ((m : ℕ) → levelOf t d m ≤ 4 * d)
         → elim s as (λ q. ℕ) [
-          | search.At m ↦ levelBelow (kindOf t m) (positionIn (fieldsOf (recordAt t m)) n) (levelOf t d m)
-          | search.Nothing ↦ 0
+          | Search.At m ↦ levelBelow (kindOf t m) (positionIn (fieldsOf (recordAt t m)) n) (levelOf t d m)
+          | Search.Nothing ↦ 0
         ] ≤ 4 * suc d
-    go search.Nothing f = omega arith
-    go (search.At m) f =
+    go Search.Nothing f = omega arith
+    go (Search.At m) f =
         let i = positionIn (fieldsOf (recordAt t m)) n in
         omega (
           arith,

@@ -2,8 +2,7 @@
 use Prim.Native.Nat.{ℕ}
 use mathlib.Core.List.{List}
 use lib.Dec.{ltb}
-use Rattle.rules.specs.declared.Search.{Search}
-use Rattle.rules.specs.declared.Checked.{Checked}
+use Rattle.rules.specs.declared.{Search.Search, Checked.Checked}
 use Rattle.rules.specs.Kinds.{Language}
 use Rattle.rules.specs.Checker.{lowestRecord, recordFault, shapeFault, scopeFault, refuseBy, _otherwise_, lastRule}
 

@@ -5,8 +5,7 @@ use mathlib.Core.List.{List}
 use mathlib.Core.Path.{_≡_}
 use lib.Dec.{eqb, ltb, leb}
 use lib.ListN.{length, getD}
-use Rattle.rules.specs.declared.Search.{Search}
-use Rattle.rules.specs.declared.Search.the-variants as search
+use Rattle.rules.specs.declared.{Search.Search}
 use Rattle.rules.specs.Sizes.{temporaryCount, targetLimit}
 use Rattle.rules.specs.Records.{recordCount}
 use Rattle.rules.specs.Kinds.{Language}
@@ -33,8 +32,8 @@ pub record Given (l : Language) (t : List ℕ) (n : ℕ) (f : ℕ → ℕ) (befo
 -- rules 2 to 6 are kept
 pub record Kept (l : Language) (t : List ℕ) : Type 0 where
   pub few : recordCount t ≤ targetLimit
-  pub records : lowestRecord t (λ n. ltb 0 (recordFault l t n)) ≡ search.Nothing
-  pub shapes : lowestRecord t (shapeFault l t) ≡ search.Nothing
+  pub records : lowestRecord t (λ n. ltb 0 (recordFault l t n)) ≡ Search.Nothing
+  pub shapes : lowestRecord t (shapeFault l t) ≡ Search.Nothing
 
 -- a term or predicate of kind k at level n that names a temporary above 63
 abbrev pub tooDeep : ℕ → ℕ → Bool

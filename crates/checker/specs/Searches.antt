@@ -4,16 +4,15 @@ use mathlib.Core.List.{List}
 use mathlib.Core.Path.{_≡_}
 use lib.ListN.{length, getD, set}
 use Rattle.rules.specs.Sizes.{targetLimit}
-use Rattle.rules.specs.declared.Search.{Search}
-use Rattle.rules.specs.declared.Search.the-variants as search
+use Rattle.rules.specs.declared.{Search.Search}
 use Rattle.rules.specs.Kinds.{Language, Field, unnamed, child, number}
 use Rattle.rules.specs.Checker.{timesChild}
 use Rattle.checker_forms.specs.Codes.{fieldFrom}
 
 -- 0 is none
 abbrev pub searchOf : ℕ → Search
-searchOf zero = search.Nothing
-searchOf (suc n) = search.At (suc n)
+searchOf zero = Search.Nothing
+searchOf (suc n) = Search.At (suc n)
 
 -- v noted of x where a field has it for a child
 abbrev pub putIn : Field → ℕ → ℕ → List ℕ → List ℕ

@@ -17,11 +17,7 @@ use Rattle.rules.proofs.acceptance.FormLaws.{FieldHolds}
 use Rattle.rules.proofs.acceptance.Standing.{stands, stands-at}
 use Rattle.rules.proofs.acceptance.SoundSource.{up-to}
 use Rattle.table.specs.Within.{Within}
-use Rattle.rules.specs.declared.Evaluated.{Evaluated}
-use Rattle.rules.specs.declared.Evaluated.the-variants as evaluated
-use Rattle.rules.specs.declared.Value.the-variants as value
-use Rattle.rules.specs.declared.Found.{Found}
-use Rattle.rules.specs.declared.Found.the-variants as found
+use Rattle.rules.specs.declared.{Value.Value, Evaluated.Evaluated, Found.Found}
 use Rattle.evaluation.specs.State.{Settles}
 use Rattle.evaluation.specs.declared.Settled.{Settled}
 use Rattle.evaluation.specs.declared.Settled.the-variants as settled
@@ -77,18 +73,18 @@ module _ (t : List ℕ) (τ : Holding ℕ) (ρ : Variables) (m : Memory) where
 
   module _ (n : ℕ) where
     pub literal-arm : {z : ℤ} → Stands t n expression → kindOf t n ≡ 1 → z ≡ literalOf t n
-        → evaluated.Value (value.Integer z) ≡ valueAt n
+        → Evaluated.Value (Value.Integer z) ≡ valueAt n
     unfolding evaluate
     literal-arm h d e =
-        ap (λ (z : ℤ). evaluated.Value (value.Integer z)) e
+        ap (λ (z : ℤ). Evaluated.Value (Value.Integer z)) e
         ∙ sym (by-node (stands-at target t n 1 expression h d .node))
 
     pub read-arm : {r : Evaluated} {f : Found} {j : ℕ} → Stands t n expression → kindOf t n ≡ 2
-        → j ≡ childA t n → f ≡ foundAt j → r ≡ onPlace f evaluated.Stopped (readCell m) → r ≡ valueAt n
+        → j ≡ childA t n → f ≡ foundAt j → r ≡ onPlace f Evaluated.Stopped (readCell m) → r ≡ valueAt n
     unfolding evaluate
     read-arm h d e f r =
         r
-        ∙ ap (λ (f : Found). onPlace f evaluated.Stopped (readCell m)) (f ∙ ap foundAt e)
+        ∙ ap (λ (f : Found). onPlace f Evaluated.Stopped (readCell m)) (f ∙ ap foundAt e)
         ∙ sym (by-node (stands-at target t n 2 expression h d .node))
 
     pub address-arm : {r : Evaluated} {f : Found} {j : ℕ} → Stands t n expression → kindOf t n ≡ 3
@@ -130,10 +126,10 @@ module _ (t : List ℕ) (τ : Holding ℕ) (ρ : Variables) (m : Memory) where
         r ∙ ap₂ (operated (operatorOf (markOf t n))) (x ∙ ap valueAt e) (y ∙ ap valueAt f) ∙ sym (h .value)
 
     pub variable-arm : {v : ℕ} → Stands t n place → kindOf t n ≡ 10 → v ≡ markOf t n
-        → found.Place (record { name = ρ v; offset = pos 0 }) ≡ foundAt n
+        → Found.Place (record { name = ρ v; offset = pos 0 }) ≡ foundAt n
     unfolding evaluate
     variable-arm h d e =
-        ap (λ (v : ℕ). found.Place (record { name = ρ v; offset = pos 0 })) e
+        ap (λ (v : ℕ). Found.Place (record { name = ρ v; offset = pos 0 })) e
         ∙ sym (by-place (stands-at target t n 10 place h d .node))
 
     pub pointer-arm : {r : Found} {x : Evaluated} {i : ℕ} → Stands t n place → kindOf t n ≡ 11

@@ -4,7 +4,7 @@ use mathlib.Core.List.{List}
 use mathlib.Core.Path.{_≡_}
 use lib.ListN.{getD}
 use Rattle.rules.specs.Evaluation.{Variables, Holding}
-use Rattle.rules.specs.declared.Evaluated.{Evaluated}
+use Rattle.rules.specs.declared.{Evaluated.Evaluated}
 use Rattle.evaluation.specs.declared.Settled.{Settled}
 use Rattle.evaluation.specs.declared.Settled.the-variants as settled
 

@@ -6,7 +6,7 @@ ghost use Rattle.rules.specs.Memory.{onPlace, readCell};
 ghost use Rattle.rules.specs.Layout.{memoryOf};
 ghost use Rattle.rules.specs.Evaluation.{evaluate, findPlace};
 ghost use Rattle.rules.specs.Watched.{temporaryOf};
-ghost use Rattle.rules.specs.declared.Evaluated.the-variants as evaluated;
+ghost use Rattle.rules.specs.declared.{Evaluated.Evaluated};
 ghost use Rattle.evaluation.specs.State.{variablesOf, Settles};
 ghost use Rattle.evaluation_temporaries.specs.Bytes.{temporariesOf};
 use rules::Evaluated;
@@ -26,7 +26,7 @@ pub enum Settled {
 
 // The value at a place.
 fn fetch(mem: &ExecutionMemory, f: Found) -> Evaluated
-    ensures { λ r. ⌜ r ≡ onPlace f evaluated.Stopped (readCell (memoryOf (now (mem .entry)))) ⌝ }
+    ensures { λ r. ⌜ r ≡ onPlace f Evaluated.Stopped (readCell (memoryOf (now (mem .entry)))) ⌝ }
 {
     match f {
         Found::Place(p) => memory::read(mem, p),
@@ -38,7 +38,7 @@ fn fetch(mem: &ExecutionMemory, f: Found) -> Evaluated
 fn settle_read(table: &Table, n: usize, variables: &Variables, mem: &ExecutionMemory) -> Settled
     requires { ⌜ sortOfNode target (nodeAt target (now table) n) ≡ sortNumber place ⌝ }
     ensures { λ r. ⌜ Settles r (λ τ. onPlace (findPlace (asPlace (nodeAt target (now (table .entry)) n)) τ
-        (variablesOf (now (variables .entry))) (memoryOf (now (mem .entry)))) evaluated.Stopped
+        (variablesOf (now (variables .entry))) (memoryOf (now (mem .entry)))) Evaluated.Stopped
         (readCell (memoryOf (now (mem .entry))))) ⌝ }
 {
     if table::kind(&table[..], n) == 10 {

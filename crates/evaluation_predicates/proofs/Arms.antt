@@ -21,10 +21,7 @@ use Rattle.rules.proofs.acceptance.FormLaws.{FieldHolds}
 use Rattle.rules.proofs.acceptance.Standing.{stands, stands-at}
 use Rattle.rules.proofs.runs.SharedExpressions.{target-expression, evaluated-alike}
 use Rattle.table.specs.Within.{Within}
-use Rattle.rules.specs.declared.Test.{Test}
-use Rattle.rules.specs.declared.Test.the-variants as test
-use Rattle.rules.specs.declared.Evaluated.{Evaluated}
-use Rattle.rules.specs.declared.Evaluated.the-variants as evaluated
+use Rattle.rules.specs.declared.{Evaluated.Evaluated, Test.Test}
 use Rattle.evaluation_predicates.specs.Joints.{jointOf}
 use Rattle.evaluation_predicates.specs.declared.Joint.{Joint}
 use Rattle.evaluation_predicates.specs.declared.Joint.the-variants as joint
@@ -72,29 +69,29 @@ abbrev pub byJoint : Joint → Evaluated → Evaluated
 byJoint (joint.Decided e) b = e
 byJoint joint.Open b = b
 
-joint-and : (a b : Evaluated) → byJoint (jointOf false a) b ≡ onValue a evaluated.Stopped (λ v. andThen v b)
-joint-and (evaluated.Stopped k) b = refl
-joint-and (evaluated.Value v) b = go (tested v)
+joint-and : (a b : Evaluated) → byJoint (jointOf false a) b ≡ onValue a Evaluated.Stopped (λ v. andThen v b)
+joint-and (Evaluated.Stopped k) b = refl
+joint-and (Evaluated.Value v) b = go (tested v)
   where
     go : (t : Test)
-        → byJoint (onTest t (λ k. joint.Decided (evaluated.Stopped k)) joint.Open
-        (joint.Decided (evaluated.Value v))) b
-        ≡ onTest t evaluated.Stopped b (evaluated.Value v)
-    go test.Yes = refl
-    go test.No = refl
-    go (test.Stopped k) = refl
+        → byJoint (onTest t (λ k. joint.Decided (Evaluated.Stopped k)) joint.Open
+        (joint.Decided (Evaluated.Value v))) b
+        ≡ onTest t Evaluated.Stopped b (Evaluated.Value v)
+    go Test.Yes = refl
+    go Test.No = refl
+    go (Test.Stopped k) = refl
 
-joint-or : (a b : Evaluated) → byJoint (jointOf true a) b ≡ onValue a evaluated.Stopped (λ v. orElse v b)
-joint-or (evaluated.Stopped k) b = refl
-joint-or (evaluated.Value v) b = go (tested v)
+joint-or : (a b : Evaluated) → byJoint (jointOf true a) b ≡ onValue a Evaluated.Stopped (λ v. orElse v b)
+joint-or (Evaluated.Stopped k) b = refl
+joint-or (Evaluated.Value v) b = go (tested v)
   where
     go : (t : Test)
-        → byJoint (onTest t (λ k. joint.Decided (evaluated.Stopped k)) (joint.Decided (evaluated.Value v))
+        → byJoint (onTest t (λ k. joint.Decided (Evaluated.Stopped k)) (joint.Decided (Evaluated.Value v))
         joint.Open) b
-        ≡ onTest t evaluated.Stopped (evaluated.Value v) b
-    go test.Yes = refl
-    go test.No = refl
-    go (test.Stopped k) = refl
+        ≡ onTest t Evaluated.Stopped (Evaluated.Value v) b
+    go Test.Yes = refl
+    go Test.No = refl
+    go (Test.Stopped k) = refl
 
 module _ (t : List ℕ) (ρ : Variables) (m : Memory) where
   abbrev pub termAt : ℕ → Evaluated
@@ -111,7 +108,7 @@ module _ (t : List ℕ) (ρ : Variables) (m : Memory) where
   by-predicate e = ap (λ (x : SourceNode). evaluatePredicate (asPredicate x) ρ m) e
 
   abbrev pub askedOf : ℕ → Evaluated → Evaluated
-  askedOf q e = onValue e evaluated.Stopped (queryMemory (queryOf q) m)
+  askedOf q e = onValue e Evaluated.Stopped (queryMemory (queryOf q) m)
 
   module _ (n : ℕ) where
     pub value-arm : {r : Evaluated} {j : ℕ} (τ : Temporaries) → Stands t n term → kindOf t n ≡ 20 → j ≡ childA t n
@@ -182,11 +179,11 @@ module _ (t : List ℕ) (ρ : Variables) (m : Memory) where
         ∙ sym (by-predicate (stands-at source t n 32 predicate h d .node))
 
     pub negated-arm : {r x : Evaluated} {j : ℕ} → Stands t n predicate → kindOf t n ≡ 33 → j ≡ childA t n
-        → x ≡ predicateAt j → r ≡ onValue x evaluated.Stopped opposite → r ≡ predicateAt n
+        → x ≡ predicateAt j → r ≡ onValue x Evaluated.Stopped opposite → r ≡ predicateAt n
     unfolding evaluatePredicate
     negated-arm h d e x r =
         r
-        ∙ ap (λ (x : Evaluated). onValue x evaluated.Stopped opposite) (x ∙ ap predicateAt e)
+        ∙ ap (λ (x : Evaluated). onValue x Evaluated.Stopped opposite) (x ∙ ap predicateAt e)
         ∙ sym (by-predicate (stands-at source t n 33 predicate h d .node))
 
     -- 'and' and 'or'

@@ -5,7 +5,7 @@ ghost use Rattle.rules.specs.Nodes.{operatorOf, queryOf, asTerm, asPredicate, s
 ghost use Rattle.rules.specs.Memory.{onValue};
 ghost use Rattle.rules.specs.Layout.{memoryOf};
 ghost use Rattle.rules.specs.Evaluation.{operated, queryMemory, evaluateTerm, evaluatePredicate, opposite};
-ghost use Rattle.rules.specs.declared.Evaluated.the-variants as evaluated;
+ghost use Rattle.rules.specs.declared.{Evaluated.Evaluated};
 ghost use Rattle.evaluation.specs.State.{variablesOf};
 ghost use Rattle.evaluation_predicates.specs.Joints.{jointOf};
 use rules::Evaluated;
@@ -37,7 +37,7 @@ fn combine(k: u8, a: Evaluated, b: Evaluated) -> Evaluated
 
 // A query of what a term gave: 40 where it is no pointer.
 fn ask(mem: &ExecutionMemory, q: u8, e: Evaluated) -> Evaluated
-    ensures { λ r. ⌜ r ≡ onValue e evaluated.Stopped (queryMemory (queryOf q) (memoryOf (now (mem .entry)))) ⌝ }
+    ensures { λ r. ⌜ r ≡ onValue e Evaluated.Stopped (queryMemory (queryOf q) (memoryOf (now (mem .entry)))) ⌝ }
 {
     match e {
         Evaluated::Value(v) => match v {
@@ -51,7 +51,7 @@ fn ask(mem: &ExecutionMemory, q: u8, e: Evaluated) -> Evaluated
 
 // 1 where a predicate gave 0, else 0.
 fn oppose(e: Evaluated) -> Evaluated
-    ensures { λ r. ⌜ r ≡ onValue e evaluated.Stopped opposite ⌝ }
+    ensures { λ r. ⌜ r ≡ onValue e Evaluated.Stopped opposite ⌝ }
 {
     match e {
         Evaluated::Value(v) => value::negate(v),

@@ -13,15 +13,11 @@ use Rattle.rules.specs.Watched.{Temporaries, temporaryOf, heldIn}
 use Rattle.rules.proofs.lists.Rows.{getD-tabulate}
 use Rattle.memory_cells.proofs.Reading.{other-cell}
 use Rattle.evaluation_temporaries.specs.Bytes.{temporaryIn, temporaryPlace, temporaryAt, temporariesOf}
-use Rattle.rules.specs.declared.Cell.{Cell}
-use Rattle.rules.specs.declared.Value.the-variants as value
-use Rattle.rules.specs.declared.Evaluated.{Evaluated}
-use Rattle.rules.specs.declared.Evaluated.the-variants as evaluated
-use Rattle.rules.specs.declared.Temporary.the-variants as temporary
+use Rattle.rules.specs.declared.{Value.Value, Evaluated.Evaluated, Cell.Cell, Temporary.Temporary}
 
 pub temporary-in : (l : List ℕ) (n : ℕ) → n < 64 → temporaryOf (temporariesOf l) n ≡ temporaryAt l n
 unfolding temporariesOf
-temporary-in l n h = getD-tabulate 64 0 n (temporaryAt l) temporary.Empty h ∙ ap (temporaryAt l) (zero-add n)
+temporary-in l n h = getD-tabulate 64 0 n (temporaryAt l) Temporary.Empty h ∙ ap (temporaryAt l) (zero-add n)
 
 abbrev told : ℕ → ℕ → ℤ → Evaluated
 told k w z = held (temporaryIn (cellFrom k 0 w z))
@@ -43,19 +39,19 @@ module _ (l : List ℕ) (n : ℕ) (h : n < 64) where
   held-by : (k : ℕ) → kind ≡ k → told k name number ≡ heldIn (temporariesOf l) n
   held-by k e = sym (held-at ∙ ap (λ (k : ℕ). told k name number) e)
 
-  pub empty-held : kind ≡ 0 → evaluated.Stopped 49 ≡ heldIn (temporariesOf l) n
+  pub empty-held : kind ≡ 0 → Evaluated.Stopped 49 ≡ heldIn (temporariesOf l) n
   empty-held e = held-by 0 e
 
-  pub undefined-held : kind ≡ 1 → evaluated.Value value.Undefined ≡ heldIn (temporariesOf l) n
+  pub undefined-held : kind ≡ 1 → Evaluated.Value Value.Undefined ≡ heldIn (temporariesOf l) n
   undefined-held e = held-by 1 e
 
-  pub integer-held : {z : ℤ} → kind ≡ 2 → z ≡ number → evaluated.Value (value.Integer z) ≡ heldIn (temporariesOf l) n
-  integer-held e z = ap (λ (z : ℤ). evaluated.Value (value.Integer z)) z ∙ held-by 2 e
+  pub integer-held : {z : ℤ} → kind ≡ 2 → z ≡ number → Evaluated.Value (Value.Integer z) ≡ heldIn (temporariesOf l) n
+  integer-held e z = ap (λ (z : ℤ). Evaluated.Value (Value.Integer z)) z ∙ held-by 2 e
 
   pub pointer-held : {w : ℕ} {z : ℤ} → kind ≢ 0 → kind ≢ 1 → kind ≢ 2 → w ≡ name → z ≡ number
-      → evaluated.Value (value.Pointer (record { name = w; offset = z })) ≡ heldIn (temporariesOf l) n
+      → Evaluated.Value (Value.Pointer (record { name = w; offset = z })) ≡ heldIn (temporariesOf l) n
   pointer-held a b c w z =
-      ap₂ (λ (w : ℕ) (z : ℤ). evaluated.Value (value.Pointer (record { name = w; offset = z }))) w z
+      ap₂ (λ (w : ℕ) (z : ℤ). Evaluated.Value (Value.Pointer (record { name = w; offset = z }))) w z
       ∙ ap (λ (x : Cell). held (temporaryIn x)) (other-cell kind 0 name number a b c)
       ∙ sym held-at
 

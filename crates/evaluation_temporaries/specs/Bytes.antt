@@ -6,15 +6,12 @@ use Rattle.rules.specs.Sizes.{temporaryCount}
 use Rattle.rules.specs.Words.{wordAt, integerAt, tabulate}
 use Rattle.rules.specs.Layout.{cellFrom}
 use Rattle.rules.specs.Watched.{Temporaries}
-use Rattle.rules.specs.declared.Cell.{Cell}
-use Rattle.rules.specs.declared.Cell.the-variants as cell
-use Rattle.rules.specs.declared.Temporary.{Temporary}
-use Rattle.rules.specs.declared.Temporary.the-variants as temporary
+use Rattle.rules.specs.declared.{Cell.Cell, Temporary.Temporary}
 
 -- a free cell is an empty temporary; an owner counts for nothing
 abbrev pub temporaryIn : Cell → Temporary
-temporaryIn cell.Free = temporary.Empty
-temporaryIn (cell.Holds o v) = temporary.Holds v
+temporaryIn Cell.Free = Temporary.Empty
+temporaryIn (Cell.Holds o v) = Temporary.Holds v
 
 -- 64 cells of 16 bytes, laid out as the memory's, the pointed-to name in two bytes
 abbrev pub temporaryPlace : ℕ → ℕ

@@ -5,7 +5,7 @@ ghost use lib.ListN.{set};
 ghost use Rattle.rules.specs.Sizes.{temporaryCount};
 ghost use Rattle.rules.specs.Layout.{cellFrom};
 ghost use Rattle.rules.specs.Watched.{heldIn};
-ghost use Rattle.rules.specs.declared.Temporary.the-variants as temporary;
+ghost use Rattle.rules.specs.declared.{Temporary.Temporary};
 ghost use Rattle.evaluation_temporaries.specs.Bytes.{temporaryIn, temporariesOf};
 use rules::Evaluated;
 use rules::Pointer;
@@ -49,7 +49,7 @@ fn write_temporary(temporaries: &mut Temporaries, n: usize, kind: u8, name: u16,
 pub fn take(temporaries: &mut Temporaries, n: usize, v: Value)
     requires { ⌜ n < temporaryCount ⌝ }
     ensures { λ _. ⌜ temporariesOf (now (temporaries .exit))
-        ≡ set (temporariesOf (now (temporaries .entry))) n (temporary.Holds v) ⌝ }
+        ≡ set (temporariesOf (now (temporaries .entry))) n (Temporary.Holds v) ⌝ }
 {
     match v {
         Value::Undefined => write_temporary(temporaries, n, 1, 0, 0),

@@ -9,18 +9,17 @@ use lib.ListN.{length}
 use Rattle.rules.specs.Words.{put}
 use Rattle.rules.specs.Kinds.{source}
 use Rattle.rules.specs.Checker.{check}
-use Rattle.rules.specs.declared.Checked.{Checked}
-use Rattle.rules.specs.declared.Checked.the-variants as checked
+use Rattle.rules.specs.declared.{Checked.Checked}
 use Rattle.rules.specs.Listing.{listingBy, listing}
 use Rattle.listing_text.specs.Text.{Written, refusalLine, translatedLines, longestText, textInto, listed}
 use Rattle.listing_text.proofs.LongestText.{length-refusal}
 use Rattle.listing_text.proofs.TranslationLaws.{lines-fit}
 
 -- by the checker's word
-pub accepted-listing : (t : List ℕ) → check source t ≡ checked.Accepted → translatedLines t ≡ listing t
+pub accepted-listing : (t : List ℕ) → check source t ≡ Checked.Accepted → translatedLines t ≡ listing t
 accepted-listing t e = ap (λ x. listingBy x t) (sym e)
 
-pub refused-listing : (t : List ℕ) (k n : ℕ) → check source t ≡ checked.Refused k n → refusalLine k n ≡ listing t
+pub refused-listing : (t : List ℕ) (k n : ℕ) → check source t ≡ Checked.Refused k n → refusalLine k n ≡ listing t
 refused-listing t k n e = ap (λ x. listingBy x t) (sym e)
 
 -- no listing is longer
@@ -28,8 +27,8 @@ pub longest : (t : List ℕ) → length (listing t) ≤ longestText
 longest t = by-word (check source t) refl
   where
     by-word : (w : Checked) → check source t ≡ w → length (listing t) ≤ longestText
-    by-word checked.Accepted e = omega (arith, ap length (accepted-listing t e), lines-fit t e)
-    by-word (checked.Refused k n) e = omega (arith, ap length (refused-listing t k n e), length-refusal k n)
+    by-word Checked.Accepted e = omega (arith, ap length (accepted-listing t e), lines-fit t e)
+    by-word (Checked.Refused k n) e = omega (arith, ap length (refused-listing t k n e), length-refusal k n)
 
 -- by the length of the output
 pub listed-same : (s t out : List ℕ) → listing s ≡ listing t → listed s out ≡ listed t out

@@ -12,13 +12,12 @@ use Rattle.rules.specs.Words.{put, tabulate}
 use Rattle.rules.specs.Records.{recordCount, recordAt}
 use Rattle.rules.specs.Kinds.{source, target}
 use Rattle.rules.specs.Checker.{check}
-use Rattle.rules.specs.declared.Checked.the-variants as checked
+use Rattle.rules.specs.declared.{Checked.Checked, Answer.Answer}
 use Rattle.rules.specs.Nodes.{sourceProgram}
 use Rattle.rules.specs.Emission.{statementTree, treeSize}
 use Rattle.rules.specs.Translation.{translate, translatedRecords, translation}
 use Rattle.rules.specs.Listing.{recordLines}
 use Rattle.rules.specs.Answers.{translatedBy}
-use Rattle.rules.specs.declared.Answer.{Answer}
 use Rattle.rules.proofs.lists.WordLaws.{length-put}
 use Rattle.rules.proofs.acceptance.Sound.{startScope}
 use Rattle.rules.proofs.acceptance.AcceptedPrograms.{accepted-program}
@@ -33,7 +32,7 @@ use Rattle.rules.proofs.lists.Rows.{tabulate-list}
 use Rattle.listing_text.specs.Text.{recordsOf, tableLines, translatedLines, longestText}
 use Rattle.listing_text.proofs.LongestText.{length-lines}
 
-module _ (t : List ℕ) (a : check source t ≡ checked.Accepted) where
+module _ (t : List ℕ) (a : check source t ≡ Checked.Accepted) where
   tree-small : treeSize (statementTree (translate (sourceProgram t))) ≤ 3584
   tree-small = omega (arith, size-bound t a, accepted-says source t a .not-too-many)
 
@@ -62,7 +61,7 @@ module _ (t : List ℕ) (a : check source t ≡ checked.Accepted) where
 
   -- what the translator hands back, in an output that is long enough
   module _ (o : List ℕ) (room : 57344 ≤ length o) (m : List ℕ) (r : Answer)
-      (e : r ≡ translatedBy checked.Accepted t o .answer) (f : m ≡ translatedBy checked.Accepted t o .out) where
+      (e : r ≡ translatedBy Checked.Accepted t o .answer) (f : m ≡ translatedBy Checked.Accepted t o .out) where
     size : length (translation t) ≡ 16 * length (translatedRecords t)
     size = table-length (translatedRecords t)
 
@@ -71,7 +70,7 @@ module _ (t : List ℕ) (a : check source t ≡ checked.Accepted) where
 
     pub record-count : r .«record» * 16 ≡ length (translation t)
     record-count =
-        let k : translatedBy checked.Accepted t o .answer .«record» ≡ recordCount (translation t) =
+        let k : translatedBy Checked.Accepted t o .answer .«record» ≡ recordCount (translation t) =
         rw (enough, translatedBy) in
         omega (arith, ap (λ (x : Answer). x .«record») e, k, table-count (translatedRecords t), size)
 

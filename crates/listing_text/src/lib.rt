@@ -9,7 +9,7 @@ ghost use Rattle.rules.specs.Words.{put};
 ghost use Rattle.rules.specs.Listing.{natural, integer, recordLine};
 ghost use Rattle.rules.specs.Kinds.{source};
 ghost use Rattle.rules.specs.Checker.{check};
-ghost use Rattle.rules.specs.declared.Checked.the-variants as checked;
+ghost use Rattle.rules.specs.declared.{Checked.Checked};
 ghost use Rattle.rules.specs.Records.{recordAt};
 ghost use Rattle.table.specs.Within.{Within};
 ghost use Rattle.listing_text.specs.Text.{lowDigits, Room, Written, spaced, three, headText, childrenText};
@@ -157,7 +157,7 @@ fn write_records(table: &[u8], out: &mut [u8]) -> usize
 
 // The lines of an accepted table's translation, of which there are at most 3,584.
 fn write_translation(table: &[u8], out: &mut [u8]) -> usize
-    requires { ⌜ (check source (now table) ≡ checked.Accepted) × (longestText ≤ length (now out)) ⌝ }
+    requires { ⌜ (check source (now table) ≡ Checked.Accepted) × (longestText ≤ length (now out)) ⌝ }
     ensures { λ r. ⌜ Written (now (out .entry)) 0 (translatedLines (now (table .entry))) (now (out .exit)) r ⌝ }
 {
     let mut target = [0u8; 57344];

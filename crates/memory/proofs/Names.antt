@@ -10,12 +10,10 @@ use Rattle.rules.specs.Sizes.{nameCount}
 use Rattle.rules.specs.Memory.{recordedOf, locate, locatedIn}
 use Rattle.rules.specs.Evaluation.{isValid}
 use Rattle.rules.specs.Layout.{memoryOf, nameLimit}
-use Rattle.rules.specs.declared.Pointer.{Pointer}
-use Rattle.rules.specs.declared.Block.{Block}
-use Rattle.rules.specs.declared.Located.the-variants as located
+use Rattle.rules.specs.declared.{Pointer.Pointer, Located.Located, Block.Block}
 use Rattle.memory_cells.proofs.Reading.{block-past}
 
-pub located-name : (l : List ℕ) (p : Pointer) (i : ℕ) → locate (memoryOf l) p ≡ located.At i → p .name < nameLimit
+pub located-name : (l : List ℕ) (p : Pointer) (i : ℕ) → locate (memoryOf l) p ≡ Located.At i → p .name < nameLimit
 unfolding locate
 located-name l p i e = pick (decLt nameCount (p .name))
   where

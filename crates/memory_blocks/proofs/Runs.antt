@@ -15,8 +15,7 @@ use Rattle.rules.specs.Memory.{Memory, cellOf, isFree, isUnused, blockOf, allFr
 use Rattle.rules.specs.Memory.{countFree}
 use Rattle.rules.specs.Layout.{memoryOf, cellAt}
 use Rattle.rules.specs.Words.{tabulate}
-use Rattle.rules.specs.declared.Search.{Search}
-use Rattle.rules.specs.declared.Search.the-variants as search
+use Rattle.rules.specs.declared.{Search.Search}
 use Rattle.memory_cells.proofs.Reading.{cell-in}
 
 lt-or-le : (a b : ℕ) → (a < b) ⊎ (b ≤ a)
@@ -57,19 +56,19 @@ blocked p (suc n) s j a b e =
 -- ---- the lowest
 module _ (q : ℕ → Bool) where
   pub lowest-at : (k j m : ℕ) → ((i : ℕ) → j ≤ i → i < m → q i ≡ false) → q m ≡ true → j ≤ m → m < j + k
-      → lowest q j k ≡ search.At m
+      → lowest q j k ≡ Search.At m
   unfolding lowest
   lowest-at zero j m f t a b = absurd (omega arith)
   lowest-at (suc k) j m f t a b =
-      ⊎-elim (λ e. chosen (q j) (search.At j) (lowest q (suc j) k) (ap q e ∙ t) ∙ ap search.At e)
-      (λ l. passed-over (q j) (search.At j) (lowest q (suc j) k) (f j (omega arith) l)
+      ⊎-elim (λ e. chosen (q j) (Search.At j) (lowest q (suc j) k) (ap q e ∙ t) ∙ ap Search.At e)
+      (λ l. passed-over (q j) (Search.At j) (lowest q (suc j) k) (f j (omega arith) l)
       ∙ lowest-at k (suc j) m (λ i x y. f i (omega arith) y) t l (omega arith)) (eq-or-lt-of-le a)
 
-  pub lowest-none : (k j : ℕ) → ((i : ℕ) → j ≤ i → i < j + k → q i ≡ false) → lowest q j k ≡ search.Nothing
+  pub lowest-none : (k j : ℕ) → ((i : ℕ) → j ≤ i → i < j + k → q i ≡ false) → lowest q j k ≡ Search.Nothing
   unfolding lowest
   lowest-none zero j f = refl
   lowest-none (suc k) j f =
-      passed-over (q j) (search.At j) (lowest q (suc j) k) (f j (omega arith) (omega arith))
+      passed-over (q j) (Search.At j) (lowest q (suc j) k) (f j (omega arith) (omega arith))
       ∙ lowest-none k (suc j) (λ i x y. f i (omega arith) (omega arith))
 
 pub none-more : (p : ℕ → Bool) (s k : ℕ) → ((j : ℕ) → s ≤ j → j < k → p j ≡ false) → p k ≡ false
@@ -80,8 +79,8 @@ none-more p s k f t j a b = ⊎-elim (λ e. ap p e ∙ t) (λ l. f j a l) last
     last = let h : j ≤ k = omega arith in eq-or-lt-of-le h
 
 abbrev Within : ℕ → ℕ → Search → Type 0
-Within j n (search.At k) = (j ≤ k) × (k < j + n)
-Within j n search.Nothing = Unit {0}
+Within j n (Search.At k) = (j ≤ k) × (k < j + n)
+Within j n Search.Nothing = Unit {0}
 
 lowest-within : (q : ℕ → Bool) (n j : ℕ) → Within j n (lowest q j n)
 unfolding lowest
@@ -89,28 +88,28 @@ lowest-within q zero j = tt
 lowest-within q (suc n) j = pick (q j) (lowest q (suc j) n) (lowest-within q n (suc j))
   where
     further : (s : Search) → Within (suc j) n s → Within j (suc n) s
-    further (search.At k) h = (omega arith, omega arith)
-    further search.Nothing h = tt
+    further (Search.At k) h = (omega arith, omega arith)
+    further Search.Nothing h = tt
 
-    pick : (b : Bool) (s : Search) → Within (suc j) n s → Within j (suc n) (elim b [ true ↦ search.At j | false ↦ s ])
+    pick : (b : Bool) (s : Search) → Within (suc j) n s → Within j (suc n) (elim b [ true ↦ Search.At j | false ↦ s ])
     pick true s h = (omega arith, omega arith)
     pick false s h = further s h
 
-pub name-bound : (m : Memory) (k : ℕ) → nextName m ≡ search.At k → k ≤ nameCount
+pub name-bound : (m : Memory) (k : ℕ) → nextName m ≡ Search.At k → k ≤ nameCount
 name-bound m k e =
-    let w : Within 1 nameCount (search.At k) =
+    let w : Within 1 nameCount (Search.At k) =
     subst (Within 1 nameCount) e (lowest-within (λ (j : ℕ). isUnused (blockOf m j)) nameCount 1) in
     omega (arith, w .1)
 
-pub run-bound : (m : Memory) (n s : ℕ) → freeRun m n ≡ search.At s → s + n ≤ cellCount
+pub run-bound : (m : Memory) (n s : ℕ) → freeRun m n ≡ Search.At s → s + n ≤ cellCount
 unfolding lowestRun
 run-bound m n s e =
     let p : ℕ → Bool = λ (i : ℕ). isFree (cellOf m i) in
-    let w : Within 0 (suc cellCount - n) (search.At s) =
+    let w : Within 0 (suc cellCount - n) (Search.At s) =
     subst (Within 0 (suc cellCount - n)) e (lowest-within (λ (j : ℕ). allFree p j n) (suc cellCount - n) 0) in
     omega (arith, w .1)
 
-pub run-of-none : (m : Memory) → search.At 0 ≡ freeRun m 0
+pub run-of-none : (m : Memory) → Search.At 0 ≡ freeRun m 0
 unfolding lowestRun allFree
 run-of-none m =
     sym (lowest-at (λ (j : ℕ). allFree (λ (i : ℕ). isFree (cellOf m i)) j 0) (suc cellCount) 0 0
@@ -178,7 +177,7 @@ module _ (p : ℕ → Bool) (n : ℕ) where
         reach : (j : ℕ) → i - run ≤ j → i < j + n
         reach j l = omega (arith, s .short, s .some)
 
-    pub scan-found : p i ≡ true → run + 1 ≡ n → search.At (i + 1 - n) ≡ lowestRun p n
+    pub scan-found : p i ≡ true → run + 1 ≡ n → Search.At (i + 1 - n) ≡ lowestRun p n
     unfolding lowestRun
     scan-found t e =
         let m : i + 1 - n ≡ i - run = omega (arith, s .some) in
@@ -191,7 +190,7 @@ module _ (p : ℕ → Bool) (n : ℕ) where
         full : (j : ℕ) → i - run ≤ j → j < i - run + n → p j ≡ true
         full j a b = ⊎-elim (λ q. ap p q ∙ t) (λ l. s .passed j a l) (last-of j a b)
 
-  pub scan-none : (run : ℕ) → Scanned p n cellCount run → search.Nothing ≡ lowestRun p n
+  pub scan-none : (run : ℕ) → Scanned p n cellCount run → Search.Nothing ≡ lowestRun p n
   unfolding lowestRun
   scan-none run s = sym (lowest-none (λ (j : ℕ). allFree p j n) (suc cellCount - n) 0 (λ j a b. s .none j (under j b)))
     where

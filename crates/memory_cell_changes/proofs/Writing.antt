@@ -21,11 +21,7 @@ use Rattle.rules.proofs.lists.Rows.{tabulate-same, tabulate-set}
 use Rattle.rules.specs.Fits.{FitsBlock, FitsCell}
 use Rattle.rules.proofs.layout.LayoutLaws.{length-blockBytes, length-cellBytes}
 use Rattle.rules.proofs.layout.ImagePuts.{image-put-block, image-put-cell}
-use Rattle.rules.specs.declared.Block.{Block}
-use Rattle.rules.specs.declared.Block.the-variants as block
-use Rattle.rules.specs.declared.Cell.{Cell}
-use Rattle.rules.specs.declared.Cell.the-variants as cell
-use Rattle.rules.specs.declared.Value.the-variants as value
+use Rattle.rules.specs.declared.{Value.Value, Block.Block, Cell.Cell}
 use Rattle.memory_cells.specs.Changes.{Exact, Becomes, setBlock, CellFits, CellHeld, BlockHeld}
 use Rattle.memory_cells.proofs.Reading.{count-blocks, count-cells}
 use Rattle.memory_cells.proofs.Apart.{rows-apart}
@@ -75,22 +71,22 @@ length-back s first n h = digits-value 2 n h
 block-back : (b : Block) → FitsBlock b
     → blockFrom (getD (blockBytes b) 0 0) (wordAt 2 (blockBytes b) 2) (wordAt 2 (blockBytes b) 4) ≡ b
 unfolding blockBytes
-block-back block.Unused h = refl
-block-back (block.Fixed first n) h =
-    ap₂ block.Fixed (first-back 1 first n (h .0)) (length-back 1 first n (h .1))
-block-back (block.Freeable first n) h =
-    ap₂ block.Freeable (first-back 2 first n (h .0)) (length-back 2 first n (h .1))
-block-back block.Dead h = refl
+block-back Block.Unused h = refl
+block-back (Block.Fixed first n) h =
+    ap₂ Block.Fixed (first-back 1 first n (h .0)) (length-back 1 first n (h .1))
+block-back (Block.Freeable first n) h =
+    ap₂ Block.Freeable (first-back 2 first n (h .0)) (length-back 2 first n (h .1))
+block-back Block.Dead h = refl
 
 cell-back : (c : Cell) → FitsCell c
     → cellFrom (getD (cellBytes c) 0 0) (getD (cellBytes c) 1 0) (getD (cellBytes c) 2 0)
     (integerAt (cellBytes c) 8) ≡ c
 unfolding cellBytes wordAt digits
-cell-back cell.Free h = refl
-cell-back (cell.Holds o value.Undefined) h = refl
-cell-back (cell.Holds o (value.Integer z)) h = ap (λ (x : ℤ). cell.Holds o (value.Integer x)) (integer-value z (h .1))
-cell-back (cell.Holds o (value.Pointer p)) h =
-    ap (λ (x : ℤ). cell.Holds o (value.Pointer (record { name = p .name; offset = x })))
+cell-back Cell.Free h = refl
+cell-back (Cell.Holds o Value.Undefined) h = refl
+cell-back (Cell.Holds o (Value.Integer z)) h = ap (λ (x : ℤ). Cell.Holds o (Value.Integer x)) (integer-value z (h .1))
+cell-back (Cell.Holds o (Value.Pointer p)) h =
+    ap (λ (x : ℤ). Cell.Holds o (Value.Pointer (record { name = p .name; offset = x })))
     (integer-value (p .offset) (h .1 .1))
 
 -- ---- what the bytes stand for then
@@ -171,16 +167,16 @@ pub unchanged : (l : List ℕ) (m : Memory) → memoryOf l ≡ m → Becomes l l
 unchanged l m e = record { view = e; exact = λ x. x }
 
 fits-cell : (c : Cell) → CellFits c → CellHeld c → FitsCell c
-fits-cell cell.Free n h = tt
-fits-cell (cell.Holds o value.Undefined) n h = n
-fits-cell (cell.Holds o (value.Integer z)) n h = (n .0, fits-range z h)
-fits-cell (cell.Holds o (value.Pointer p)) n h = (n .0, (n .1, fits-range (p .offset) h))
+fits-cell Cell.Free n h = tt
+fits-cell (Cell.Holds o Value.Undefined) n h = n
+fits-cell (Cell.Holds o (Value.Integer z)) n h = (n .0, fits-range z h)
+fits-cell (Cell.Holds o (Value.Pointer p)) n h = (n .0, (n .1, fits-range (p .offset) h))
 
 fits-block : (b : Block) → BlockHeld b → FitsBlock b
-fits-block block.Unused h = tt
-fits-block (block.Fixed first n) h = h
-fits-block (block.Freeable first n) h = h
-fits-block block.Dead h = tt
+fits-block Block.Unused h = tt
+fits-block (Block.Fixed first n) h = h
+fits-block (Block.Freeable first n) h = h
+fits-block Block.Dead h = tt
 
 pub becomes-cell : (l : List ℕ) (i : ℕ) (c : Cell) → length l ≡ memoryLength → i < cellCount → CellFits c → CellHeld c
     → Becomes l (put l (cellPlace i) (cellBytes c)) (setCell (memoryOf l) i c)

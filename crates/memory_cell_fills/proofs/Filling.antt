@@ -6,7 +6,7 @@ use mathlib.Core.Path.{_≡_, refl, sym, ap}
 use mathlib.Core.List.{List, [], _∷_}
 use lib.ListN.{set}
 use Rattle.rules.specs.Memory.{Memory, setCell, fill}
-use Rattle.rules.specs.declared.Cell.{Cell}
+use Rattle.rules.specs.declared.{Cell.Cell}
 use Rattle.memory_cell_fills.specs.Filling.{fillCells}
 
 fill-none : {A : Type 0} (xs : List A) (s : ℕ) (x : A) → fill xs s 0 x ≡ xs

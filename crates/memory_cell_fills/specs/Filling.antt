@@ -1,7 +1,7 @@
 -- Cells that become others.
 use Prim.Native.Nat.{ℕ}
 use Rattle.rules.specs.Memory.{Memory, fill}
-use Rattle.rules.specs.declared.Cell.{Cell}
+use Rattle.rules.specs.declared.{Cell.Cell}
 
 -- the n cells from s on are others
 abbrev pub fillCells : Memory → ℕ → ℕ → Cell → Memory

@@ -12,11 +12,7 @@ use Rattle.rules.specs.Sizes.{nameCount, cellCount}
 use Rattle.rules.specs.Memory.{Memory, blockOf, cellOf, isFree, isUnused}
 use Rattle.rules.specs.Layout.{memoryOf, blockAt, cellAt, blockFrom, cellFrom, blockPlace, cellPlace}
 use Rattle.rules.proofs.lists.Rows.{length-tabulate, getD-tabulate}
-use Rattle.rules.specs.declared.Block.{Block}
-use Rattle.rules.specs.declared.Block.the-variants as block
-use Rattle.rules.specs.declared.Cell.{Cell}
-use Rattle.rules.specs.declared.Cell.the-variants as cell
-use Rattle.rules.specs.declared.Value.the-variants as value
+use Rattle.rules.specs.declared.{Value.Value, Block.Block, Cell.Cell}
 
 pub count-blocks : (l : List ℕ) → length (memoryOf l .blocks) ≡ nameCount
 unfolding memoryOf
@@ -28,14 +24,14 @@ count-cells l = length-tabulate cellCount 0 (cellAt l)
 
 pub cell-in : (l : List ℕ) (i : ℕ) → i < cellCount → cellAt l i ≡ cellOf (memoryOf l) i
 unfolding memoryOf
-cell-in l i h = sym (getD-tabulate cellCount 0 i (cellAt l) cell.Free h ∙ ap (cellAt l) (zero-add i))
+cell-in l i h = sym (getD-tabulate cellCount 0 i (cellAt l) Cell.Free h ∙ ap (cellAt l) (zero-add i))
 
-pub cell-past : (l : List ℕ) (i : ℕ) → cellCount ≤ i → cell.Free ≡ cellOf (memoryOf l) i
-cell-past l i h = sym (List·getD-eq-default (memoryOf l .cells) cell.Free (le-trans (le-of-eq (count-cells l)) h))
+pub cell-past : (l : List ℕ) (i : ℕ) → cellCount ≤ i → Cell.Free ≡ cellOf (memoryOf l) i
+cell-past l i h = sym (List·getD-eq-default (memoryOf l .cells) Cell.Free (le-trans (le-of-eq (count-cells l)) h))
 
 pub block-in : (l : List ℕ) (k : ℕ) → k < nameCount → blockAt l k ≡ blockOf (memoryOf l) (suc k)
 unfolding memoryOf
-block-in l k h = sym (getD-tabulate nameCount 0 k (blockAt l) block.Dead h ∙ ap (blockAt l) (zero-add k))
+block-in l k h = sym (getD-tabulate nameCount 0 k (blockAt l) Block.Dead h ∙ ap (blockAt l) (zero-add k))
 
 pub block-named : (l : List ℕ) (k : ℕ) → 0 < k → k ≤ nameCount → blockAt l (k - 1) ≡ blockOf (memoryOf l) k
 block-named l zero a b = absurd (omega arith)
@@ -43,21 +39,21 @@ block-named l (suc k) a b =
     let e : suc k - 1 ≡ k = omega arith in
     rw e (block-in l k (omega arith))
 
-pub block-past : (l : List ℕ) (k : ℕ) → nameCount < k → block.Dead ≡ blockOf (memoryOf l) k
+pub block-past : (l : List ℕ) (k : ℕ) → nameCount < k → Block.Dead ≡ blockOf (memoryOf l) k
 block-past l zero h = absurd (omega arith)
 block-past l (suc k) h =
     let p : nameCount ≤ k = omega arith in
-    sym (List·getD-eq-default (memoryOf l .blocks) block.Dead (le-trans (le-of-eq (count-blocks l)) p))
+    sym (List·getD-eq-default (memoryOf l .blocks) Block.Dead (le-trans (le-of-eq (count-blocks l)) p))
 
 -- the kinds that no number below tells
 pub other-cell : (k o n : ℕ) (z : ℤ) → (k ≡ 0 → ⊥) → (k ≡ 1 → ⊥) → (k ≡ 2 → ⊥)
-    → cell.Holds o (value.Pointer (record { name = n; offset = z })) ≡ cellFrom k o n z
+    → Cell.Holds o (Value.Pointer (record { name = n; offset = z })) ≡ cellFrom k o n z
 other-cell zero o n z a b d = absurd (a refl)
 other-cell (suc zero) o n z a b d = absurd (b refl)
 other-cell (suc (suc zero)) o n z a b d = absurd (d refl)
 other-cell (suc (suc (suc k))) o n z a b d = refl
 
-pub other-block : (s f n : ℕ) → (s ≡ 0 → ⊥) → (s ≡ 1 → ⊥) → (s ≡ 2 → ⊥) → block.Dead ≡ blockFrom s f n
+pub other-block : (s f n : ℕ) → (s ≡ 0 → ⊥) → (s ≡ 1 → ⊥) → (s ≡ 2 → ⊥) → Block.Dead ≡ blockFrom s f n
 other-block zero f n a b d = absurd (a refl)
 other-block (suc zero) f n a b d = absurd (b refl)
 other-block (suc (suc zero)) f n a b d = absurd (d refl)

@@ -8,14 +8,7 @@ use mir.Val.{SFits}
 use Rattle.rules.specs.Sizes.{nameCount, cellCount}
 use Rattle.rules.specs.Memory.{Memory, Change, changed, stopped, setNamed}
 use Rattle.rules.specs.Layout.{memoryOf, memoryImage, nameLimit}
-use Rattle.rules.specs.declared.Value.{Value}
-use Rattle.rules.specs.declared.Value.the-variants as value
-use Rattle.rules.specs.declared.Evaluated.{Evaluated}
-use Rattle.rules.specs.declared.Evaluated.the-variants as evaluated
-use Rattle.rules.specs.declared.Block.{Block}
-use Rattle.rules.specs.declared.Block.the-variants as block
-use Rattle.rules.specs.declared.Cell.{Cell}
-use Rattle.rules.specs.declared.Cell.the-variants as cell
+use Rattle.rules.specs.declared.{Value.Value, Evaluated.Evaluated, Block.Block, Cell.Cell}
 
 -- bytes that are exactly those of what they stand for
 abbrev pub Exact : List ℕ → Type 0
@@ -40,34 +33,34 @@ abbrev pub setBlock : Memory → ℕ → Block → Memory
 setBlock m k b = record { blocks = setNamed (m .blocks) k b; cells = m .cells }
 
 abbrev pub emptyMemory : Memory
-emptyMemory = record { blocks = replicate nameCount block.Unused; cells = replicate cellCount cell.Free }
+emptyMemory = record { blocks = replicate nameCount Block.Unused; cells = replicate cellCount Cell.Free }
 
 -- names that a cell holds
 abbrev pub NamesFit : Value → Type 0
-NamesFit value.Undefined = Unit {0}
-NamesFit (value.Integer z) = Unit {0}
-NamesFit (value.Pointer p) = p .name < nameLimit
+NamesFit Value.Undefined = Unit {0}
+NamesFit (Value.Integer z) = Unit {0}
+NamesFit (Value.Pointer p) = p .name < nameLimit
 
 abbrev pub EvaluatedFits : Evaluated → Type 0
-EvaluatedFits (evaluated.Value v) = NamesFit v
-EvaluatedFits (evaluated.Stopped k) = Unit {0}
+EvaluatedFits (Evaluated.Value v) = NamesFit v
+EvaluatedFits (Evaluated.Stopped k) = Unit {0}
 
 abbrev pub CellFits : Cell → Type 0
-CellFits cell.Free = Unit {0}
-CellFits (cell.Holds o v) = (o < nameLimit) × NamesFit v
+CellFits Cell.Free = Unit {0}
+CellFits (Cell.Holds o v) = (o < nameLimit) × NamesFit v
 
 -- numbers that the code's types hold
 abbrev pub NumberHeld : Value → Type 0
-NumberHeld value.Undefined = Unit {0}
-NumberHeld (value.Integer z) = SFits w64 z
-NumberHeld (value.Pointer p) = SFits w64 (p .offset)
+NumberHeld Value.Undefined = Unit {0}
+NumberHeld (Value.Integer z) = SFits w64 z
+NumberHeld (Value.Pointer p) = SFits w64 (p .offset)
 
 abbrev pub CellHeld : Cell → Type 0
-CellHeld cell.Free = Unit {0}
-CellHeld (cell.Holds o v) = NumberHeld v
+CellHeld Cell.Free = Unit {0}
+CellHeld (Cell.Holds o v) = NumberHeld v
 
 abbrev pub BlockHeld : Block → Type 0
-BlockHeld block.Unused = Unit {0}
-BlockHeld (block.Fixed first n) = (first < 65536) × (n < 65536)
-BlockHeld (block.Freeable first n) = (first < 65536) × (n < 65536)
-BlockHeld block.Dead = Unit {0}
+BlockHeld Block.Unused = Unit {0}
+BlockHeld (Block.Fixed first n) = (first < 65536) × (n < 65536)
+BlockHeld (Block.Freeable first n) = (first < 65536) × (n < 65536)
+BlockHeld Block.Dead = Unit {0}

@@ -2,7 +2,7 @@
 ghost use mathlib.Core.Path.{_≡_};
 ghost use Rattle.rules.specs.Memory.{blockOf, endBlock, withoutCells, freeOf, freeAt};
 ghost use Rattle.rules.specs.Layout.{memoryOf};
-ghost use Rattle.rules.specs.declared.Recorded.the-variants as recorded;
+ghost use Rattle.rules.specs.declared.{Recorded.Recorded};
 ghost use Rattle.memory_cells.specs.Changes.{Becomes, changeNumber, changeMemory};
 use rules::Block;
 use rules::Cell;
@@ -12,7 +12,7 @@ use rules::Pointer;
 // A block that has the n cells from first on is dead, and they are free.
 fn release(mem: &mut ExecutionMemory, name: u16, first: u16, n: u16)
     ensures { λ _. ⌜ Becomes (now (mem .entry)) (now (mem .exit))
-        (withoutCells (memoryOf (now (mem .entry))) name (recorded.Live first n)) ⌝ }
+        (withoutCells (memoryOf (now (mem .entry))) name (Recorded.Live first n)) ⌝ }
 {
     memory_cell_fills::fill(mem, first, n, Cell::Free);
     memory_block_changes::put_block(mem, name, Block::Dead);

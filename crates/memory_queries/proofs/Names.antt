@@ -9,17 +9,15 @@ use lib.Dec.{T}
 use Rattle.rules.specs.Sizes.{nameCount}
 use Rattle.rules.specs.Memory.{recordedOf, blockOf}
 use Rattle.rules.specs.Layout.{memoryOf, nameLimit}
-use Rattle.rules.specs.declared.Block.{Block}
-use Rattle.rules.specs.declared.Recorded.{Recorded}
-use Rattle.rules.specs.declared.Recorded.the-variants as recorded
+use Rattle.rules.specs.declared.{Block.Block, Recorded.Recorded}
 use Rattle.memory_cells.proofs.Reading.{block-past}
 
 abbrev isLive : Recorded → Bool
-isLive recorded.Unused = false
-isLive (recorded.Live first n) = true
-isLive recorded.Dead = false
+isLive Recorded.Unused = false
+isLive (Recorded.Live first n) = true
+isLive Recorded.Dead = false
 
-pub live-name : (l : List ℕ) (k first n : ℕ) → recordedOf (blockOf (memoryOf l) k) ≡ recorded.Live first n
+pub live-name : (l : List ℕ) (k first n : ℕ) → recordedOf (blockOf (memoryOf l) k) ≡ Recorded.Live first n
     → k < nameLimit
 live-name l k first n e = pick (decLt nameCount k)
   where

@@ -8,10 +8,7 @@ use Rattle.rules.specs.Memory.{Memory, recordedOf, blockOf, locate}
 use Rattle.rules.specs.Numbers.{truthValue}
 use Rattle.rules.specs.Evaluation.{isValid, initialisedAt, ofLive, queried}
 use Rattle.rules.specs.Nodes.{queryOf}
-use Rattle.rules.specs.declared.Pointer.{Pointer}
-use Rattle.rules.specs.declared.Recorded.{Recorded}
-use Rattle.rules.specs.declared.Value.the-variants as value
-use Rattle.rules.specs.declared.Evaluated.{Evaluated}
+use Rattle.rules.specs.declared.{Pointer.Pointer, Value.Value, Evaluated.Evaluated, Recorded.Recorded}
 use Rattle.memory_cells.specs.Changes.{EvaluatedFits}
 use Rattle.memory_queries.specs.Queries.{description}
 
@@ -36,7 +33,7 @@ block-law (suc (suc (suc (suc zero)))) b f p x y = refl
 block-law (suc (suc (suc (suc (suc q))))) b f p x y = refl
 
 pub other-description : (q : ℕ) (p : Pointer) (n : ℕ) → (q ≡ 3 → ⊥) → (q ≡ 4 → ⊥)
-    → value.Integer (pos n) ≡ description q p n
+    → Value.Integer (pos n) ≡ description q p n
 other-description zero p n x y = refl
 other-description (suc zero) p n x y = refl
 other-description (suc (suc zero)) p n x y = refl

@@ -5,7 +5,7 @@ ghost use Rattle.rules.specs.Memory.{recordedOf, blockOf, cellOf};
 ghost use Rattle.rules.specs.Evaluation.{isInitialised, isValid, initialisedAt, ofLive, queried};
 ghost use Rattle.rules.specs.Nodes.{queryOf};
 ghost use Rattle.rules.specs.Layout.{memoryOf, nameLimit};
-ghost use Rattle.rules.specs.declared.Evaluated.the-variants as evaluated;
+ghost use Rattle.rules.specs.declared.{Evaluated.Evaluated};
 ghost use Rattle.memory_cells.specs.Changes.{EvaluatedFits};
 ghost use Rattle.memory_queries.specs.Queries.{description};
 use rules::Block;
@@ -52,7 +52,7 @@ fn is_initialised(mem: &ExecutionMemory, l: Located) -> bool
 // Base, offset or length, of a block of n cells.
 fn describe(q: u8, p: Pointer, n: u16) -> Evaluated
     requires { ⌜ p .name < nameLimit ⌝ }
-    ensures value { λ r. ⌜ r ≡ evaluated.Value (description q p n) ⌝ }
+    ensures value { λ r. ⌜ r ≡ Evaluated.Value (description q p n) ⌝ }
     ensures names { λ r. ⌜ EvaluatedFits r ⌝ }
 {
     match q {

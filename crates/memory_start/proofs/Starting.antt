@@ -14,24 +14,21 @@ use Rattle.rules.specs.Words.{little, wordAt, integerAt}
 use Rattle.rules.specs.Memory.{Memory, setCell, startMemory}
 use Rattle.rules.specs.Answers.{numbersIn, inputsOf}
 use Rattle.rules.specs.Layout.{memoryOf, memoryImage}
-use Rattle.rules.specs.declared.Block.the-variants as block
-use Rattle.rules.specs.declared.Cell.{Cell}
-use Rattle.rules.specs.declared.Cell.the-variants as cell
-use Rattle.rules.specs.declared.Value.the-variants as value
+use Rattle.rules.specs.declared.{Value.Value, Block.Block, Cell.Cell}
 use Rattle.memory_cells.specs.Changes.{Exact, Becomes, emptyMemory}
 use Rattle.memory_cell_changes.proofs.Clearing.{empty-view}
 use Rattle.memory_start.specs.Starting.{withStart, withInputs}
 
 -- ---- the inputs, one after the other
 abbrev input-cell : ℤ → Cell
-input-cell z = cell.Holds 2 (value.Integer z)
+input-cell z = Cell.Holds 2 (Value.Integer z)
 
 pub inputs-none : (m : Memory) (i : List ℕ) → m ≡ withInputs m i 0
 unfolding withInputs
 inputs-none m i = refl
 
 pub inputs-more : (m : Memory) (i : List ℕ) (n : ℕ)
-    → setCell (withInputs m i n) (n + 1) (cell.Holds 2 (value.Integer (integerAt i (n * 8)))) ≡ withInputs m i (n + 1)
+    → setCell (withInputs m i n) (n + 1) (Cell.Holds 2 (Value.Integer (integerAt i (n * 8)))) ≡ withInputs m i (n + 1)
 unfolding withInputs
 inputs-more m i n = rw (add-one n) refl
 
@@ -63,29 +60,29 @@ set-seam (z ∷ xs) y x ys zero e = absurd (omega (arith, e))
 set-seam (z ∷ xs) y x ys (suc k) e = ap (λ (l : List _). z ∷ l) (set-seam xs y x ys k (omega (arith, e)))
 
 more-cells : (i : List ℕ) (n r : ℕ)
-    → set (map input-cell (numbersIn n i) ++ (cell.Free ∷ replicate r cell.Free)) n (input-cell (integerAt i (n * 8)))
-    ≡ map input-cell (numbersIn (suc n) i) ++ replicate r cell.Free
+    → set (map input-cell (numbersIn n i) ++ (Cell.Free ∷ replicate r Cell.Free)) n (input-cell (integerAt i (n * 8)))
+    ≡ map input-cell (numbersIn (suc n) i) ++ replicate r Cell.Free
 more-cells i n r =
-    set-seam (map input-cell (numbersIn n i)) cell.Free (input-cell (integerAt i (n * 8))) (replicate r cell.Free) n
+    set-seam (map input-cell (numbersIn n i)) Cell.Free (input-cell (integerAt i (n * 8))) (replicate r Cell.Free) n
     (length-numbers input-cell n i)
-    ∙ ap (λ (l : List Cell). l ++ replicate r cell.Free)
+    ∙ ap (λ (l : List Cell). l ++ replicate r Cell.Free)
     (sym (ap (map input-cell) (numbers-more n i) ∙ map-snoc input-cell (numbersIn n i) (integerAt i (n * 8))))
 
-module _ (m : Memory) (c : Cell) (i : List ℕ) (e : m .cells ≡ c ∷ replicate (cellCount - 1) cell.Free) where
+module _ (m : Memory) (c : Cell) (i : List ℕ) (e : m .cells ≡ c ∷ replicate (cellCount - 1) Cell.Free) where
   inputs-blocks : (n : ℕ) → withInputs m i n .blocks ≡ m .blocks
   unfolding withInputs
   inputs-blocks zero = refl
   inputs-blocks (suc n) = inputs-blocks n
 
   inputs-cells : (n : ℕ) → n ≤ cellCount - 1
-      → withInputs m i n .cells ≡ c ∷ (map input-cell (numbersIn n i) ++ replicate (cellCount - 1 - n) cell.Free)
+      → withInputs m i n .cells ≡ c ∷ (map input-cell (numbersIn n i) ++ replicate (cellCount - 1 - n) Cell.Free)
   unfolding withInputs
   inputs-cells zero h = e
   inputs-cells (suc n) h =
       let r : cellCount - 1 - n ≡ suc (cellCount - 1 - suc n) = omega arith in
       ap (λ (l : List Cell). set l (suc n) (input-cell (integerAt i (n * 8))))
       (inputs-cells n (omega arith)
-      ∙ ap (λ (k : ℕ). c ∷ (map input-cell (numbersIn n i) ++ replicate k cell.Free)) r)
+      ∙ ap (λ (k : ℕ). c ∷ (map input-cell (numbersIn n i) ++ replicate k Cell.Free)) r)
       ∙ ap (λ (l : List Cell). c ∷ l) (more-cells i n (cellCount - 1 - suc n))
 
 length-inputs : (n : ℕ) (i : List ℕ) → length (numbersIn n i) ≡ n
@@ -96,12 +93,12 @@ start-memory : (i : List ℕ) (n : ℕ) → n ≤ cellCount - 1
     → withInputs (withStart emptyMemory n) i n ≡ startMemory (numbersIn n i)
 unfolding startMemory
 start-memory i n h =
-    let c : Cell = cell.Holds 1 (value.Pointer (record { name = 2; offset = pos 0 })) in
+    let c : Cell = Cell.Holds 1 (Value.Pointer (record { name = 2; offset = pos 0 })) in
     let k : n ≡ length (numbersIn n i) = sym (length-inputs n i) in
     let b = inputs-blocks (withStart emptyMemory n) c i refl n
-    ∙ ap (λ (j : ℕ). block.Fixed 0 1 ∷ block.Fixed 1 j ∷ replicate (nameCount - 2) block.Unused) k in
+    ∙ ap (λ (j : ℕ). Block.Fixed 0 1 ∷ Block.Fixed 1 j ∷ replicate (nameCount - 2) Block.Unused) k in
     let l = inputs-cells (withStart emptyMemory n) c i refl n h
-    ∙ ap (λ (j : ℕ). c ∷ (map input-cell (numbersIn n i) ++ replicate (cellCount - 1 - j) cell.Free)) k in
+    ∙ ap (λ (j : ℕ). c ∷ (map input-cell (numbersIn n i) ++ replicate (cellCount - 1 - j) Cell.Free)) k in
     λ t. record { blocks = b t; cells = l t }
 
 -- from cleared bytes through the two steps

@@ -4,37 +4,32 @@ use lib.IntN.{ℤ, pos}
 use Rattle.rules.specs.Trees.{base, offset, blockLength}
 use Rattle.rules.specs.Evaluation.{ofLive, queried}
 use Rattle.rules.specs.Observation.{Observation, recordOf, queryObservation}
-use Rattle.rules.specs.declared.Pointer.{Pointer}
-use Rattle.rules.specs.declared.Value.{Value}
-use Rattle.rules.specs.declared.Value.the-variants as value
-use Rattle.rules.specs.declared.Evaluated.{Evaluated}
-use Rattle.rules.specs.declared.Recorded.{Recorded}
-use Rattle.rules.specs.declared.Recorded.the-variants as recorded
+use Rattle.rules.specs.declared.{Pointer.Pointer, Value.Value, Evaluated.Evaluated, Recorded.Recorded}
 use Rattle.observation_block_queries.specs.Spans.{spanOf}
 
-module _ (o : Observation) (v : Value) (p : Pointer) (e : v ≡ value.Pointer p) where
+module _ (o : Observation) (v : Value) (p : Pointer) (e : v ≡ Value.Pointer p) where
   pub query-base : {b : Recorded} {r : Evaluated} → b ≡ recordOf o (p .name)
-      → r ≡ ofLive b (λ n. value.Pointer (record { name = p .name; offset = pos 0 })) → r ≡ queryObservation base o v
+      → r ≡ ofLive b (λ n. Value.Pointer (record { name = p .name; offset = pos 0 })) → r ≡ queryObservation base o v
   unfolding queried
   query-base f g =
-      g ∙ ap (λ (b : Recorded). ofLive b (λ n. value.Pointer (record { name = p .name; offset = pos 0 }))) f
+      g ∙ ap (λ (b : Recorded). ofLive b (λ n. Value.Pointer (record { name = p .name; offset = pos 0 }))) f
       ∙ ap (queryObservation base o) (sym e)
 
   pub query-offset : {b : Recorded} {s : ℤ} {r : Evaluated} → b ≡ recordOf o (p .name) → s ≡ p .offset
-      → r ≡ ofLive b (λ n. value.Integer s) → r ≡ queryObservation offset o v
+      → r ≡ ofLive b (λ n. Value.Integer s) → r ≡ queryObservation offset o v
   unfolding queried
   query-offset {b} f s g =
-      g ∙ ap (λ (z : ℤ). ofLive b (λ n. value.Integer z)) s
-      ∙ ap (λ (b : Recorded). ofLive b (λ n. value.Integer (p .offset))) f ∙ ap (queryObservation offset o) (sym e)
+      g ∙ ap (λ (z : ℤ). ofLive b (λ n. Value.Integer z)) s
+      ∙ ap (λ (b : Recorded). ofLive b (λ n. Value.Integer (p .offset))) f ∙ ap (queryObservation offset o) (sym e)
 
   pub query-length : {b : Recorded} {s : ℤ} {r : Evaluated} → b ≡ recordOf o (p .name) → s ≡ pos (spanOf b)
-      → r ≡ ofLive b (λ n. value.Integer s) → r ≡ queryObservation blockLength o v
+      → r ≡ ofLive b (λ n. Value.Integer s) → r ≡ queryObservation blockLength o v
   unfolding queried
   query-length {b} f s g =
-      g ∙ ap (λ (z : ℤ). ofLive b (λ n. value.Integer z)) s ∙ span b
-      ∙ ap (λ (b : Recorded). ofLive b (λ n. value.Integer (pos n))) f ∙ ap (queryObservation blockLength o) (sym e)
+      g ∙ ap (λ (z : ℤ). ofLive b (λ n. Value.Integer z)) s ∙ span b
+      ∙ ap (λ (b : Recorded). ofLive b (λ n. Value.Integer (pos n))) f ∙ ap (queryObservation blockLength o) (sym e)
     where
-      span : (b : Recorded) → ofLive b (λ n. value.Integer (pos (spanOf b))) ≡ ofLive b (λ n. value.Integer (pos n))
-      span recorded.Unused = refl
-      span (recorded.Live first n) = refl
-      span recorded.Dead = refl
+      span : (b : Recorded) → ofLive b (λ n. Value.Integer (pos (spanOf b))) ≡ ofLive b (λ n. Value.Integer (pos n))
+      span Recorded.Unused = refl
+      span (Recorded.Live first n) = refl
+      span Recorded.Dead = refl

@@ -14,7 +14,7 @@ use Rattle.rules.specs.Memory.{one, fill}
 use Rattle.rules.specs.Observation.{Observation, withMarks}
 use Rattle.rules.specs.Layout.{blockRecord, blockPlace, markPlace, recordedFrom, recordedAt, markAt, observationOf}
 use Rattle.rules.specs.Layout.{observationImage, recordedBytes, markBytes}
-use Rattle.rules.specs.declared.Recorded.{Recorded}
+use Rattle.rules.specs.declared.{Recorded.Recorded}
 use Rattle.rules.proofs.lists.WordLaws.{getD-put-after}
 use Rattle.rules.proofs.lists.Rows.{length-tabulate, getD-tabulate, tabulate-same, tabulate-list, tabulate-set}
 use Rattle.rules.proofs.lists.Lists.{length-fill}

@@ -7,7 +7,7 @@ use lib.ListN.{set}
 use Rattle.rules.specs.Memory.{fill}
 use Rattle.rules.specs.Observation.{Observation}
 use Rattle.rules.specs.Layout.{observationOf, observationImage}
-use Rattle.rules.specs.declared.Recorded.{Recorded}
+use Rattle.rules.specs.declared.{Recorded.Recorded}
 
 -- bytes that now stand for o, and are exactly its bytes if they were exact before
 pub record ObservationBecomes (entry exit : List ℕ) (o : Observation) : Type 0 where

@@ -11,8 +11,7 @@ use Rattle.rules.specs.Sizes.{nameCount, cellCount}
 use Rattle.rules.specs.Memory.{one, lowestRun}
 use Rattle.rules.specs.Observation.{covered, covers, markRun}
 use Rattle.rules.specs.Layout.{recordedAt, observationOf}
-use Rattle.rules.specs.declared.Recorded.{Recorded}
-use Rattle.rules.specs.declared.Recorded.the-variants as recorded
+use Rattle.rules.specs.declared.{Recorded.Recorded}
 use Rattle.rules.proofs.lists.Rows.{getD-zero}
 use Rattle.rules.proofs.lists.Lists.{length-fill}
 use Rattle.rules.proofs.lists.FillLaws.{getD-fill}
@@ -21,9 +20,9 @@ use Rattle.observation_free_marks.specs.Occupied.{occupy, occupyAll}
 use Rattle.observation_records.proofs.ObservationLaws.{record-count, record-in}
 
 length-occupy : (l : List ℕ) (b : Recorded) → length (occupy l b) ≡ length l
-length-occupy l recorded.Unused = refl
-length-occupy l (recorded.Live first n) = length-fill l first n 1
-length-occupy l recorded.Dead = refl
+length-occupy l Recorded.Unused = refl
+length-occupy l (Recorded.Live first n) = length-fill l first n 1
+length-occupy l Recorded.Dead = refl
 
 length-occupyAll : (l : List ℕ) (bs : List Recorded) → length (occupyAll l bs) ≡ length l
 unfolding occupyAll
@@ -32,13 +31,13 @@ length-occupyAll l (b ∷ bs) = length-occupy (occupyAll l bs) b ∙ length-occu
 
 covers-more : (l : List ℕ) (b : Recorded) (i : ℕ) (c : Bool) → i < length l → getD l i 0 ≡ one c
     → getD (occupy l b) i 0 ≡ one (elim (covers b i) [ true ↦ true | false ↦ c ])
-covers-more l recorded.Unused i c h e = e
-covers-more l (recorded.Live first n) i c h e = getD-fill 1 l first n i 0 h ∙ pick (leb first i && ltb i (first + n))
+covers-more l Recorded.Unused i c h e = e
+covers-more l (Recorded.Live first n) i c h e = getD-fill 1 l first n i 0 h ∙ pick (leb first i && ltb i (first + n))
   where
     pick : (w : Bool) → cond w 1 (getD l i 0) ≡ one (elim w [ true ↦ true | false ↦ c ])
     pick true = refl
     pick false = e
-covers-more l recorded.Dead i c h e = e
+covers-more l Recorded.Dead i c h e = e
 
 occupied : (n : ℕ) (bs : List Recorded) (i : ℕ) → i < n → getD (occupyAll (replicate n 0) bs) i 0 ≡ one (covered bs i)
 unfolding occupyAll covered
@@ -74,4 +73,4 @@ pub cover-more : (p l : List ℕ) (k : ℕ) → k < nameCount
 unfolding occupyAll
 cover-more p l k h =
     let i : k < length (observationOf l .blocks) = omega (arith, record-count l) in
-    rw (drop-cons (observationOf l .blocks) k recorded.Dead i, record-in l k h) refl
+    rw (drop-cons (observationOf l .blocks) k Recorded.Dead i, record-in l k h) refl

@@ -5,13 +5,9 @@ use Rattle.rules.specs.Trees.{valid, initialised}
 use Rattle.rules.specs.Numbers.{truthValue}
 use Rattle.rules.specs.Evaluation.{isValid, initialisedAt, queried}
 use Rattle.rules.specs.Observation.{Observation, locateMark, queryObservation, isMarked}
-use Rattle.rules.specs.declared.Pointer.{Pointer}
-use Rattle.rules.specs.declared.Value.{Value}
-use Rattle.rules.specs.declared.Value.the-variants as value
-use Rattle.rules.specs.declared.Evaluated.{Evaluated}
-use Rattle.rules.specs.declared.Located.{Located}
+use Rattle.rules.specs.declared.{Pointer.Pointer, Value.Value, Evaluated.Evaluated, Located.Located}
 
-module _ (o : Observation) (v : Value) (p : Pointer) (e : v ≡ value.Pointer p) where
+module _ (o : Observation) (v : Value) (p : Pointer) (e : v ≡ Value.Pointer p) where
   pub query-valid : {at : Located} {b : Bool} {r : Evaluated} → at ≡ locateMark o p → b ≡ isValid at → r ≡ truthValue
       b
       → r ≡ queryObservation valid o v

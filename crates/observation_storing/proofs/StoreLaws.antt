@@ -13,9 +13,7 @@ use Rattle.rules.specs.Sizes.{cellCount}
 use Rattle.rules.specs.Checker.{lowest}
 use Rattle.rules.specs.Memory.{lowestRun}
 use Rattle.rules.specs.Observation.{Observation, refused, recordOf, markRun, storeAt, storeSized}
-use Rattle.rules.specs.declared.Search.the-variants as search
-use Rattle.rules.specs.declared.Recorded.{Recorded}
-use Rattle.rules.specs.declared.Recorded.the-variants as recorded
+use Rattle.rules.specs.declared.{Search.Search, Recorded.Recorded}
 
 -- ---- sizes
 pub size-positive : (w : ℤ) → ltZ w (pos 1) ≡ false → T (nonNeg w)
@@ -28,15 +26,15 @@ size-range (pos n) e f =
     (omega (arith, ltZ-false (pos n) (pos 1) e), omega (arith, ltZ-false (pos cellCount) (pos n) f))
 size-range (negsuc n) e f = absurd (subst T e tt)
 
-no-run : (p : ℕ → Bool) (n : ℕ) → cellCount < n → lowestRun p n ≡ search.Nothing
+no-run : (p : ℕ → Bool) (n : ℕ) → cellCount < n → lowestRun p n ≡ Search.Nothing
 unfolding lowestRun lowest
 no-run p n h = let none : suc cellCount - n ≡ 0 = omega arith in rw none refl
 
 module _ (o : Observation) (k : ℕ) where
-  none-stored : (n : ℕ) (b : Recorded) → storeAt o k n b search.Nothing ≡ refused 48
-  none-stored n recorded.Unused = refl
-  none-stored n (recorded.Live first l) = refl
-  none-stored n recorded.Dead = refl
+  none-stored : (n : ℕ) (b : Recorded) → storeAt o k n b Search.Nothing ≡ refused 48
+  none-stored n Recorded.Unused = refl
+  none-stored n (Recorded.Live first l) = refl
+  none-stored n Recorded.Dead = refl
 
   -- ---- storing
   pub sized-offset : (z w : ℤ) → (ofZ w64 z ≡ 0 → ⊥) → storeSized o k z w ≡ refused 48

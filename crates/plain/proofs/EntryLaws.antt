@@ -18,9 +18,7 @@ use Rattle.rules.specs.Plain.{run, startVariables}
 use Rattle.rules.specs.Layout.{memoryOf, memoryImage}
 use Rattle.rules.specs.Answers.{answer, inputsOf, plainOutcome, plainEnded, plainRefused}
 use Rattle.rules.specs.Answers.{plainAs, plainBy, PlainRun}
-use Rattle.rules.specs.declared.Answer.{Answer}
-use Rattle.rules.specs.declared.Checked.{Checked}
-use Rattle.rules.specs.declared.Checked.the-variants as checked
+use Rattle.rules.specs.declared.{Checked.Checked, Answer.Answer}
 use Rattle.rules.proofs.acceptance.Sound.{startScope}
 use Rattle.rules.proofs.acceptance.AcceptedPrograms.{accepted-program, padded-program}
 use Rattle.rules.specs.Fits.{FitsMemory}
@@ -34,7 +32,7 @@ use Rattle.plain_runs.proofs.Laws.{ran-is}
 use Rattle.plain.specs.Answering.{AnsweredBy}
 
 -- ---- the start
-module _ (t l : List ℕ) (h : check source t ≡ checked.Accepted) where
+module _ (t l : List ℕ) (h : check source t ≡ Checked.Accepted) where
   pub table-length : length t ≤ targetLimit * 16
   table-length = let a = accepted-program source t h in omega (arith, a .whole, a .not-too-many)
 
@@ -65,7 +63,7 @@ module _ (i : List ℕ) (e : inputsFault i ≡ false) (l : List ℕ) (s : l ≡ 
   start-ready = subst FitsMemory (sym start-view) start-fits
 
   -- what a run leaves has its length
-  pub exit-length : (t : List ℕ) (f : ℕ) (r : Ended) (l₁ : List ℕ) → check source t ≡ checked.Accepted
+  pub exit-length : (t : List ℕ) (f : ℕ) (r : Ended) (l₁ : List ℕ) → check source t ≡ Checked.Accepted
       → Ran (run (sourceProgram t) startVariables (memoryOf l) f) r l l₁ → length l₁ ≡ memoryLength
   exit-length t f r l₁ h w =
       let o = plainOutcome t i f in
@@ -91,23 +89,23 @@ module _ (i : List ℕ) (e : inputsFault i ≡ false) (l : List ℕ) (s : l ≡ 
 -- ---- the rules 9 and 21
 module _ (t i : List ℕ) (f : ℕ) (m : List ℕ) where
   by-faults : (b c : Bool) → inputsFault i ≡ b → memoryFault m ≡ c
-      → plainBy checked.Accepted t i f m ≡ plainAs (refuseIf 9 b otherwise refuseIf 21 c) t i f m
+      → plainBy Checked.Accepted t i f m ≡ plainAs (refuseIf 9 b otherwise refuseIf 21 c) t i f m
   by-faults b c p q = λ j. plainAs (refuseIf 9 (p j) otherwise refuseIf 21 (q j)) t i f m
 
   pub refuse-inputs : (r : Answer) → inputsFault i ≡ true → r ≡ answer 9 0 0 0
-      → AnsweredBy (plainBy checked.Accepted t i f m) r m
+      → AnsweredBy (plainBy Checked.Accepted t i f m) r m
   refuse-inputs r p e =
       subst (λ (x : PlainRun). AnsweredBy x r m) (sym (by-faults true (memoryFault m) p refl))
       (record { answer = e; memory = refl })
 
   pub refuse-memory : (r : Answer) → inputsFault i ≡ false → memoryFault m ≡ true → r ≡ answer 21 0 0 0
-      → AnsweredBy (plainBy checked.Accepted t i f m) r m
+      → AnsweredBy (plainBy Checked.Accepted t i f m) r m
   refuse-memory r p q e =
       subst (λ (x : PlainRun). AnsweredBy x r m) (sym (by-faults false true p q))
       (record { answer = e; memory = refl })
 
   pub run-both : (r : Answer) (exit : List ℕ) → inputsFault i ≡ false → memoryFault m ≡ false
-      → AnsweredBy (plainEnded (ending (plainOutcome t i f))) r exit → AnsweredBy (plainBy checked.Accepted t i f m) r exit
+      → AnsweredBy (plainEnded (ending (plainOutcome t i f))) r exit → AnsweredBy (plainBy Checked.Accepted t i f m) r exit
   run-both r exit p q h = subst (λ (x : PlainRun). AnsweredBy x r exit) (sym (by-faults false false p q)) h
 
 -- ---- the checker's answer

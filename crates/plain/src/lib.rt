@@ -4,7 +4,7 @@ ghost use mathlib.Core.Bool.{false};
 ghost use Rattle.rules.specs.Checker.{check, inputsFault, memoryFault};
 ghost use Rattle.rules.specs.Nodes.{sourceProgram, statementAt};
 ghost use Rattle.rules.specs.Answers.{plainEnded, plainOutcome, plainBy, runPlain};
-ghost use Rattle.rules.specs.declared.Checked.the-variants as checked;
+ghost use Rattle.rules.specs.declared.{Checked.Checked};
 ghost use Rattle.rules.specs.Fits.{FitsMemory};
 ghost use Rattle.rules.specs.Kinds.{source};
 ghost use Rattle.rules.specs.Flow.{ending};
@@ -34,7 +34,7 @@ fn run_from_start(table: &Table, n: usize, mem: &mut ExecutionMemory, fuel: u32)
 
 // Runs an accepted table from a memory that holds the inputs.
 fn run_table(table: &[u8], mem: &mut ExecutionMemory, fuel: u32) -> Ended
-    requires { ⌜ (check source (now table) ≡ checked.Accepted) × FitsMemory (memoryOf (now mem)) ⌝ }
+    requires { ⌜ (check source (now table) ≡ Checked.Accepted) × FitsMemory (memoryOf (now mem)) ⌝ }
     ensures { λ r. ⌜ Ran (run (sourceProgram (now (table .entry))) startVariables (memoryOf (now (mem .entry))) fuel) r
         (now (mem .entry)) (now (mem .exit)) ⌝ }
 {
@@ -45,7 +45,7 @@ fn run_table(table: &[u8], mem: &mut ExecutionMemory, fuel: u32) -> Ended
 
 // Lays out the inputs and runs an accepted table; the memory that it leaves is copied out.
 fn run_inputs(table: &[u8], inputs: &[u8], fuel: u32, memory: &mut [u8]) -> Answer
-    requires { ⌜ (check source (now table) ≡ checked.Accepted) × (inputsFault (now inputs) ≡ false)
+    requires { ⌜ (check source (now table) ≡ Checked.Accepted) × (inputsFault (now inputs) ≡ false)
         × (memoryFault (now memory) ≡ false) ⌝ }
     ensures { λ r. ⌜ AnsweredBy (plainEnded (ending (plainOutcome (now (table .entry)) (now (inputs .entry)) fuel))) r
         (now (memory .exit)) ⌝ }
@@ -65,8 +65,8 @@ fn run_inputs(table: &[u8], inputs: &[u8], fuel: u32, memory: &mut [u8]) -> Answ
 
 // The plain run of an accepted table.
 fn run_accepted(table: &[u8], inputs: &[u8], fuel: u32, memory: &mut [u8]) -> Answer
-    requires { ⌜ check source (now table) ≡ checked.Accepted ⌝ }
-    ensures { λ r. ⌜ AnsweredBy (plainBy checked.Accepted (now (table .entry)) (now (inputs .entry)) fuel
+    requires { ⌜ check source (now table) ≡ Checked.Accepted ⌝ }
+    ensures { λ r. ⌜ AnsweredBy (plainBy Checked.Accepted (now (table .entry)) (now (inputs .entry)) fuel
         (now (memory .entry))) r (now (memory .exit)) ⌝ }
 {
     if run_buffers::has_inputs_fault(inputs) {

@@ -11,8 +11,7 @@ use Rattle.rules.specs.Trees.{Statement}
 use Rattle.rules.specs.Flow.{Outcome, finished, ended, Ending, ending, next, after}
 use Rattle.rules.specs.Plain.{asserted, run}
 use Rattle.rules.specs.Layout.{memoryOf}
-use Rattle.rules.specs.declared.Test.{Test}
-use Rattle.rules.specs.declared.Test.the-variants as test
+use Rattle.rules.specs.declared.{Test.Test}
 use Rattle.rules.specs.Answers.{plainEndings}
 use Rattle.rules.proofs.lists.Among.{Among, among-not}
 use Rattle.rules.proofs.runs.Endings.{EndsAmong, run-endings}
@@ -45,9 +44,9 @@ ran-change (stopped c m) k n ρ f h w =
 pub ran-assert : (t : Test) (k n : ℕ) (ρ : Variables) (f : ℕ) {a : List ℕ}
     → EndsAmong plainEndings (after n ρ f (asserted (memoryOf a) t)) → k ≡ assertNumber t
     → Ran (after n ρ f (asserted (memoryOf a) t)) (concluded k n f) a a
-ran-assert test.Yes k n ρ f h e = record { answer = rw e refl; memory = becomes-same refl }
-ran-assert test.No k n ρ f h e = record { answer = rw e refl; memory = becomes-same refl }
-ran-assert (test.Stopped c) k n ρ f h e =
+ran-assert Test.Yes k n ρ f h e = record { answer = rw e refl; memory = becomes-same refl }
+ran-assert Test.No k n ρ f h e = record { answer = rw e refl; memory = becomes-same refl }
+ran-assert (Test.Stopped c) k n ρ f h e =
     record {
       answer = rw e (ap (λ (b : Bool). cond b (result 0 0 f) (result c n f)) (ne-eqb c 0 (ends-above c h)));
       memory = becomes-same refl;

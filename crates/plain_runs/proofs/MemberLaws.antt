@@ -12,7 +12,7 @@ use Rattle.rules.specs.Evaluation.{Variables, evaluateSource, condition, extend
 use Rattle.rules.specs.Flow.{Outcome, finished, ended, Ending, ending, into, next, decide, inLet}
 use Rattle.rules.specs.Plain.{plainMeaning, run}
 use Rattle.rules.specs.Layout.{memoryOf}
-use Rattle.rules.specs.declared.Test.{Test}
+use Rattle.rules.specs.declared.{Test.Test}
 use Rattle.rules.specs.Fits.{FitsMemory}
 use Rattle.rules.specs.Nodes.{expressionAt, statementAt}
 use Rattle.rules.proofs.runs.Fuel.{run-fuel}

@@ -18,9 +18,7 @@ use Rattle.rules.specs.Translation.{translation}
 use Rattle.rules.specs.Answers.{answer, checkedAnswer, checkSource, WatchedRun, runPlain, runWatched}
 use Rattle.rules.specs.Answers.{Translated, translatedAs, translatedBy, translateSource}
 use Rattle.rules.specs.Demand3.{Agreement}
-use Rattle.rules.specs.declared.Answer.{Answer}
-use Rattle.rules.specs.declared.Checked.{Checked}
-use Rattle.rules.specs.declared.Checked.the-variants as checked
+use Rattle.rules.specs.declared.{Checked.Checked, Answer.Answer}
 use Rattle.rules.proofs.acceptance.AcceptedPrograms.{accepted-program}
 use Rattle.rules.proofs.claim.Claim.{demand-3}
 use Rattle.recorder.specs.declared.Both.{Both}
@@ -45,7 +43,7 @@ bothTested p q r s t i f x =
 
 module _ (t i : List ℕ) (f : ℕ) (x : Lent) where
   -- what an accepted table comes to, by the tests of the inputs and the buffers
-  pub accepted-runs : (p q r s : Bool) → check source t ≡ checked.Accepted → inputsFault i ≡ p
+  pub accepted-runs : (p q r s : Bool) → check source t ≡ Checked.Accepted → inputsFault i ≡ p
       → (memoryFault (x .memory) || memoryFault (x .second)) ≡ q → observationFault (x .observation) ≡ r
       → ltb (length (x .out)) (length (translation t)) ≡ s → runBoth t i f x ≡ bothTested p q r s t i f x
   accepted-runs p q r s c a b d e =
@@ -90,8 +88,8 @@ module _ (t i : List ℕ) (f : ℕ) (x : Lent) where
   checked-refused a r e d g = refused-both (a .number) (a .«record») r (go (check source t) e) g
     where
       go : (c : Checked) → a ≡ checkedAnswer c → bothBy c t i f x ≡ bothRefused (a .number) (a .«record») x
-      go checked.Accepted e₁ = absurd (d (ap (λ (z : Answer). z .number) e₁))
-      go (checked.Refused k n) e₁ = λ j. bothRefused (sym e₁ j .number) (sym e₁ j .«record») x
+      go Checked.Accepted e₁ = absurd (d (ap (λ (z : Answer). z .number) e₁))
+      go (Checked.Refused k n) e₁ = λ j. bothRefused (sym e₁ j .number) (sym e₁ j .«record») x
 
 -- ---- the translation, which answered a and left y
 module _ (t i : List ℕ) (f : ℕ) (x : Lent) (h : Ready t i x) (a : Answer) (y : List ℕ)

@@ -12,9 +12,7 @@ use Rattle.rules.specs.Checker.{observationFault}
 use Rattle.rules.specs.Translation.{translation}
 use Rattle.rules.specs.Answers.{answer, PlainRun, WatchedRun, runPlain, runWatched}
 use Rattle.rules.specs.Demand3.{Agreement}
-use Rattle.rules.specs.declared.Answer.{Answer}
-use Rattle.rules.specs.declared.Checked.{Checked}
-use Rattle.rules.specs.declared.Checked.the-variants as checked
+use Rattle.rules.specs.declared.{Checked.Checked, Answer.Answer}
 use Rattle.recorder.specs.declared.Both.{Both}
 
 abbrev pub both : Answer → Answer → Both
@@ -53,8 +51,8 @@ bothRan t i f x =
     }
 
 abbrev pub bothAs : Checked → List ℕ → List ℕ → ℕ → Lent → BothRuns
-bothAs (checked.Refused k n) t i f x = bothRefused k n x
-bothAs checked.Accepted t i f x = bothRan t i f x
+bothAs (Checked.Refused k n) t i f x = bothRefused k n x
+bothAs Checked.Accepted t i f x = bothRan t i f x
 
 -- 9, 21 for either memory, 22 and 20, in this order, where the checker refuses nothing
 abbrev pub bothBy : Checked → List ℕ → List ℕ → ℕ → Lent → BothRuns
@@ -70,7 +68,7 @@ runBoth t i f x = bothBy (check source t) t i f x
 
 -- both runs may start: an accepted table, inputs without fault, and memories of the right lengths
 pub record Ready (t i : List ℕ) (x : Lent) : Type 0 where
-  pub accepted : check source t ≡ checked.Accepted
+  pub accepted : check source t ≡ Checked.Accepted
   pub inputs : inputsFault i ≡ false
   pub memory : length (x .memory) ≡ memoryLength
   pub second : length (x .second) ≡ memoryLength

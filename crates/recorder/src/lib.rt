@@ -8,7 +8,7 @@ ghost use Rattle.rules.specs.Answers.{answer, checkedAnswer, checkSource, check
 ghost use Rattle.rules.specs.Answers.{translateSource, runPlain, runWatched};
 ghost use Rattle.rules.specs.Kinds.{source};
 ghost use Rattle.rules.specs.Checker.{check};
-ghost use Rattle.rules.specs.declared.Checked.the-variants as checked;
+ghost use Rattle.rules.specs.declared.{Checked.Checked};
 ghost use Rattle.recorder.specs.BothRuns.{lent, both, Ready, AnsweredBoth};
 
 // A checker's word as an answer: 0 and record 0, or the refusal's number and record.
@@ -166,7 +166,7 @@ fn run_accepted(
     second: &mut [u8],
     observation: &mut [u8],
 ) -> Both
-    requires { ⌜ check source (now table) ≡ checked.Accepted ⌝ }
+    requires { ⌜ check source (now table) ≡ Checked.Accepted ⌝ }
     ensures { λ r. ⌜ AnsweredBoth (now (table .entry)) (now (inputs .entry)) fuel
         (lent (now (out .entry)) (now (memory .entry)) (now (second .entry)) (now (observation .entry)))
         (r .plain) (r .watched)

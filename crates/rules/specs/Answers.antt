@@ -18,9 +18,7 @@ use Rattle.rules.specs.Plain.{run, startVariables}
 use Rattle.rules.specs.Watched.{WatchedState, watching, watch, startTemporaries}
 use Rattle.rules.specs.Translation.{translation}
 use Rattle.rules.specs.Layout.{memoryImage, observationImage}
-use Rattle.rules.specs.declared.Checked.{Checked}
-use Rattle.rules.specs.declared.Checked.the-variants as checked
-use Rattle.rules.specs.declared.Answer.{Answer}
+use Rattle.rules.specs.Types.{Checked, Answer}
 
 -- `record` is the refused record, the source statement of an ending, or a translation's record count
 abbrev pub answer : ℕ → ℕ → ℕ → ℕ → Answer
@@ -57,8 +55,8 @@ watchedEndings = 48 ∷ 49 ∷ plainEndings
 
 -- "The checker answers 0 with record 0 for an accepted table." "Numbers 1–22 return the number and record (0 where none)"
 abbrev pub checkedAnswer : Checked → Answer
-checkedAnswer checked.Accepted = answer 0 0 0 0
-checkedAnswer (checked.Refused k n) = answer k n 0 0
+checkedAnswer Checked.Accepted = answer 0 0 0 0
+checkedAnswer (Checked.Refused k n) = answer k n 0 0
 
 abbrev pub checkSource : List ℕ → Answer
 checkSource t = checkedAnswer (check source t)
@@ -73,8 +71,8 @@ pub record Translated : Type 0 where
 
 -- "A translation returns 0 and its record count; bytes past it stay."
 abbrev pub translatedAs : Checked → List ℕ → List ℕ → Translated
-translatedAs (checked.Refused k n) bytes out = record { answer = answer k n 0 0; out = out }
-translatedAs checked.Accepted bytes out = record { answer = answer 0 (recordCount bytes) 0 0; out = put out 0 bytes }
+translatedAs (Checked.Refused k n) bytes out = record { answer = answer k n 0 0; out = out }
+translatedAs Checked.Accepted bytes out = record { answer = answer 0 (recordCount bytes) 0 0; out = put out 0 bytes }
 
 -- 20 is tried where the checker of the table refuses nothing
 abbrev pub translatedBy : Checked → List ℕ → List ℕ → Translated
@@ -113,8 +111,8 @@ abbrev pub plainEnded : Ending Memory → PlainRun
 plainEnded e = record { answer = endingAnswer (λ m. m) e; memory = memoryImage (e .state) }
 
 abbrev pub plainAs : Checked → List ℕ → List ℕ → ℕ → List ℕ → PlainRun
-plainAs (checked.Refused k n) t i f memory = plainRefused k n memory
-plainAs checked.Accepted t i f memory = plainEnded (ending (plainOutcome t i f))
+plainAs (Checked.Refused k n) t i f memory = plainRefused k n memory
+plainAs Checked.Accepted t i f memory = plainEnded (ending (plainOutcome t i f))
 
 -- 9 and 21, in this order, where the checker refuses nothing
 abbrev pub plainBy : Checked → List ℕ → List ℕ → ℕ → List ℕ → PlainRun
@@ -147,8 +145,8 @@ watchedEnded e = record {
 }
 
 abbrev pub watchedAs : Checked → List ℕ → List ℕ → ℕ → List ℕ → List ℕ → WatchedRun
-watchedAs (checked.Refused k n) t i f memory observation = watchedRefused k n memory observation
-watchedAs checked.Accepted t i f memory observation = watchedEnded (ending (watchedOutcome t i f))
+watchedAs (Checked.Refused k n) t i f memory observation = watchedRefused k n memory observation
+watchedAs Checked.Accepted t i f memory observation = watchedEnded (ending (watchedOutcome t i f))
 
 -- 9, 21 and 22
 abbrev pub watchedBy : Checked → List ℕ → List ℕ → ℕ → List ℕ → List ℕ → WatchedRun

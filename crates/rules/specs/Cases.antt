@@ -10,7 +10,7 @@ use Rattle.rules.specs.Translation.{translation}
 use Rattle.rules.specs.Layout.{blockPlace, cellPlace}
 use Rattle.rules.specs.Answers.{PlainRun, WatchedRun, runPlain, runWatched}
 use Rattle.rules.specs.Listing.{listing}
-use Rattle.rules.specs.declared.Answer.{Answer}
+use Rattle.rules.specs.Types.{Answer}
 
 -- a record: kind, mark, A, B, C, literal
 abbrev pub ofAll : ℕ → ℕ → ℕ → ℕ → ℕ → ℤ → Record

@@ -12,15 +12,12 @@ use Rattle.rules.specs.Records.{Record, fieldsOf, recordCount, kindOf, m
 use Rattle.rules.specs.Kinds.{Language, source, target, Sort, statement, sortNumber, Field, unnamed, child}
 use Rattle.rules.specs.Kinds.{number, Literal, zeroLiteral, anyLiteral, statementLiteral, Form, formOf}
 use Rattle.rules.specs.Kinds.{beside, recordLimit}
-use Rattle.rules.specs.declared.Search.{Search}
-use Rattle.rules.specs.declared.Search.the-variants as search
-use Rattle.rules.specs.declared.Checked.{Checked}
-use Rattle.rules.specs.declared.Checked.the-variants as checked
+use Rattle.rules.specs.Types.{Search, Checked}
 
 -- the lowest of k numbers from j on that passes a test
 unfoldable pub lowest : (ℕ → Bool) → ℕ → ℕ → Search
-lowest p j zero = search.Nothing
-lowest p j (suc k) = elim (p j) [ true ↦ search.At j | false ↦ lowest p (suc j) k ]
+lowest p j zero = Search.Nothing
+lowest p j (suc k) = elim (p j) [ true ↦ Search.At j | false ↦ lowest p (suc j) k ]
 
 -- "within one number the lowest record is named"
 abbrev pub lowestRecord : List ℕ → (ℕ → Bool) → Search
@@ -121,8 +118,8 @@ inScope l t (suc d) x n =
       | true ↦ true
       | false ↦
           elim (parentOf l t n) [
-            | search.Nothing ↦ false
-            | search.At m ↦
+            | Search.Nothing ↦ false
+            | Search.At m ↦
                 elim (isLetOf t m x) [ true ↦ true | false ↦ inScope l t d x m ]
           ]
     ]
@@ -164,8 +161,8 @@ unfoldable pub levelOf : List ℕ → ℕ → ℕ → ℕ
 levelOf t zero n = 0
 levelOf t (suc d) n =
     elim (parentOf source t n) [
-      | search.At m ↦ levelBelow (kindOf t m) (positionIn (fieldsOf (recordAt t m)) n) (levelOf t d m)
-      | search.Nothing ↦ 0
+      | Search.At m ↦ levelBelow (kindOf t m) (positionIn (fieldsOf (recordAt t m)) n) (levelOf t d m)
+      | Search.Nothing ↦ 0
     ]
 
 -- the highest temporary that a term's or predicate's own target records name at level n: tn of 61 and 66,
@@ -186,12 +183,12 @@ levelFault t n =
 
 -- what a rule says: it refuses the whole, the record found, or nothing
 abbrev pub refuseIf : ℕ → Bool → Checked
-refuseIf rule true = checked.Refused rule 0
-refuseIf rule false = checked.Accepted
+refuseIf rule true = Checked.Refused rule 0
+refuseIf rule false = Checked.Accepted
 
 abbrev pub refuseBy : (ℕ → ℕ) → Search → Checked
-refuseBy rule (search.At n) = checked.Refused (rule n) n
-refuseBy rule search.Nothing = checked.Accepted
+refuseBy rule (Search.At n) = Checked.Refused (rule n) n
+refuseBy rule Search.Nothing = Checked.Accepted
 
 abbrev pub refuseAt : ℕ → Search → Checked
 refuseAt rule s = refuseBy (λ n. rule) s
@@ -199,12 +196,12 @@ refuseAt rule s = refuseBy (λ n. rule) s
 -- a rule is tried where the one before it refuses nothing
 infixr 20 _otherwise_
 abbrev pub _otherwise_ : Checked → Checked → Checked
-checked.Accepted otherwise c = c
-(checked.Refused k n) otherwise c = checked.Refused k n
+Checked.Accepted otherwise c = c
+(Checked.Refused k n) otherwise c = Checked.Refused k n
 
 abbrev pub lastRule : Language → List ℕ → Checked
 lastRule source t = refuseAt 8 (lowestRecord t (levelFault t))
-lastRule target t = checked.Accepted
+lastRule target t = Checked.Accepted
 
 -- "Checked in this order; .. 3–5 are tried record by record."
 unfoldable pub check : Language → List ℕ → Checked

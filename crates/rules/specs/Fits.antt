@@ -10,17 +10,7 @@ use Rattle.rules.specs.Numbers.{inRange}
 use Rattle.rules.specs.Memory.{Memory, recordedOf}
 use Rattle.rules.specs.Observation.{Observation}
 use Rattle.rules.specs.Evaluation.{Variables}
-use Rattle.rules.specs.declared.Pointer.{Pointer}
-use Rattle.rules.specs.declared.Value.{Value}
-use Rattle.rules.specs.declared.Value.the-variants as value
-use Rattle.rules.specs.declared.Block.{Block}
-use Rattle.rules.specs.declared.Block.the-variants as block
-use Rattle.rules.specs.declared.Recorded.{Recorded}
-use Rattle.rules.specs.declared.Recorded.the-variants as recorded
-use Rattle.rules.specs.declared.Cell.{Cell}
-use Rattle.rules.specs.declared.Cell.the-variants as cell
-use Rattle.rules.specs.declared.Temporary.{Temporary}
-use Rattle.rules.specs.declared.Temporary.the-variants as temporary
+use Rattle.rules.specs.Types.{Pointer, Value, Block, Recorded, Cell, Temporary}
 
 -- a predicate of every element of a list
 pub data All {A : Type 0} (P : A → Type 0) : List A → Type 0 where
@@ -38,28 +28,28 @@ abbrev pub FitsPointer : Pointer → Type 0
 FitsPointer p = FitsName (p .name) × (inRange (p .offset) ≡ true)
 
 abbrev pub FitsValue : Value → Type 0
-FitsValue value.Undefined = Unit {0}
-FitsValue (value.Integer z) = inRange z ≡ true
-FitsValue (value.Pointer p) = FitsPointer p
+FitsValue Value.Undefined = Unit {0}
+FitsValue (Value.Integer z) = inRange z ≡ true
+FitsValue (Value.Pointer p) = FitsPointer p
 
 abbrev pub FitsBlock : Block → Type 0
-FitsBlock block.Unused = Unit {0}
-FitsBlock (block.Fixed first n) = FitsPlaces first n
-FitsBlock (block.Freeable first n) = FitsPlaces first n
-FitsBlock block.Dead = Unit {0}
+FitsBlock Block.Unused = Unit {0}
+FitsBlock (Block.Fixed first n) = FitsPlaces first n
+FitsBlock (Block.Freeable first n) = FitsPlaces first n
+FitsBlock Block.Dead = Unit {0}
 
 abbrev pub FitsRecorded : Recorded → Type 0
-FitsRecorded recorded.Unused = Unit {0}
-FitsRecorded (recorded.Live first n) = FitsPlaces first n
-FitsRecorded recorded.Dead = Unit {0}
+FitsRecorded Recorded.Unused = Unit {0}
+FitsRecorded (Recorded.Live first n) = FitsPlaces first n
+FitsRecorded Recorded.Dead = Unit {0}
 
 abbrev pub FitsCell : Cell → Type 0
-FitsCell cell.Free = Unit {0}
-FitsCell (cell.Holds o v) = FitsName o × FitsValue v
+FitsCell Cell.Free = Unit {0}
+FitsCell (Cell.Holds o v) = FitsName o × FitsValue v
 
 abbrev pub FitsTemporary : Temporary → Type 0
-FitsTemporary temporary.Empty = Unit {0}
-FitsTemporary (temporary.Holds v) = FitsValue v
+FitsTemporary Temporary.Empty = Unit {0}
+FitsTemporary (Temporary.Holds v) = FitsValue v
 
 pub record FitsMemory (m : Memory) : Type 0 where
   pub block-count : length (m .blocks) ≡ nameCount
@@ -74,9 +64,9 @@ pub record FitsObservation (o : Observation) : Type 0 where
 
 -- and whose live blocks lie inside the cells, as those of every run do
 abbrev pub InsideRecorded : Recorded → Type 0
-InsideRecorded recorded.Unused = Unit {0}
-InsideRecorded (recorded.Live first n) = first + n ≤ cellCount
-InsideRecorded recorded.Dead = Unit {0}
+InsideRecorded Recorded.Unused = Unit {0}
+InsideRecorded (Recorded.Live first n) = first + n ≤ cellCount
+InsideRecorded Recorded.Dead = Unit {0}
 
 abbrev pub InsideBlock : Block → Type 0
 InsideBlock b = InsideRecorded (recordedOf b)

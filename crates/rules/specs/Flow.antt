@@ -7,8 +7,7 @@ use Rattle.rules.specs.Trees.{Place, Expression, Predicate, Statement, s
 use Rattle.rules.specs.Trees.{while, letIn, assert}
 use Rattle.rules.specs.Memory.{Memory, Change, changed, stopped, Made, made, unmade}
 use Rattle.rules.specs.Evaluation.{Variables, extend}
-use Rattle.rules.specs.declared.Test.{Test}
-use Rattle.rules.specs.declared.Test.the-variants as test
+use Rattle.rules.specs.Types.{Test}
 
 -- the way down a program to a statement: the child taken at each statement, A being 0
 abbrev pub TreePath : Type 0
@@ -68,9 +67,9 @@ after s ρ f (stopped c x) = ended c s ρ [] x f
 
 -- go on by a test of statement s
 abbrev pub decide : {S : Type 0} → ℕ → Variables → Test → S → ℕ → Outcome S → Outcome S → Outcome S
-decide s ρ test.Yes x f a b = a
-decide s ρ test.No x f a b = b
-decide s ρ (test.Stopped c) x f a b = ended c s ρ [] x f
+decide s ρ Test.Yes x f a b = a
+decide s ρ Test.No x f a b = b
+decide s ρ (Test.Stopped c) x f a b = ended c s ρ [] x f
 
 -- "One unit of fuel .. goes for each while test, before the condition is evaluated"; "32 fuel is 0 at a while test".
 -- The first number only bounds the turns: it starts as the fuel, of which each turn takes one.

@@ -9,14 +9,7 @@ use Rattle.rules.specs.Sizes.{nameCount, cellCount, blocksLength}
 use Rattle.rules.specs.Words.{digits, wordAt, integerAt, integerBytes, flat, tabulate}
 use Rattle.rules.specs.Memory.{Memory, one}
 use Rattle.rules.specs.Observation.{Observation}
-use Rattle.rules.specs.declared.Value.{Value}
-use Rattle.rules.specs.declared.Value.the-variants as value
-use Rattle.rules.specs.declared.Block.{Block}
-use Rattle.rules.specs.declared.Block.the-variants as block
-use Rattle.rules.specs.declared.Recorded.{Recorded}
-use Rattle.rules.specs.declared.Recorded.the-variants as recorded
-use Rattle.rules.specs.declared.Cell.{Cell}
-use Rattle.rules.specs.declared.Cell.the-variants as cell
+use Rattle.rules.specs.Types.{Value, Block, Recorded, Cell}
 
 -- "255 block records of 8 bytes (state ..; 0; first cell in two bytes; length in two; 0, 0)"
 abbrev pub blockRecord : ℕ → ℕ → ℕ → List ℕ
@@ -24,10 +17,10 @@ blockRecord state first n = state ∷ 0 ∷ digits 2 first ++ digits 2 n ++ 0 �
 
 -- "0 unused, 1 live and fixed, 2 live and freeable, 3 dead"; "A dead block has first and length 0"
 unfoldable pub blockBytes : Block → List ℕ
-blockBytes block.Unused = blockRecord 0 0 0
-blockBytes (block.Fixed first n) = blockRecord 1 first n
-blockBytes (block.Freeable first n) = blockRecord 2 first n
-blockBytes block.Dead = blockRecord 3 0 0
+blockBytes Block.Unused = blockRecord 0 0 0
+blockBytes (Block.Fixed first n) = blockRecord 1 first n
+blockBytes (Block.Freeable first n) = blockRecord 2 first n
+blockBytes Block.Dead = blockRecord 3 0 0
 
 -- "then 1,024 cells of 16 (kind ..; owner; pointed-to name; five zeros; integer or offset in 8)"
 abbrev pub cellRecord : ℕ → ℕ → ℕ → ℤ → List ℕ
@@ -40,19 +33,19 @@ nameLimit = 256
 -- "0 free, 1 undefined, 2 integer, 3 pointer"; "a free cell is all zero, and so is any part that a cell's kind has no
 -- use for"
 unfoldable pub cellBytes : Cell → List ℕ
-cellBytes cell.Free = cellRecord 0 0 0 (pos 0)
-cellBytes (cell.Holds o value.Undefined) = cellRecord 1 o 0 (pos 0)
-cellBytes (cell.Holds o (value.Integer z)) = cellRecord 2 o 0 z
-cellBytes (cell.Holds o (value.Pointer p)) = cellRecord 3 o (p .name) (p .offset)
+cellBytes Cell.Free = cellRecord 0 0 0 (pos 0)
+cellBytes (Cell.Holds o Value.Undefined) = cellRecord 1 o 0 (pos 0)
+cellBytes (Cell.Holds o (Value.Integer z)) = cellRecord 2 o 0 z
+cellBytes (Cell.Holds o (Value.Pointer p)) = cellRecord 3 o (p .name) (p .offset)
 
 unfoldable pub memoryImage : Memory → List ℕ
 memoryImage m = flat blockBytes (m .blocks) ++ flat cellBytes (m .cells)
 
 -- "255 block records (state 0 unused, 1 live, 2 dead; rest alike, first counting marks)"
 unfoldable pub recordedBytes : Recorded → List ℕ
-recordedBytes recorded.Unused = blockRecord 0 0 0
-recordedBytes (recorded.Live first n) = blockRecord 1 first n
-recordedBytes recorded.Dead = blockRecord 2 0 0
+recordedBytes Recorded.Unused = blockRecord 0 0 0
+recordedBytes (Recorded.Live first n) = blockRecord 1 first n
+recordedBytes Recorded.Dead = blockRecord 2 0 0
 
 -- "then 1,024 marks of one byte, 1 for initialised"
 abbrev pub markBytes : Bool → List ℕ
@@ -73,20 +66,20 @@ markPlace i = blocksLength + i
 
 -- what bytes stand for
 abbrev pub blockFrom : ℕ → ℕ → ℕ → Block
-blockFrom zero first n = block.Unused
-blockFrom (suc zero) first n = block.Fixed first n
-blockFrom (suc (suc zero)) first n = block.Freeable first n
-blockFrom (suc (suc (suc s))) first n = block.Dead
+blockFrom zero first n = Block.Unused
+blockFrom (suc zero) first n = Block.Fixed first n
+blockFrom (suc (suc zero)) first n = Block.Freeable first n
+blockFrom (suc (suc (suc s))) first n = Block.Dead
 
 unfoldable pub blockAt : List ℕ → ℕ → Block
 blockAt l k =
     blockFrom (getD l (blockPlace k) 0) (wordAt 2 l (blockPlace k + 2)) (wordAt 2 l (blockPlace k + 4))
 
 abbrev pub cellFrom : ℕ → ℕ → ℕ → ℤ → Cell
-cellFrom zero o n z = cell.Free
-cellFrom (suc zero) o n z = cell.Holds o value.Undefined
-cellFrom (suc (suc zero)) o n z = cell.Holds o (value.Integer z)
-cellFrom (suc (suc (suc k))) o n z = cell.Holds o (value.Pointer (record { name = n; offset = z }))
+cellFrom zero o n z = Cell.Free
+cellFrom (suc zero) o n z = Cell.Holds o Value.Undefined
+cellFrom (suc (suc zero)) o n z = Cell.Holds o (Value.Integer z)
+cellFrom (suc (suc (suc k))) o n z = Cell.Holds o (Value.Pointer (record { name = n; offset = z }))
 
 unfoldable pub cellAt : List ℕ → ℕ → Cell
 cellAt l i =
@@ -97,9 +90,9 @@ unfoldable pub memoryOf : List ℕ → Memory
 memoryOf l = record { blocks = tabulate 0 nameCount (blockAt l); cells = tabulate 0 cellCount (cellAt l) }
 
 abbrev pub recordedFrom : ℕ → ℕ → ℕ → Recorded
-recordedFrom zero first n = recorded.Unused
-recordedFrom (suc zero) first n = recorded.Live first n
-recordedFrom (suc (suc s)) first n = recorded.Dead
+recordedFrom zero first n = Recorded.Unused
+recordedFrom (suc zero) first n = Recorded.Live first n
+recordedFrom (suc (suc s)) first n = Recorded.Dead
 
 unfoldable pub recordedAt : List ℕ → ℕ → Recorded
 recordedAt l k =

@@ -1,4 +1,5 @@
 -- Document 01 as definitions, in its order.
+pub mod Types
 pub mod Sizes
 pub mod Words
 pub mod Records

@@ -9,8 +9,7 @@ use Rattle.rules.specs.Records.{Record}
 use Rattle.rules.specs.Kinds.{Language, source}
 use Rattle.rules.specs.Checker.{check}
 use Rattle.rules.specs.Translation.{translatedRecords}
-use Rattle.rules.specs.declared.Checked.{Checked}
-use Rattle.rules.specs.declared.Checked.the-variants as checked
+use Rattle.rules.specs.Types.{Checked}
 
 -- "figures here are decimal": a number's digits in ASCII, at most k of them; 64 bits have at most 20
 unfoldable pub decimalDigits : ℕ → ℕ → List ℕ
@@ -41,8 +40,8 @@ recordLines n [] = []
 recordLines n (r ∷ rs) = recordLine n r ++ recordLines (suc n) rs
 
 abbrev pub listingBy : Checked → List ℕ → List ℕ
-listingBy checked.Accepted t = recordLines 1 (translatedRecords t)
-listingBy (checked.Refused k n) t = line (natural k) (natural n ∷ [])
+listingBy Checked.Accepted t = recordLines 1 (translatedRecords t)
+listingBy (Checked.Refused k n) t = line (natural k) (natural n ∷ [])
 
 abbrev pub listing : List ℕ → List ℕ
 listing t = listingBy (check source t) t

@@ -7,23 +7,7 @@ use lib.IntN.{ℤ, pos, negsuc}
 use lib.ListN.{length, getD, set, replicate}
 use Rattle.rules.specs.Sizes.{nameCount, cellCount}
 use Rattle.rules.specs.Checker.{lowest}
-use Rattle.rules.specs.declared.Pointer.{Pointer}
-use Rattle.rules.specs.declared.Value.{Value}
-use Rattle.rules.specs.declared.Value.the-variants as value
-use Rattle.rules.specs.declared.Evaluated.{Evaluated}
-use Rattle.rules.specs.declared.Evaluated.the-variants as evaluated
-use Rattle.rules.specs.declared.Found.{Found}
-use Rattle.rules.specs.declared.Found.the-variants as found
-use Rattle.rules.specs.declared.Located.{Located}
-use Rattle.rules.specs.declared.Located.the-variants as located
-use Rattle.rules.specs.declared.Search.{Search}
-use Rattle.rules.specs.declared.Search.the-variants as search
-use Rattle.rules.specs.declared.Block.{Block}
-use Rattle.rules.specs.declared.Block.the-variants as block
-use Rattle.rules.specs.declared.Recorded.{Recorded}
-use Rattle.rules.specs.declared.Recorded.the-variants as recorded
-use Rattle.rules.specs.declared.Cell.{Cell}
-use Rattle.rules.specs.declared.Cell.the-variants as cell
+use Rattle.rules.specs.Types.{Pointer, Value, Evaluated, Found, Located, Search, Block, Recorded, Cell}
 
 -- block records by name from 1, cells from 0
 pub record Memory : Type 0 where
@@ -32,10 +16,10 @@ pub record Memory : Type 0 where
 
 -- what both memories ask of a block: whether it is live, and where
 abbrev pub recordedOf : Block → Recorded
-recordedOf block.Unused = recorded.Unused
-recordedOf (block.Fixed first n) = recorded.Live first n
-recordedOf (block.Freeable first n) = recorded.Live first n
-recordedOf block.Dead = recorded.Dead
+recordedOf Block.Unused = Recorded.Unused
+recordedOf (Block.Fixed first n) = Recorded.Live first n
+recordedOf (Block.Freeable first n) = Recorded.Live first n
+recordedOf Block.Dead = Recorded.Dead
 
 -- a list's element by a name: names count from 1, and d stands for a name that has no record
 abbrev pub named : {A : Type 0} → List A → ℕ → A → A
@@ -47,36 +31,36 @@ setNamed l zero x = l
 setNamed l (suc k) x = set l k x
 
 abbrev pub blockOf : Memory → ℕ → Block
-blockOf m k = named (m .blocks) k block.Dead
+blockOf m k = named (m .blocks) k Block.Dead
 
 abbrev pub cellOf : Memory → ℕ → Cell
-cellOf m i = getD (m .cells) i cell.Free
+cellOf m i = getD (m .cells) i Cell.Free
 
 -- "Valid: the block is live and the offset inside."
 abbrev pub locatedIn : Recorded → ℤ → Located
-locatedIn recorded.Unused o = located.Dead
-locatedIn (recorded.Live first n) (pos o) = cond (ltb o n) (located.At (first + o)) located.Outside
-locatedIn (recorded.Live first n) (negsuc o) = located.Outside
-locatedIn recorded.Dead o = located.Dead
+locatedIn Recorded.Unused o = Located.Dead
+locatedIn (Recorded.Live first n) (pos o) = cond (ltb o n) (Located.At (first + o)) Located.Outside
+locatedIn (Recorded.Live first n) (negsuc o) = Located.Outside
+locatedIn Recorded.Dead o = Located.Dead
 
 unfoldable pub locate : Memory → Pointer → Located
 locate m p = locatedIn (recordedOf (blockOf m (p .name))) (p .offset)
 
 -- "42 cell in a dead block or outside"
 abbrev pub atCell : {A : Type 0} → (ℕ → A) → (ℕ → A) → Located → A
-atCell at stop (located.At i) = at i
-atCell at stop located.Dead = stop 42
-atCell at stop located.Outside = stop 42
+atCell at stop (Located.At i) = at i
+atCell at stop Located.Dead = stop 42
+atCell at stop Located.Outside = stop 42
 
 -- "41 undefined cell read"; no pointer leads to a free cell
 abbrev pub defined : Cell → Evaluated
-defined cell.Free = evaluated.Stopped 41
-defined (cell.Holds o value.Undefined) = evaluated.Stopped 41
-defined (cell.Holds o (value.Integer z)) = evaluated.Value (value.Integer z)
-defined (cell.Holds o (value.Pointer p)) = evaluated.Value (value.Pointer p)
+defined Cell.Free = Evaluated.Stopped 41
+defined (Cell.Holds o Value.Undefined) = Evaluated.Stopped 41
+defined (Cell.Holds o (Value.Integer z)) = Evaluated.Value (Value.Integer z)
+defined (Cell.Holds o (Value.Pointer p)) = Evaluated.Value (Value.Pointer p)
 
 abbrev pub readCell : Memory → Pointer → Evaluated
-readCell m p = atCell (λ i. defined (cellOf m i)) evaluated.Stopped (locate m p)
+readCell m p = atCell (λ i. defined (cellOf m i)) Evaluated.Stopped (locate m p)
 
 -- a change of a run's state, the memory or what holds it, or a stop with the state as it is then
 pub data Change (S : Type 0) : Type 0 where
@@ -94,7 +78,7 @@ setCell m i c = record { blocks = m .blocks; cells = set (m .cells) i c }
 
 abbrev pub storeCell : Memory → Pointer → Value → Change Memory
 storeCell m p v =
-    atCell (λ i. changed (setCell m i (cell.Holds (p .name) v))) (λ k. stopped k m) (locate m p)
+    atCell (λ i. changed (setCell m i (Cell.Holds (p .name) v))) (λ k. stopped k m) (locate m p)
 
 -- "A block gets the lowest run of free cells that holds it": n places from s on are free
 unfoldable pub allFree : (ℕ → Bool) → ℕ → ℕ → Bool
@@ -105,18 +89,18 @@ unfoldable pub lowestRun : (ℕ → Bool) → ℕ → Search
 lowestRun p n = lowest (λ s. allFree p s n) 0 (suc cellCount - n)
 
 abbrev pub isFree : Cell → Bool
-isFree cell.Free = true
-isFree (cell.Holds o v) = false
+isFree Cell.Free = true
+isFree (Cell.Holds o v) = false
 
 abbrev pub freeRun : Memory → ℕ → Search
 freeRun m n = lowestRun (λ i. isFree (cellOf m i)) n
 
 -- "Block names 1–255 are given in rising order and never again."
 abbrev pub isUnused : Block → Bool
-isUnused block.Unused = true
-isUnused (block.Fixed first n) = false
-isUnused (block.Freeable first n) = false
-isUnused block.Dead = false
+isUnused Block.Unused = true
+isUnused (Block.Fixed first n) = false
+isUnused (Block.Freeable first n) = false
+isUnused Block.Dead = false
 
 abbrev pub nextName : Memory → Search
 nextName m = lowest (λ k. isUnused (blockOf m k)) 1 nameCount
@@ -133,13 +117,13 @@ pub data Use : Type 0 where
   fixed freeable : Use
 
 abbrev pub blockFor : Use → ℕ → ℕ → Block
-blockFor fixed first n = block.Fixed first n
-blockFor freeable first n = block.Freeable first n
+blockFor fixed first n = Block.Fixed first n
+blockFor freeable first n = Block.Freeable first n
 
 abbrev pub withBlock : Memory → Use → ℕ → ℕ → ℕ → Memory
 withBlock m u k first n = record {
   blocks = setNamed (m .blocks) k (blockFor u first n);
-  cells = fill (m .cells) first n (cell.Holds k value.Undefined);
+  cells = fill (m .cells) first n (Cell.Holds k Value.Undefined);
 }
 
 -- a new block's name and the state with it, or "31 all names given", then "30 no run of free cells long enough"
@@ -152,44 +136,44 @@ madeIn put (made k m) = made k (put m)
 madeIn put (unmade c) = unmade c
 
 abbrev pub makeAt : Memory → Use → ℕ → Search → Search → Made Memory
-makeAt m u n search.Nothing run = unmade 31
-makeAt m u n (search.At k) search.Nothing = unmade 30
-makeAt m u n (search.At k) (search.At first) = made k (withBlock m u k first n)
+makeAt m u n Search.Nothing run = unmade 31
+makeAt m u n (Search.At k) Search.Nothing = unmade 30
+makeAt m u n (Search.At k) (Search.At first) = made k (withBlock m u k first n)
 
 abbrev pub makeBlock : Memory → Use → ℕ → Made Memory
 makeBlock m u n = makeAt m u n (nextName m) (freeRun m n)
 
 -- a block's end: its cells are free again, its name is dead
 abbrev pub withoutCells : Memory → ℕ → Recorded → Memory
-withoutCells m k recorded.Unused = m
-withoutCells m k (recorded.Live first n) = record {
-  blocks = setNamed (m .blocks) k block.Dead;
-  cells = fill (m .cells) first n cell.Free;
+withoutCells m k Recorded.Unused = m
+withoutCells m k (Recorded.Live first n) = record {
+  blocks = setNamed (m .blocks) k Block.Dead;
+  cells = fill (m .cells) first n Cell.Free;
 }
-withoutCells m k recorded.Dead = m
+withoutCells m k Recorded.Dead = m
 
 abbrev pub endBlock : Memory → ℕ → Memory
 endBlock m k = withoutCells m k (recordedOf (blockOf m k))
 
 -- by what evaluating gave
 abbrev pub onValue : {A : Type 0} → Evaluated → (ℕ → A) → (Value → A) → A
-onValue (evaluated.Value v) stop next = next v
-onValue (evaluated.Stopped k) stop next = stop k
+onValue (Evaluated.Value v) stop next = next v
+onValue (Evaluated.Stopped k) stop next = stop k
 
 abbrev pub onPlace : {A : Type 0} → Found → (ℕ → A) → (Pointer → A) → A
-onPlace (found.Place p) stop next = next p
-onPlace (found.Stopped k) stop next = stop k
+onPlace (Found.Place p) stop next = next p
+onPlace (Found.Stopped k) stop next = stop k
 
 -- by the sort of a value: "40 wrong sort of value"
 abbrev pub onInteger : {A : Type 0} → Value → (ℕ → A) → (ℤ → A) → A
-onInteger value.Undefined stop next = stop 40
-onInteger (value.Integer z) stop next = next z
-onInteger (value.Pointer p) stop next = stop 40
+onInteger Value.Undefined stop next = stop 40
+onInteger (Value.Integer z) stop next = next z
+onInteger (Value.Pointer p) stop next = stop 40
 
 abbrev pub onPointer : {A : Type 0} → Value → (ℕ → A) → (Pointer → A) → A
-onPointer value.Undefined stop next = stop 40
-onPointer (value.Integer z) stop next = stop 40
-onPointer (value.Pointer p) stop next = next p
+onPointer Value.Undefined stop next = stop 40
+onPointer (Value.Integer z) stop next = stop 40
+onPointer (Value.Pointer p) stop next = next p
 
 -- "41 place A takes expression B"
 abbrev pub assigned : Memory → Found → Evaluated → Change Memory
@@ -197,7 +181,7 @@ assigned m f e = onPlace f (λ k. stopped k m) (λ p. onValue e (λ k. stopped k
 
 -- "Statement 42 makes the block first and then stores the pointer."
 abbrev pub storeNew : Memory → Pointer → Made Memory → Change Memory
-storeNew m p (made k m₁) = storeCell m₁ p (value.Pointer (record { name = k; offset = pos 0 }))
+storeNew m p (made k m₁) = storeCell m₁ p (Value.Pointer (record { name = k; offset = pos 0 }))
 storeNew m p (unmade c) = stopped c m
 
 -- "45 size below 1"; "at a new block 45, 31, 30 after 40"
@@ -215,10 +199,10 @@ allocated m f e =
 
 -- "46 free of a pointer to anything but the first cell of a live freeable block"
 abbrev pub freeOf : Memory → ℕ → Block → Change Memory
-freeOf m k block.Unused = stopped 46 m
-freeOf m k (block.Fixed first n) = stopped 46 m
-freeOf m k (block.Freeable first n) = changed (endBlock m k)
-freeOf m k block.Dead = stopped 46 m
+freeOf m k Block.Unused = stopped 46 m
+freeOf m k (Block.Fixed first n) = stopped 46 m
+freeOf m k (Block.Freeable first n) = changed (endBlock m k)
+freeOf m k Block.Dead = stopped 46 m
 
 abbrev pub freeAt : Memory → ℕ → ℤ → Change Memory
 freeAt m k (pos zero) = freeOf m k (blockOf m k)
@@ -242,8 +226,8 @@ countFree (c ∷ cs) = one (isFree c) + countFree cs
 -- "block 1 is its cell, pointing to block 2, which holds the inputs .. Neither can be freed."
 unfoldable pub startMemory : List ℤ → Memory
 startMemory inputs = record {
-  blocks = block.Fixed 0 1 ∷ block.Fixed 1 (length inputs) ∷ replicate (nameCount - 2) block.Unused;
+  blocks = Block.Fixed 0 1 ∷ Block.Fixed 1 (length inputs) ∷ replicate (nameCount - 2) Block.Unused;
   cells =
-      cell.Holds 1 (value.Pointer (record { name = 2; offset = pos 0 }))
-      ∷ (map (λ z. cell.Holds 2 (value.Integer z)) inputs ++ replicate (cellCount - 1 - length inputs) cell.Free);
+      Cell.Holds 1 (Value.Pointer (record { name = 2; offset = pos 0 }))
+      ∷ (map (λ z. Cell.Holds 2 (Value.Integer z)) inputs ++ replicate (cellCount - 1 - length inputs) Cell.Free);
 }

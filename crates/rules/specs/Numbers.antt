@@ -5,15 +5,7 @@ use lib.Dec.{ltb, eqb}
 use lib.IntN.{ℤ, pos, negsuc, negℤ, natAbs, _+ℤ_, _-ℤ_, _*ℤ_}
 use lib.Signed.{leZ}
 use Rattle.rules.specs.Trees.{Operator, add, subtract, multiply, divide, nearest, atMost, equal, shift}
-use Rattle.rules.specs.declared.Pointer.{Pointer}
-use Rattle.rules.specs.declared.Value.{Value}
-use Rattle.rules.specs.declared.Value.the-variants as value
-use Rattle.rules.specs.declared.Evaluated.{Evaluated}
-use Rattle.rules.specs.declared.Evaluated.the-variants as evaluated
-use Rattle.rules.specs.declared.Test.{Test}
-use Rattle.rules.specs.declared.Test.the-variants as test
-use Rattle.rules.specs.declared.Number.{Number}
-use Rattle.rules.specs.declared.Number.the-variants as number
+use Rattle.rules.specs.Types.{Pointer, Value, Evaluated, Test, Number}
 
 -- a signed 64-bit number: −2^63 .. 2^63 − 1
 abbrev pub inRange : ℤ → Bool
@@ -21,7 +13,7 @@ inRange (pos n) = ltb n (2 ^ 63)
 inRange (negsuc n) = ltb n (2 ^ 63)
 
 abbrev pub ranged : ℤ → Number
-ranged z = cond (inRange z) (number.Is z) number.Overflow
+ranged z = cond (inRange z) (Number.Is z) Number.Overflow
 
 abbrev pub isNegative : ℤ → Bool
 isNegative (pos n) = false
@@ -45,7 +37,7 @@ toNearest x y = (2 * x + y) / (2 * y)
 -- "44 zero divisor" before "43 overflow"
 abbrev pub divided : (ℕ → ℕ → ℕ) → ℤ → ℤ → Number
 divided rounded x y =
-    cond (eqb (natAbs y) 0) number.ZeroDivisor (ranged (signed (signsDiffer x y) (rounded (natAbs x) (natAbs y))))
+    cond (eqb (natAbs y) 0) Number.ZeroDivisor (ranged (signed (signsDiffer x y) (rounded (natAbs x) (natAbs y))))
 
 abbrev pub sameInteger : ℤ → ℤ → Bool
 sameInteger (pos x) (pos y) = eqb x y
@@ -59,23 +51,23 @@ samePointer p q = eqb (p .name) (q .name) && sameInteger (p .offset) (q .offset)
 
 -- "43 overflow. 44 zero divisor."
 abbrev pub stopNumber : {A : Type 0} → (ℤ → A) → (ℕ → A) → Number → A
-stopNumber is stop (number.Is z) = is z
-stopNumber is stop number.Overflow = stop 43
-stopNumber is stop number.ZeroDivisor = stop 44
+stopNumber is stop (Number.Is z) = is z
+stopNumber is stop Number.Overflow = stop 43
+stopNumber is stop Number.ZeroDivisor = stop 44
 
 abbrev pub integerValue : ℤ → Evaluated
-integerValue z = evaluated.Value (value.Integer z)
+integerValue z = Evaluated.Value (Value.Integer z)
 
 abbrev pub numbered : Number → Evaluated
-numbered n = stopNumber integerValue evaluated.Stopped n
+numbered n = stopNumber integerValue Evaluated.Stopped n
 
 -- "Operators 6 and 7 and queries 1 and 2 give 1 or 0."
 abbrev pub truth : Bool → Value
-truth true = value.Integer (pos 1)
-truth false = value.Integer (pos 0)
+truth true = Value.Integer (pos 1)
+truth false = Value.Integer (pos 0)
 
 abbrev pub truthValue : Bool → Evaluated
-truthValue b = evaluated.Value (truth b)
+truthValue b = Evaluated.Value (truth b)
 
 -- "operators 1–6 take integers"; a shift takes a pointer first: "40 wrong sort of value"
 unfoldable pub onIntegers : Operator → ℤ → ℤ → Evaluated
@@ -86,45 +78,46 @@ onIntegers divide x y = numbered (divided towardZero x y)
 onIntegers nearest x y = numbered (divided toNearest x y)
 onIntegers atMost x y = truthValue (leZ x y)
 onIntegers equal x y = truthValue (sameInteger x y)
-onIntegers shift x y = evaluated.Stopped 40
+onIntegers shift x y = Evaluated.Stopped 40
 
 -- "A shift may leave the block": only the offset's 64 bits are asked
 abbrev pub moved : Pointer → Number → Evaluated
-moved p n = stopNumber (λ z. evaluated.Value (value.Pointer (record { name = p .name; offset = z }))) evaluated.Stopped n
+moved p n =
+    stopNumber (λ z. Evaluated.Value (Value.Pointer (record { name = p .name; offset = z }))) Evaluated.Stopped n
 
 unfoldable pub onPointerAndInteger : Operator → Pointer → ℤ → Evaluated
 onPointerAndInteger shift p y = moved p (ranged (p .offset +ℤ y))
-onPointerAndInteger add p y = evaluated.Stopped 40
-onPointerAndInteger subtract p y = evaluated.Stopped 40
-onPointerAndInteger multiply p y = evaluated.Stopped 40
-onPointerAndInteger divide p y = evaluated.Stopped 40
-onPointerAndInteger nearest p y = evaluated.Stopped 40
-onPointerAndInteger atMost p y = evaluated.Stopped 40
-onPointerAndInteger equal p y = evaluated.Stopped 40
+onPointerAndInteger add p y = Evaluated.Stopped 40
+onPointerAndInteger subtract p y = Evaluated.Stopped 40
+onPointerAndInteger multiply p y = Evaluated.Stopped 40
+onPointerAndInteger divide p y = Evaluated.Stopped 40
+onPointerAndInteger nearest p y = Evaluated.Stopped 40
+onPointerAndInteger atMost p y = Evaluated.Stopped 40
+onPointerAndInteger equal p y = Evaluated.Stopped 40
 
 -- "Equality takes two integers or two pointers"
 unfoldable pub onPointers : Operator → Pointer → Pointer → Evaluated
 onPointers equal p q = truthValue (samePointer p q)
-onPointers add p q = evaluated.Stopped 40
-onPointers subtract p q = evaluated.Stopped 40
-onPointers multiply p q = evaluated.Stopped 40
-onPointers divide p q = evaluated.Stopped 40
-onPointers nearest p q = evaluated.Stopped 40
-onPointers atMost p q = evaluated.Stopped 40
-onPointers shift p q = evaluated.Stopped 40
+onPointers add p q = Evaluated.Stopped 40
+onPointers subtract p q = Evaluated.Stopped 40
+onPointers multiply p q = Evaluated.Stopped 40
+onPointers divide p q = Evaluated.Stopped 40
+onPointers nearest p q = Evaluated.Stopped 40
+onPointers atMost p q = Evaluated.Stopped 40
+onPointers shift p q = Evaluated.Stopped 40
 
 -- an operator on two values
 unfoldable pub operate : Operator → Value → Value → Evaluated
-operate o value.Undefined y = evaluated.Stopped 40
-operate o (value.Integer x) value.Undefined = evaluated.Stopped 40
-operate o (value.Integer x) (value.Integer y) = onIntegers o x y
-operate o (value.Integer x) (value.Pointer q) = evaluated.Stopped 40
-operate o (value.Pointer p) value.Undefined = evaluated.Stopped 40
-operate o (value.Pointer p) (value.Integer y) = onPointerAndInteger o p y
-operate o (value.Pointer p) (value.Pointer q) = onPointers o p q
+operate o Value.Undefined y = Evaluated.Stopped 40
+operate o (Value.Integer x) Value.Undefined = Evaluated.Stopped 40
+operate o (Value.Integer x) (Value.Integer y) = onIntegers o x y
+operate o (Value.Integer x) (Value.Pointer q) = Evaluated.Stopped 40
+operate o (Value.Pointer p) Value.Undefined = Evaluated.Stopped 40
+operate o (Value.Pointer p) (Value.Integer y) = onPointerAndInteger o p y
+operate o (Value.Pointer p) (Value.Pointer q) = onPointers o p q
 
 -- "Conditions are integers, true when not 0"
 abbrev pub tested : Value → Test
-tested value.Undefined = test.Stopped 40
-tested (value.Integer z) = cond (sameInteger z (pos 0)) test.No test.Yes
-tested (value.Pointer p) = test.Stopped 40
+tested Value.Undefined = Test.Stopped 40
+tested (Value.Integer z) = cond (sameInteger z (pos 0)) Test.No Test.Yes
+tested (Value.Pointer p) = Test.Stopped 40

@@ -10,17 +10,7 @@ use Rattle.rules.specs.Trees.{Query}
 use Rattle.rules.specs.Memory.{Memory, recordedOf, named, locatedIn, lowestRun, fill, onInteger, setNamed}
 use Rattle.rules.specs.Memory.{onPointer}
 use Rattle.rules.specs.Evaluation.{isInitialised, queried}
-use Rattle.rules.specs.declared.Pointer.{Pointer}
-use Rattle.rules.specs.declared.Value.{Value}
-use Rattle.rules.specs.declared.Value.the-variants as value
-use Rattle.rules.specs.declared.Evaluated.{Evaluated}
-use Rattle.rules.specs.declared.Evaluated.the-variants as evaluated
-use Rattle.rules.specs.declared.Located.{Located}
-use Rattle.rules.specs.declared.Located.the-variants as located
-use Rattle.rules.specs.declared.Search.{Search}
-use Rattle.rules.specs.declared.Search.the-variants as search
-use Rattle.rules.specs.declared.Recorded.{Recorded}
-use Rattle.rules.specs.declared.Recorded.the-variants as recorded
+use Rattle.rules.specs.Types.{Pointer, Value, Evaluated, Located, Search, Recorded}
 
 -- block records by name from 1, marks from 0: "1 for initialised"
 pub record Observation : Type 0 where
@@ -28,16 +18,16 @@ pub record Observation : Type 0 where
   pub marks : List Bool
 
 abbrev pub recordOf : Observation → ℕ → Recorded
-recordOf o k = named (o .blocks) k recorded.Dead
+recordOf o k = named (o .blocks) k Recorded.Dead
 
 abbrev pub isMarked : Observation → ℕ → Bool
 isMarked o i = getD (o .marks) i false
 
 -- a mark is free where it lies in no live block
 abbrev pub covers : Recorded → ℕ → Bool
-covers recorded.Unused i = false
-covers (recorded.Live first n) i = leb first i && ltb i (first + n)
-covers recorded.Dead i = false
+covers Recorded.Unused i = false
+covers (Recorded.Live first n) i = leb first i && ltb i (first + n)
+covers Recorded.Dead i = false
 
 unfoldable pub covered : List Recorded → ℕ → Bool
 covered [] i = false
@@ -57,10 +47,10 @@ withMarks o k b first n = record { blocks = setNamed (o .blocks) k b; marks = fi
 
 -- "48 .. store not at offset 0, of a known name, below 1 or without marks": a name from 1 on that is unused
 abbrev pub storeAt : Observation → ℕ → ℕ → Recorded → Search → Noted
-storeAt o k n recorded.Unused search.Nothing = refused 48
-storeAt o k n recorded.Unused (search.At first) = noted (withMarks o k (recorded.Live first n) first n)
-storeAt o k n (recorded.Live first l) run = refused 48
-storeAt o k n recorded.Dead run = refused 48
+storeAt o k n Recorded.Unused Search.Nothing = refused 48
+storeAt o k n Recorded.Unused (Search.At first) = noted (withMarks o k (Recorded.Live first n) first n)
+storeAt o k n (Recorded.Live first l) run = refused 48
+storeAt o k n Recorded.Dead run = refused 48
 
 abbrev pub storeSized : Observation → ℕ → ℤ → ℤ → Noted
 storeSized o k (pos zero) (pos (suc n)) = storeAt o k (suc n) (recordOf o k) (markRun o (suc n))
@@ -75,9 +65,9 @@ storeBlock o v w =
 
 -- "48 .. delete not at offset 0 of a live block"
 abbrev pub deleteAt : Observation → ℕ → Recorded → Noted
-deleteAt o k recorded.Unused = refused 48
-deleteAt o k (recorded.Live first n) = noted (withMarks o k recorded.Dead first n)
-deleteAt o k recorded.Dead = refused 48
+deleteAt o k Recorded.Unused = refused 48
+deleteAt o k (Recorded.Live first n) = noted (withMarks o k Recorded.Dead first n)
+deleteAt o k Recorded.Dead = refused 48
 
 abbrev pub deleteFrom : Observation → ℕ → ℤ → Noted
 deleteFrom o k (pos zero) = deleteAt o k (recordOf o k)
@@ -92,9 +82,9 @@ abbrev pub locateMark : Observation → Pointer → Located
 locateMark o p = locatedIn (recordOf o (p .name)) (p .offset)
 
 abbrev pub markAt : Observation → Located → Noted
-markAt o (located.At i) = noted (record { blocks = o .blocks; marks = set (o .marks) i true })
-markAt o located.Dead = refused 48
-markAt o located.Outside = refused 48
+markAt o (Located.At i) = noted (record { blocks = o .blocks; marks = set (o .marks) i true })
+markAt o Located.Dead = refused 48
+markAt o Located.Outside = refused 48
 
 abbrev pub initialise : Observation → Value → Noted
 initialise o v = onPointer v refused (λ p. markAt o (locateMark o p))
@@ -102,22 +92,22 @@ initialise o v = onPointer v refused (λ p. markAt o (locateMark o p))
 -- the five queries
 abbrev pub queryObservation : Query → Observation → Value → Evaluated
 queryObservation q o v =
-    onPointer v evaluated.Stopped (λ p. queried q (recordOf o (p .name)) (λ i. isMarked o i) p)
+    onPointer v Evaluated.Stopped (λ p. queried q (recordOf o (p .name)) (λ i. isMarked o i) p)
 
 abbrev pub emptyObservation : Observation
-emptyObservation = record { blocks = replicate nameCount recorded.Unused; marks = replicate cellCount false }
+emptyObservation = record { blocks = replicate nameCount Recorded.Unused; marks = replicate cellCount false }
 
 -- "The watched run starts with both input blocks recorded there and all their cells marked": through the calls.
 -- A call that is refused leaves the memory as it is; at the start none is.
 abbrev pub pointerTo : ℕ → ℕ → Value
-pointerTo k i = value.Pointer (record { name = k; offset = pos i })
+pointerTo k i = Value.Pointer (record { name = k; offset = pos i })
 
 abbrev pub kept : Observation → Noted → Observation
 kept o (noted o₁) = o₁
 kept o (refused k) = o
 
 abbrev pub recordBlock : Observation → ℕ → ℕ → Observation
-recordBlock o k n = kept o (storeBlock o (pointerTo k 0) (value.Integer (pos n)))
+recordBlock o k n = kept o (storeBlock o (pointerTo k 0) (Value.Integer (pos n)))
 
 abbrev pub markCell : Observation → ℕ → ℕ → Observation
 markCell o k i = kept o (initialise o (pointerTo k i))

@@ -7,7 +7,7 @@ use Rattle.rules.specs.Records.{fieldsOf, recordCount, kindOf, recordAt}
 use Rattle.rules.specs.Kinds.{source, between}
 use Rattle.rules.specs.Checker.{total, parentOf}
 use Rattle.rules.specs.Nodes.{byKind, _gives_}
-use Rattle.rules.specs.declared.Search.the-variants as search
+use Rattle.rules.specs.Types.{Search}
 
 -- "Parts listed in order nest as 44(first, 44(second, ..))": the records of a list, from those of its parts
 abbrev pub listRecords : ℕ → List ℕ → ℕ
@@ -69,8 +69,8 @@ unfoldable pub copiesOf : List ℕ → ℕ → ℕ → ℕ
 copiesOf t zero n = 1
 copiesOf t (suc d) n =
     elim (parentOf source t n) [
-      | search.At m ↦ copiesIn t m n * copiesOf t d m
-      | search.Nothing ↦ 1
+      | Search.At m ↦ copiesIn t m n * copiesOf t d m
+      | Search.Nothing ↦ 1
     ]
 
 -- how many target records come from record n

@@ -7,8 +7,7 @@ use Rattle.rules.specs.Memory.{Memory, Change, changed, stopped, changeI
 use Rattle.rules.specs.Evaluation.{Variables, evaluatePredicate, condition}
 use Rattle.rules.specs.Flow.{Outcome, Ending, Meaning, runBy}
 use Rattle.rules.specs.Plain.{plainMeaning}
-use Rattle.rules.specs.declared.Test.{Test}
-use Rattle.rules.specs.declared.Test.the-variants as test
+use Rattle.rules.specs.Types.{Test}
 
 -- "it is false then if its predicate gives 0, and not false if working the predicate out ends the run"
 pub data Verdict : Type 0 where
@@ -31,9 +30,9 @@ reach x r = record { memory = x .memory; assertions = x .assertions ++ (r ∷ []
 
 -- the one change: all else is as in the plain run
 abbrev pub assertedPast : ℕ → PastState → ℕ → Test → Change PastState
-assertedPast s x f test.Yes = changed (reach x (reached holds s (x .memory) f))
-assertedPast s x f test.No = changed (reach x (reached fails s (x .memory) f))
-assertedPast s x f (test.Stopped c) = stopped c (reach x (reached undecided s (x .memory) f))
+assertedPast s x f Test.Yes = changed (reach x (reached holds s (x .memory) f))
+assertedPast s x f Test.No = changed (reach x (reached fails s (x .memory) f))
+assertedPast s x f (Test.Stopped c) = stopped c (reach x (reached undecided s (x .memory) f))
 
 abbrev pub pastMeaning : Meaning PastState
 pastMeaning = record {

@@ -5,14 +5,13 @@ use Rattle.rules.specs.Memory.{Memory, Change, changed, stopped, Use, fi
 use Rattle.rules.specs.Memory.{assigned, allocated, freed}
 use Rattle.rules.specs.Evaluation.{Variables, evaluateSource, findSource, evaluatePredicate, condition}
 use Rattle.rules.specs.Flow.{Outcome, Meaning, runBy}
-use Rattle.rules.specs.declared.Test.{Test}
-use Rattle.rules.specs.declared.Test.the-variants as test
+use Rattle.rules.specs.Types.{Test}
 
 -- "33 assertion false"
 abbrev pub asserted : {S : Type 0} → S → Test → Change S
-asserted x test.Yes = changed x
-asserted x test.No = stopped 33 x
-asserted x (test.Stopped c) = stopped c x
+asserted x Test.Yes = changed x
+asserted x Test.No = stopped 33 x
+asserted x (Test.Stopped c) = stopped c x
 
 -- the state of a plain run is its memory
 abbrev pub plainMeaning : Meaning Memory

@@ -17,22 +17,17 @@ use Rattle.rules.specs.Evaluation.{Variables, Holding, held, evaluate, f
 use Rattle.rules.specs.Evaluation.{condition, extend}
 use Rattle.rules.specs.Observation.{Observation, Noted, noted, refused, storeBlock, deleteBlock, initialise}
 use Rattle.rules.specs.Observation.{queryObservation}
-use Rattle.rules.specs.declared.Value.{Value}
-use Rattle.rules.specs.declared.Evaluated.{Evaluated}
-use Rattle.rules.specs.declared.Evaluated.the-variants as evaluated
-use Rattle.rules.specs.declared.Found.{Found}
-use Rattle.rules.specs.declared.Temporary.{Temporary}
-use Rattle.rules.specs.declared.Temporary.the-variants as temporary
+use Rattle.rules.specs.Types.{Value, Evaluated, Found, Temporary}
 
 -- "64 temporaries t0–t63, empty at first"
 abbrev pub Temporaries : Type 0
 Temporaries = List Temporary
 
 abbrev pub startTemporaries : Temporaries
-startTemporaries = replicate temporaryCount temporary.Empty
+startTemporaries = replicate temporaryCount Temporary.Empty
 
 abbrev pub temporaryOf : Temporaries → Holding ℕ
-temporaryOf τ n = getD τ n temporary.Empty
+temporaryOf τ n = getD τ n Temporary.Empty
 
 abbrev pub heldIn : Temporaries → ℕ → Evaluated
 heldIn τ n = held (temporaryOf τ n)
@@ -83,8 +78,8 @@ holding x n = heldIn (x .temporaries) n
 
 -- temporary n takes what evaluating gave
 abbrev pub taken : WatchedState → ℕ → Evaluated → Change WatchedState
-taken x n (evaluated.Value v) = changed (watching (x .memory) (x .observation) (set (x .temporaries) n (temporary.Holds v)))
-taken x n (evaluated.Stopped c) = stopped c x
+taken x n (Evaluated.Value v) = changed (watching (x .memory) (x .observation) (set (x .temporaries) n (Temporary.Holds v)))
+taken x n (Evaluated.Stopped c) = stopped c x
 
 -- the observation memory takes what a call gave
 abbrev pub observed : WatchedState → Noted → Change WatchedState
@@ -117,8 +112,8 @@ watch (takeAddress s n p) ρ x f = after s ρ f (taken x n (addressOf (placeIn p
 watch (takeValue s n e) ρ x f = after s ρ f (taken x n (valueIn e ρ x))
 watch (takeOperation s n q) ρ x f = after s ρ f (taken x n (operated q (holding x (suc n)) (holding x (suc (suc n)))))
 watch (takeQuery s n q) ρ x f =
-    after s ρ f (taken x n (onValue (holding x (suc n)) evaluated.Stopped (queryObservation q (x .observation))))
-watch (takeNot s n) ρ x f = after s ρ f (taken x n (onValue (holding x (suc n)) evaluated.Stopped opposite))
+    after s ρ f (taken x n (onValue (holding x (suc n)) Evaluated.Stopped (queryObservation q (x .observation))))
+watch (takeNot s n) ρ x f = after s ρ f (taken x n (onValue (holding x (suc n)) Evaluated.Stopped opposite))
 watch (branchOn s n a b) ρ x f =
     decide s ρ (condition (holding x n)) x f (into 1 (watch a ρ x f)) (into 2 (watch b ρ x f))
 watch (assertOn s n) ρ x f = after s ρ f (asserted x (condition (holding x n)))

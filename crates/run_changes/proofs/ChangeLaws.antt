@@ -11,11 +11,7 @@ use lib.Signed.{ltZ, nonNeg}
 use Rattle.rules.specs.Memory.{Memory, Change, stopped, Made, made, unmade, Use, freeable, makeBlock, nextName}
 use Rattle.rules.specs.Memory.{freeRun, storeCell, storeNew, newOfSize}
 use Rattle.rules.specs.Layout.{memoryOf, nameLimit}
-use Rattle.rules.specs.declared.Pointer.{Pointer}
-use Rattle.rules.specs.declared.Value.{Value}
-use Rattle.rules.specs.declared.Value.the-variants as value
-use Rattle.rules.specs.declared.Evaluated.{Evaluated}
-use Rattle.rules.specs.declared.Evaluated.the-variants as evaluated
+use Rattle.rules.specs.declared.{Pointer.Pointer, Value.Value, Evaluated.Evaluated}
 use Rattle.rules.proofs.runs.Keeping.{AnyNumber, AnyValue, AnyPlace, AnyMemory, MadeKeeps, makeAt-keeps}
 use Rattle.rules.specs.Fits.{FitsName}
 use Rattle.rules.proofs.layout.FitsLaws.{nextName-fits}
@@ -48,14 +44,14 @@ does-stop k l = record { number = refl; memory = becomes-same refl }
 
 -- values whose numbers fit have names that fit
 pub names-fit : (e : Evaluated) → ranged.FitsEvaluated e → EvaluatedFits e
-names-fit (evaluated.Value value.Undefined) h = tt
-names-fit (evaluated.Value (value.Integer z)) h = tt
-names-fit (evaluated.Value (value.Pointer p)) h = h .0
-names-fit (evaluated.Stopped k) h = tt
+names-fit (Evaluated.Value Value.Undefined) h = tt
+names-fit (Evaluated.Value (Value.Integer z)) h = tt
+names-fit (Evaluated.Value (Value.Pointer p)) h = h .0
+names-fit (Evaluated.Stopped k) h = tt
 
 -- ---- a new block
 abbrev pointerTo : ℕ → Value
-pointerTo k = value.Pointer (record { name = k; offset = pos 0 })
+pointerTo k = Value.Pointer (record { name = k; offset = pos 0 })
 
 nameOf : Making → ℕ
 nameOf (making.Name k) = k

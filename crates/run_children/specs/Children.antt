@@ -6,8 +6,7 @@ use Rattle.rules.specs.Nodes.{asExpression, asPlace, nodeAt}
 use Rattle.rules.specs.Evaluation.{evaluate, findPlace}
 use Rattle.rules.specs.Watched.{temporaryOf}
 use Rattle.rules.specs.Layout.{memoryOf}
-use Rattle.rules.specs.declared.Evaluated.{Evaluated}
-use Rattle.rules.specs.declared.Found.{Found}
+use Rattle.rules.specs.declared.{Evaluated.Evaluated, Found.Found}
 use Rattle.evaluation.specs.State.{variablesOf}
 use Rattle.evaluation_temporaries.specs.Bytes.{temporariesOf}
 

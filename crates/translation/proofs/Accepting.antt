@@ -12,7 +12,7 @@ use Rattle.rules.specs.Sizes.{targetLimit}
 use Rattle.rules.specs.Records.{recordCount, tableBytes}
 use Rattle.rules.specs.Kinds.{source, statement}
 use Rattle.rules.specs.Checker.{refuseIf, check}
-use Rattle.rules.specs.declared.Checked.the-variants as checked
+use Rattle.rules.specs.declared.{Checked.Checked}
 use Rattle.rules.specs.Nodes.{nodeAt, sourceProgram}
 use Rattle.rules.specs.Trees.{Term, value, asked, combined, Statement}
 use Rattle.rules.specs.Trees.{Predicate, holds, compared, negated, both, either}
@@ -59,7 +59,7 @@ statement-levels (tree.assert s p) ρ h = (h .0 .1, predicate-levels p ρ 0 (h .
 abbrev into : List ℕ → List ℕ → Bool → Translated
 into bytes o b = translatedAs (refuseIf 20 b) bytes o
 
-module _ (t : List ℕ) (a : check source t ≡ checked.Accepted) where
+module _ (t : List ℕ) (a : check source t ≡ Checked.Accepted) where
   program : AcceptedProgram source t
   program = accepted-program source t a
 
@@ -87,24 +87,24 @@ module _ (t : List ℕ) (a : check source t ≡ checked.Accepted) where
   translation-length = ap length accepted-bytes ∙ bytes-emit (copyAt t (recordCount t)) 0
 
   pub too-short : (o : List ℕ) → length o < 16 * treeSize (copyAt t (recordCount t))
-      → (answer 20 0 0 0 ≡ translatedBy checked.Accepted t o .answer) × (o ≡ translatedBy checked.Accepted t o .out)
+      → (answer 20 0 0 0 ≡ translatedBy Checked.Accepted t o .answer) × (o ≡ translatedBy Checked.Accepted t o .out)
   too-short o h =
       let l = translation-length in
       let e : ltb (length o) (length (translation t)) ≡ true = lt-ltb (length o) (length (translation t))
       (omega arith) in
-      let f : into (translation t) o true ≡ translatedBy checked.Accepted t o = ap (into (translation t) o) (sym e) in
+      let f : into (translation t) o true ≡ translatedBy Checked.Accepted t o = ap (into (translation t) o) (sym e) in
       (ap (λ (x : Translated). x .answer) f, ap (λ (x : Translated). x .out) f)
 
   pub long-enough : (o o′ : List ℕ) (r : ℕ) → 16 * treeSize (copyAt t (recordCount t)) ≤ length o
       → Emitted o 0 (copyAt t (recordCount t)) o′ r
-      → (answer 0 r 0 0 ≡ translatedBy checked.Accepted t o .answer) × (o′ ≡ translatedBy checked.Accepted t o .out)
+      → (answer 0 r 0 0 ≡ translatedBy Checked.Accepted t o .answer) × (o′ ≡ translatedBy Checked.Accepted t o .out)
   long-enough o o′ r h w =
       let l = translation-length in
       let c = w .count in
       let e : ltb (length o) (length (translation t)) ≡ false = le-ltb (length o) (length (translation t))
       (omega arith) in
       let k : r ≡ length (translation t) / 16 = omega arith in
-      let f : into (translation t) o false ≡ translatedBy checked.Accepted t o = ap (into (translation t) o) (sym e) in (
+      let f : into (translation t) o false ≡ translatedBy Checked.Accepted t o = ap (into (translation t) o) (sym e) in (
         ap (λ (j : ℕ). answer 0 j 0 0) k ∙ ap (λ (x : Translated). x .answer) f,
         w .bytes ∙ ap (put o 0) (sym accepted-bytes) ∙ ap (λ (x : Translated). x .out) f,
       )

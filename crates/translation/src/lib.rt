@@ -9,7 +9,7 @@ ghost use Rattle.rules.specs.Kinds.{source};
 ghost use Rattle.rules.specs.Records.{kindOf};
 ghost use Rattle.rules.specs.Checker.{check};
 ghost use Rattle.rules.specs.Answers.{translatedBy};
-ghost use Rattle.rules.specs.declared.Checked.the-variants as checked;
+ghost use Rattle.rules.specs.declared.{Checked.Checked};
 ghost use Rattle.translation_emission.specs.Emission.{Room, Emitted};
 ghost use Rattle.translation_sizes.specs.Trees.{copyAt};
 ghost use Rattle.translation.specs.Lets.{overTree, endingTree, insideTree, withOpening, withEnclosing};
@@ -148,10 +148,10 @@ fn emit_inside(table: &[u8], n: usize, out: &mut [u8], at: usize, variable: u8) 
 
 // An accepted table's translation: 20 where the output does not hold it.
 pub fn translate_accepted(table: &[u8], out: &mut [u8]) -> Answer
-    requires { ⌜ check source (now table) ≡ checked.Accepted ⌝ }
-    ensures answer { λ r. ⌜ r ≡ translatedBy checked.Accepted (now (table .entry)) (now (out .entry)) .answer ⌝ }
+    requires { ⌜ check source (now table) ≡ Checked.Accepted ⌝ }
+    ensures answer { λ r. ⌜ r ≡ translatedBy Checked.Accepted (now (table .entry)) (now (out .entry)) .answer ⌝ }
     ensures bytes { λ _. ⌜ now (out .exit)
-        ≡ translatedBy checked.Accepted (now (table .entry)) (now (out .entry)) .out ⌝ }
+        ≡ translatedBy Checked.Accepted (now (table .entry)) (now (out .entry)) .out ⌝ }
 {
     let n = table.len() / 16;
     let size = translation_sizes::tree_size(table, n);

@@ -6,11 +6,10 @@ use mathlib.Core.Path.{_≡_, refl}
 use lib.IntN.{ℤ, _+ℤ_}
 use Rattle.rules.specs.Nodes.{operatorOf}
 use Rattle.rules.specs.Numbers.{ranged, onIntegers, moved, onPointerAndInteger, onPointers}
-use Rattle.rules.specs.declared.Pointer.{Pointer}
-use Rattle.rules.specs.declared.Evaluated.the-variants as evaluated
+use Rattle.rules.specs.declared.{Pointer.Pointer, Evaluated.Evaluated}
 
 pub other-integers : (k : ℕ) (x y : ℤ) → k ≢ 1 → k ≢ 2 → k ≢ 3 → k ≢ 4 → k ≢ 5 → k ≢ 6 → k ≢ 7
-    → onIntegers (operatorOf k) x y ≡ evaluated.Stopped 40
+    → onIntegers (operatorOf k) x y ≡ Evaluated.Stopped 40
 unfolding onIntegers
 other-integers zero x y a b c d e f g = refl
 other-integers (suc zero) x y a b c d e f g = absurd (a refl)
@@ -22,7 +21,7 @@ other-integers (suc (suc (suc (suc (suc (suc zero)))))) x y a b c d e f g = absu
 other-integers (suc (suc (suc (suc (suc (suc (suc zero))))))) x y a b c d e f g = absurd (g refl)
 other-integers (suc (suc (suc (suc (suc (suc (suc (suc k)))))))) x y a b c d e f g = refl
 
-pub other-pointers : (k : ℕ) (p q : Pointer) → k ≢ 7 → onPointers (operatorOf k) p q ≡ evaluated.Stopped 40
+pub other-pointers : (k : ℕ) (p q : Pointer) → k ≢ 7 → onPointers (operatorOf k) p q ≡ Evaluated.Stopped 40
 unfolding onPointers
 other-pointers zero p q h = refl
 other-pointers (suc zero) p q h = refl
@@ -36,7 +35,7 @@ other-pointers (suc (suc (suc (suc (suc (suc (suc (suc k)))))))) p q h = refl
 
 -- 0 and what is above 7 shift
 pub no-shift : (k : ℕ) (p : Pointer) (y : ℤ) → k ≢ 0 → k < 8
-    → onPointerAndInteger (operatorOf k) p y ≡ evaluated.Stopped 40
+    → onPointerAndInteger (operatorOf k) p y ≡ Evaluated.Stopped 40
 unfolding onPointerAndInteger
 no-shift zero p y a b = absurd (a refl)
 no-shift (suc zero) p y a b = refl

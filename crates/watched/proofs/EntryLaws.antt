@@ -24,10 +24,7 @@ use Rattle.rules.specs.Watched.{Temporaries, startTemporaries, WatchedState, wa
 use Rattle.rules.specs.Layout.{cellFrom, memoryOf, memoryImage, observationOf, observationImage}
 use Rattle.rules.specs.Answers.{answer, inputsOf, watchedOutcome, watchedEnded}
 use Rattle.rules.specs.Answers.{watchedRefused, watchedAs, watchedBy, WatchedRun}
-use Rattle.rules.specs.declared.Answer.{Answer}
-use Rattle.rules.specs.declared.Checked.{Checked}
-use Rattle.rules.specs.declared.Checked.the-variants as checked
-use Rattle.rules.specs.declared.Temporary.the-variants as temporary
+use Rattle.rules.specs.declared.{Temporary.Temporary, Checked.Checked, Answer.Answer}
 use Rattle.rules.proofs.lists.Rows.{tabulate-all, getD-zero}
 use Rattle.rules.proofs.acceptance.Sound.{startScope}
 use Rattle.rules.proofs.acceptance.AcceptedPrograms.{accepted-program, padded-program}
@@ -46,9 +43,9 @@ use Rattle.watched_statements.specs.Watching.{lent, Ready, Ran, LeavesSo, Leave
 -- ---- the start
 pub temporaries-start : temporariesOf (replicate temporariesLength 0) ≡ startTemporaries
 unfolding temporariesOf temporaryAt
-temporaries-start = tabulate-all temporaryCount 0 (temporaryAt (replicate temporariesLength 0)) temporary.Empty empty
+temporaries-start = tabulate-all temporaryCount 0 (temporaryAt (replicate temporariesLength 0)) Temporary.Empty empty
   where
-    empty : (n : ℕ) → temporaryAt (replicate temporariesLength 0) n ≡ temporary.Empty
+    empty : (n : ℕ) → temporaryAt (replicate temporariesLength 0) n ≡ Temporary.Empty
     empty n =
         ap (λ (k : ℕ). temporaryIn (cellFrom k 0 (wordAt 2 (replicate temporariesLength 0) (temporaryPlace n + 2))
         (integerAt (replicate temporariesLength 0) (temporaryPlace n + 8))))
@@ -67,7 +64,7 @@ leaves-start s f r l l₁ o o₁ τ₁ w =
     subst (λ (τ : Temporaries). Leaves (watch s startVariables (watching (memoryOf l) (observationOf o) τ) f) r l l₁ o o₁)
     temporaries-start (record { answer = w .answer; memory = w .memory; observation = w .observation })
 
-module _ (t l : List ℕ) (h : check target t ≡ checked.Accepted) where
+module _ (t l : List ℕ) (h : check target t ≡ Checked.Accepted) where
   pub table-length : length t ≤ targetLimit * 16
   table-length = let a = accepted-program target t h in omega (arith, a .whole, a .not-too-many)
 
@@ -136,7 +133,7 @@ module _ (i : List ℕ) (e : inputsFault i ≡ false) (l o : List ℕ) (s : l �
       }
 
 -- it has the length of its memory
-pub exit-lengths : (t i : List ℕ) (f : ℕ) (r : Answer) (l o : List ℕ) → check target t ≡ checked.Accepted
+pub exit-lengths : (t i : List ℕ) (f : ℕ) (r : Answer) (l o : List ℕ) → check target t ≡ Checked.Accepted
     → inputsFault i ≡ false → AnsweredBy (watchedEnded (ending (watchedOutcome t i f))) r l o
     → (length l ≡ memoryLength) × (length o ≡ observationLength)
 exit-lengths t i f r l o h e w =
@@ -159,34 +156,34 @@ observation-whole o h = eqb-true (length o) observationLength (go (eqb (length o
 
 module _ (t i : List ℕ) (f : ℕ) (m o : List ℕ) where
   by-faults : (b c d : Bool) → inputsFault i ≡ b → memoryFault m ≡ c → observationFault o ≡ d
-      → watchedBy checked.Accepted t i f m o
+      → watchedBy Checked.Accepted t i f m o
       ≡ watchedAs (refuseIf 9 b otherwise refuseIf 21 c otherwise refuseIf 22 d) t i f m o
   by-faults b c d p q r =
       λ j. watchedAs (refuseIf 9 (p j) otherwise refuseIf 21 (q j) otherwise refuseIf 22 (r j)) t i f m o
 
   -- a refusal writes nothing
-  refused-as : (k : ℕ) (r : Answer) → watchedBy checked.Accepted t i f m o ≡ watchedRefused k 0 m o
+  refused-as : (k : ℕ) (r : Answer) → watchedBy Checked.Accepted t i f m o ≡ watchedRefused k 0 m o
       → r ≡ answer k 0 0 0
-      → AnsweredBy (watchedBy checked.Accepted t i f m o) r m o
+      → AnsweredBy (watchedBy Checked.Accepted t i f m o) r m o
   refused-as k r e w =
       subst (λ (x : WatchedRun). AnsweredBy x r m o) (sym e)
       (record { answer = w; memory = refl; observation = refl })
 
   pub refuse-inputs : (r : Answer) → inputsFault i ≡ true → r ≡ answer 9 0 0 0
-      → AnsweredBy (watchedBy checked.Accepted t i f m o) r m o
+      → AnsweredBy (watchedBy Checked.Accepted t i f m o) r m o
   refuse-inputs r p w = refused-as 9 r (by-faults true (memoryFault m) (observationFault o) p refl refl) w
 
   pub refuse-memory : (r : Answer) → inputsFault i ≡ false → memoryFault m ≡ true → r ≡ answer 21 0 0 0
-      → AnsweredBy (watchedBy checked.Accepted t i f m o) r m o
+      → AnsweredBy (watchedBy Checked.Accepted t i f m o) r m o
   refuse-memory r p q w = refused-as 21 r (by-faults false true (observationFault o) p q refl) w
 
   pub refuse-observation : (r : Answer) → inputsFault i ≡ false → memoryFault m ≡ false → observationFault o ≡ true
-      → r ≡ answer 22 0 0 0 → AnsweredBy (watchedBy checked.Accepted t i f m o) r m o
+      → r ≡ answer 22 0 0 0 → AnsweredBy (watchedBy Checked.Accepted t i f m o) r m o
   refuse-observation r p q x w = refused-as 22 r (by-faults false false true p q x) w
 
   pub run-both : (r : Answer) (m₁ o₁ : List ℕ) → inputsFault i ≡ false → memoryFault m ≡ false
       → observationFault o ≡ false → AnsweredBy (watchedEnded (ending (watchedOutcome t i f))) r m₁ o₁
-      → AnsweredBy (watchedBy checked.Accepted t i f m o) r m₁ o₁
+      → AnsweredBy (watchedBy Checked.Accepted t i f m o) r m₁ o₁
   run-both r m₁ o₁ p q x h =
       subst (λ (y : WatchedRun). AnsweredBy y r m₁ o₁) (sym (by-faults false false false p q x)) h
 

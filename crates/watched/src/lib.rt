@@ -10,7 +10,7 @@ ghost use Rattle.rules.specs.Plain.{startVariables};
 ghost use Rattle.rules.specs.Watched.{watching, watch, startTemporaries};
 ghost use Rattle.rules.specs.Layout.{memoryOf, observationOf};
 ghost use Rattle.rules.specs.Answers.{watchedEnded, watchedOutcome, watchedBy, runWatched};
-ghost use Rattle.rules.specs.declared.Checked.the-variants as checked;
+ghost use Rattle.rules.specs.declared.{Checked.Checked};
 ghost use Rattle.rules.specs.Fits.{FitsMemory, FitsObservation};
 ghost use Rattle.evaluation_temporaries.specs.Bytes.{temporariesLength};
 ghost use Rattle.watched_statements.specs.Watching.{lent, Ready, Leaves, AnsweredBy};
@@ -50,7 +50,7 @@ fn run_table(
     obs: &mut ObservationMemory,
     fuel: u32,
 ) -> Ended
-    requires { ⌜ (check target (now table) ≡ checked.Accepted) × FitsMemory (memoryOf (now mem))
+    requires { ⌜ (check target (now table) ≡ Checked.Accepted) × FitsMemory (memoryOf (now mem))
         × FitsObservation (observationOf (now obs)) ⌝ }
     ensures { λ r. ⌜ Leaves (watch (targetProgram (now (table .entry))) startVariables (watching (memoryOf (now (mem .entry)))
         (observationOf (now (obs .entry))) startTemporaries) fuel) r
@@ -69,7 +69,7 @@ fn run_memories(
     mem: &mut ExecutionMemory,
     obs: &mut ObservationMemory,
 ) -> Answer
-    requires { ⌜ (check target (now table) ≡ checked.Accepted) × (inputsFault (now inputs) ≡ false) ⌝ }
+    requires { ⌜ (check target (now table) ≡ Checked.Accepted) × (inputsFault (now inputs) ≡ false) ⌝ }
     ensures { λ r. ⌜ AnsweredBy (watchedEnded (ending (watchedOutcome (now (table .entry)) (now (inputs .entry)) fuel))) r
         (now (mem .exit)) (now (obs .exit)) ⌝ }
 {
@@ -93,7 +93,7 @@ fn run_inputs(
     memory: &mut [u8],
     observation: &mut [u8],
 ) -> Answer
-    requires { ⌜ (check target (now table) ≡ checked.Accepted) × (inputsFault (now inputs) ≡ false)
+    requires { ⌜ (check target (now table) ≡ Checked.Accepted) × (inputsFault (now inputs) ≡ false)
         × (memoryFault (now memory) ≡ false) × (observationFault (now observation) ≡ false) ⌝ }
     ensures { λ r. ⌜ AnsweredBy (watchedEnded (ending (watchedOutcome (now (table .entry)) (now (inputs .entry)) fuel))) r
         (now (memory .exit)) (now (observation .exit)) ⌝ }
@@ -114,8 +114,8 @@ fn run_accepted(
     memory: &mut [u8],
     observation: &mut [u8],
 ) -> Answer
-    requires { ⌜ check target (now table) ≡ checked.Accepted ⌝ }
-    ensures { λ r. ⌜ AnsweredBy (watchedBy checked.Accepted (now (table .entry)) (now (inputs .entry)) fuel
+    requires { ⌜ check target (now table) ≡ Checked.Accepted ⌝ }
+    ensures { λ r. ⌜ AnsweredBy (watchedBy Checked.Accepted (now (table .entry)) (now (inputs .entry)) fuel
         (now (memory .entry)) (now (observation .entry))) r (now (memory .exit)) (now (observation .exit)) ⌝ }
 {
     if run_buffers::has_inputs_fault(inputs) {

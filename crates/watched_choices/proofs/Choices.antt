@@ -10,7 +10,7 @@ use Rattle.rules.specs.Memory.{Memory}
 use Rattle.rules.specs.Evaluation.{Variables, evaluate, condition}
 use Rattle.rules.specs.Watched.{Temporaries, temporaryOf, heldIn}
 use Rattle.rules.specs.Nodes.{targetExpressionAt}
-use Rattle.rules.specs.declared.Test.{Test}
+use Rattle.rules.specs.declared.{Test.Test}
 use Rattle.watched_choices.specs.Branches.{IsBranch, choice}
 
 pub not-on : {k : ℕ} → IsBranch k → k ≢ 66 → k ≡ 45

@@ -10,7 +10,7 @@ use Rattle.rules.specs.Memory.{Memory}
 use Rattle.rules.specs.Evaluation.{Variables, evaluate, condition}
 use Rattle.rules.specs.Watched.{Temporaries, temporaryOf, heldIn}
 use Rattle.rules.specs.Nodes.{targetExpressionAt}
-use Rattle.rules.specs.declared.Test.{Test}
+use Rattle.rules.specs.declared.{Test.Test}
 
 -- what decides between B and C: condition A of 45, temporary n of 66
 abbrev pub IsBranch : ℕ → Type 0

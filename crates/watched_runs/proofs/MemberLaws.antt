@@ -13,7 +13,7 @@ use Rattle.rules.specs.Evaluation.{Variables, condition, extend}
 use Rattle.rules.specs.Watched.{Temporaries, WatchedState, watching, withMemory, valueIn, watch}
 use Rattle.rules.specs.Layout.{memoryOf}
 use Rattle.rules.specs.Nodes.{targetExpressionAt, targetStatementAt, numberAt}
-use Rattle.rules.specs.declared.Test.{Test}
+use Rattle.rules.specs.declared.{Test.Test}
 use Rattle.rules.proofs.runs.Fuel.{watch-fuel}
 use Rattle.rules.proofs.runs.Outcomes.{into-ending, next-ending, decide-ending}
 use Rattle.rules.proofs.runs.TargetRuns.{closing}

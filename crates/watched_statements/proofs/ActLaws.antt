@@ -17,10 +17,7 @@ use Rattle.rules.specs.Flow.{Outcome, ending, after}
 use Rattle.rules.specs.Plain.{asserted}
 use Rattle.rules.specs.Watched.{WatchedState, withMemory, taken, observed, watch}
 use Rattle.rules.specs.Layout.{memoryOf, observationOf}
-use Rattle.rules.specs.declared.Evaluated.{Evaluated}
-use Rattle.rules.specs.declared.Evaluated.the-variants as evaluated
-use Rattle.rules.specs.declared.Test.{Test}
-use Rattle.rules.specs.declared.Test.the-variants as test
+use Rattle.rules.specs.declared.{Evaluated.Evaluated, Test.Test}
 use Rattle.rules.specs.Answers.{watchedEndings}
 use Rattle.rules.specs.Nodes.{HasSort, targetStatementAt, numberAt}
 use Rattle.rules.proofs.lists.Among.{Among}
@@ -67,13 +64,13 @@ module _ (l o τ : List ℕ) (s : ℕ) (ρ : Variables) (f r : ℕ) where
 
   ran-taken : (n : ℕ) (e : Evaluated) (τ₁ : List ℕ) → Ends (taken here n e) → Takes τ τ₁ r n e
       → Ran (after s ρ f (taken here n e)) (concluded r s f) (lent l o τ) (lent l o τ₁)
-  ran-taken n (evaluated.Value v) τ₁ h w = record {
+  ran-taken n (Evaluated.Value v) τ₁ h w = record {
     answer = rw (w .number) refl;
     memory = becomes-same refl;
     observation = observation-same refl;
     temporaries = w .temporaries;
   }
-  ran-taken n (evaluated.Stopped c) τ₁ h w = record {
+  ran-taken n (Evaluated.Stopped c) τ₁ h w = record {
     answer = rw (w .number) (concluded-stop c s f h);
     memory = becomes-same refl;
     observation = observation-same refl;
@@ -97,19 +94,19 @@ module _ (l o τ : List ℕ) (s : ℕ) (ρ : Variables) (f r : ℕ) where
 
   ran-asserted : (t : Test) → Ends (asserted here t) → r ≡ assertNumber t
       → Ran (after s ρ f (asserted here t)) (concluded r s f) (lent l o τ) (lent l o τ)
-  ran-asserted test.Yes h e = record {
+  ran-asserted Test.Yes h e = record {
     answer = rw e refl;
     memory = becomes-same refl;
     observation = observation-same refl;
     temporaries = refl;
   }
-  ran-asserted test.No h e = record {
+  ran-asserted Test.No h e = record {
     answer = rw e refl;
     memory = becomes-same refl;
     observation = observation-same refl;
     temporaries = refl;
   }
-  ran-asserted (test.Stopped c) h e = record {
+  ran-asserted (Test.Stopped c) h e = record {
     answer = rw e (concluded-stop c s f h);
     memory = becomes-same refl;
     observation = observation-same refl;

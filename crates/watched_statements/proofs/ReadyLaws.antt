@@ -10,7 +10,7 @@ use Rattle.rules.specs.Evaluation.{Variables, held, evaluate}
 use Rattle.rules.specs.Flow.{Ending, ending}
 use Rattle.rules.specs.Watched.{Temporaries, temporaryOf, WatchedState}
 use Rattle.rules.specs.Layout.{memoryOf, observationOf}
-use Rattle.rules.specs.declared.Temporary.the-variants as temporary
+use Rattle.rules.specs.declared.{Temporary.Temporary}
 use Rattle.rules.proofs.lists.Lists.{all-getD}
 use Rattle.rules.proofs.acceptance.Sound.{adding, Named, SoundTarget}
 use Rattle.rules.proofs.runs.Keeping.{AnyNumber, MadeKeeps}
@@ -56,7 +56,7 @@ module _ (t : List ℕ) (n : ℕ) (ρ : Variables) (x : Lent) (h : Ready t n ρ 
   temporaries = temporariesOf (x .temporaries)
 
   holding : (k : ℕ) → ranged.FitsEvaluated (held (temporaryOf temporaries k))
-  holding k = held-fits (temporaryOf temporaries k) (all-getD (h .fits .temporaries) k temporary.Empty tt)
+  holding k = held-fits (temporaryOf temporaries k) (all-getD (h .fits .temporaries) k Temporary.Empty tt)
 
   -- the value that an assignment stores
   pub assign-fits : kindOf t n ≡ 41

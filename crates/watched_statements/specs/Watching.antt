@@ -12,7 +12,7 @@ use Rattle.rules.specs.TargetTrees.{TargetStatement}
 use Rattle.rules.specs.Watched.{WatchedState, watching, withMemory, watch}
 use Rattle.rules.specs.Layout.{memoryOf, observationOf}
 use Rattle.rules.specs.Answers.{WatchedRun}
-use Rattle.rules.specs.declared.Answer.{Answer}
+use Rattle.rules.specs.declared.{Answer.Answer}
 use Rattle.rules.proofs.acceptance.Sound.{Scope, SoundTarget}
 use Rattle.rules.specs.Fits.{FitsTemporary, FitsMemory, FitsObservation, All, VariablesFit}
 use Rattle.rules.specs.Nodes.{HasSort, targetStatementAt, numberAt}

@@ -12,8 +12,7 @@ use Rattle.rules.specs.Memory.{onValue}
 use Rattle.rules.specs.Evaluation.{operated, opposite}
 use Rattle.rules.specs.Observation.{Observation, queryObservation}
 use Rattle.rules.specs.Watched.{Temporaries, heldIn}
-use Rattle.rules.specs.declared.Evaluated.{Evaluated}
-use Rattle.rules.specs.declared.Evaluated.the-variants as evaluated
+use Rattle.rules.specs.declared.{Evaluated.Evaluated}
 use Rattle.evaluation_temporaries.specs.Bytes.{temporariesOf}
 use Rattle.rules.proofs.runs.StatementArms.{statement-form}
 use Rattle.rules.proofs.runs.TargetFields.{operation-fields, query-fields}
@@ -23,7 +22,7 @@ use Rattle.watched_steps.specs.Steps.{Takes, IsTake, takenOf}
 pub takes-is : {l l′ : List ℕ} {r n : ℕ} {x y : Evaluated} → x ≡ y → Takes l l′ r n y → Takes l l′ r n x
 takes-is {l} {l′} {r} {n} e h = subst (λ (z : Evaluated). Takes l l′ r n z) (sym e) h
 
-pub takes-stop : (l : List ℕ) (k n : ℕ) {x : Evaluated} → x ≡ evaluated.Stopped k → Takes l l k n x
+pub takes-stop : (l : List ℕ) (k n : ℕ) {x : Evaluated} → x ≡ Evaluated.Stopped k → Takes l l k n x
 takes-stop l k n e = takes-is e (record { number = refl; temporaries = refl })
 
 -- ---- a query that no other number names is the length
@@ -47,10 +46,10 @@ module _ (c : ℕ) (τ : Temporaries) (n : ℕ) (o : Observation) {k : ℕ} wher
   take-operation-is e = ap (λ (j : ℕ). takenOf j c τ n o) e
 
   pub take-query-is : k ≡ 64
-      → takenOf k c τ n o ≡ onValue (heldIn τ (suc n)) evaluated.Stopped (queryObservation (queryOf c) o)
+      → takenOf k c τ n o ≡ onValue (heldIn τ (suc n)) Evaluated.Stopped (queryObservation (queryOf c) o)
   take-query-is e = ap (λ (j : ℕ). takenOf j c τ n o) e
 
-  pub take-not-is : k ≡ 65 → takenOf k c τ n o ≡ onValue (heldIn τ (suc n)) evaluated.Stopped opposite
+  pub take-not-is : k ≡ 65 → takenOf k c τ n o ≡ onValue (heldIn τ (suc n)) Evaluated.Stopped opposite
   take-not-is e = ap (λ (j : ℕ). takenOf j c τ n o) e
 
 -- the same, n and c being what was read of the record
@@ -61,12 +60,12 @@ module _ {l l′ : List ℕ} {r m n : ℕ} (o : Observation) (e : m ≡ n) where
   takes-operation {k} {x} {c} q d h = takes-is (take-operation-is c (temporariesOf l) n o q) (rw (e, d) at h)
 
   pub takes-query : {k x c : ℕ} → k ≡ 64 → x ≡ c
-      → Takes l l′ r m (onValue (heldIn (temporariesOf l) (suc m)) evaluated.Stopped (queryObservation (queryOf x) o))
+      → Takes l l′ r m (onValue (heldIn (temporariesOf l) (suc m)) Evaluated.Stopped (queryObservation (queryOf x) o))
       → Takes l l′ r n (takenOf k c (temporariesOf l) n o)
   takes-query {k} {x} {c} q d h = takes-is (take-query-is c (temporariesOf l) n o q) (rw (e, d) at h)
 
   pub takes-not : {k : ℕ} (c : ℕ) → k ≡ 65
-      → Takes l l′ r m (onValue (heldIn (temporariesOf l) (suc m)) evaluated.Stopped opposite)
+      → Takes l l′ r m (onValue (heldIn (temporariesOf l) (suc m)) Evaluated.Stopped opposite)
       → Takes l l′ r n (takenOf k c (temporariesOf l) n o)
   takes-not c q h = takes-is (take-not-is c (temporariesOf l) n o q) (rw e at h)
 

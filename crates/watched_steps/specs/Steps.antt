@@ -11,19 +11,17 @@ use Rattle.rules.specs.Memory.{onValue}
 use Rattle.rules.specs.Evaluation.{operated, opposite}
 use Rattle.rules.specs.Observation.{Observation, queryObservation}
 use Rattle.rules.specs.Watched.{Temporaries, heldIn}
-use Rattle.rules.specs.declared.Evaluated.{Evaluated}
-use Rattle.rules.specs.declared.Evaluated.the-variants as evaluated
-use Rattle.rules.specs.declared.Temporary.the-variants as temporary
+use Rattle.rules.specs.declared.{Evaluated.Evaluated, Temporary.Temporary}
 use Rattle.evaluation_temporaries.specs.Bytes.{temporariesOf}
 
 -- the number of a stop, 0 where there is a value, and the temporaries after temporary n took it
 abbrev pub stopNumber : Evaluated → ℕ
-stopNumber (evaluated.Value v) = 0
-stopNumber (evaluated.Stopped c) = c
+stopNumber (Evaluated.Value v) = 0
+stopNumber (Evaluated.Stopped c) = c
 
 abbrev pub takenInto : Temporaries → ℕ → Evaluated → Temporaries
-takenInto τ n (evaluated.Value v) = set τ n (temporary.Holds v)
-takenInto τ n (evaluated.Stopped c) = τ
+takenInto τ n (Evaluated.Value v) = set τ n (Temporary.Holds v)
+takenInto τ n (Evaluated.Stopped c) = τ
 
 pub record Takes (entry exit : List ℕ) (r n : ℕ) (e : Evaluated) : Type 0 where
   pub number : r ≡ stopNumber e
@@ -36,4 +34,4 @@ IsTake k = (k ≡ 63) ⊎ (k ≡ 64) ⊎ (k ≡ 65)
 abbrev pub takenOf : ℕ → ℕ → Temporaries → ℕ → Observation → Evaluated
 takenOf k c τ n o =
     cond (eqb k 63) (operated (operatorOf c) (heldIn τ (suc n)) (heldIn τ (suc (suc n))))
-    (onValue (heldIn τ (suc n)) evaluated.Stopped (cond (eqb k 64) (queryObservation (queryOf c) o) opposite))
+    (onValue (heldIn τ (suc n)) Evaluated.Stopped (cond (eqb k 64) (queryObservation (queryOf c) o) opposite))

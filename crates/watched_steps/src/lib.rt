@@ -11,7 +11,7 @@ ghost use Rattle.rules.specs.Evaluation.{operated, opposite, condition};
 ghost use Rattle.rules.specs.Observation.{queryObservation};
 ghost use Rattle.rules.specs.Watched.{heldIn};
 ghost use Rattle.rules.specs.Layout.{observationOf};
-ghost use Rattle.rules.specs.declared.Evaluated.the-variants as evaluated;
+ghost use Rattle.rules.specs.declared.{Evaluated.Evaluated};
 ghost use Rattle.evaluation_temporaries.specs.Bytes.{temporariesOf};
 ghost use Rattle.watched_steps.specs.Steps.{Takes, IsTake, takenOf};
 use rules::Evaluated;
@@ -72,7 +72,7 @@ fn query(obs: &ObservationMemory, k: u8, v: Value) -> Evaluated
 fn take_query(temporaries: &mut Temporaries, obs: &ObservationMemory, n: usize, k: u8) -> u32
     requires { ⌜ n + 1 < temporaryCount ⌝ }
     ensures { λ r. ⌜ Takes (now (temporaries .entry)) (now (temporaries .exit)) r n
-        (onValue (heldIn (temporariesOf (now (temporaries .entry))) (suc n)) evaluated.Stopped
+        (onValue (heldIn (temporariesOf (now (temporaries .entry))) (suc n)) Evaluated.Stopped
         (queryObservation (queryOf k) (observationOf (now (obs .entry))))) ⌝ }
 {
     let pointer = evaluation_temporaries::read_temporary(&*temporaries, n + 1);
@@ -86,7 +86,7 @@ fn take_query(temporaries: &mut Temporaries, obs: &ObservationMemory, n: usize, 
 fn take_not(temporaries: &mut Temporaries, n: usize) -> u32
     requires { ⌜ n + 1 < temporaryCount ⌝ }
     ensures { λ r. ⌜ Takes (now (temporaries .entry)) (now (temporaries .exit)) r n
-        (onValue (heldIn (temporariesOf (now (temporaries .entry))) (suc n)) evaluated.Stopped opposite) ⌝ }
+        (onValue (heldIn (temporariesOf (now (temporaries .entry))) (suc n)) Evaluated.Stopped opposite) ⌝ }
 {
     let truth = evaluation_temporaries::read_temporary(&*temporaries, n + 1);
     match truth {

@@ -5,8 +5,7 @@ use mathlib.Core.Bool.{Bool}
 use mathlib.Core.List.{List}
 use mathlib.Core.Path.{_≡_, sym, ap, _∙_}
 use lib.Dec.{ltb}
-use Rattle.rules.specs.declared.Checked.{Checked}
-use Rattle.rules.specs.declared.Checked.the-variants as checked
+use Rattle.rules.specs.declared.{Checked.Checked}
 use Rattle.rules.specs.Records.{recordCount}
 use Rattle.rules.specs.Checker.{lowestRecord, recordFault, shapeFault, scopeFault, lastRule}
 use Rattle.checker_forms.specs.Codes.{languageOf}
@@ -74,7 +73,7 @@ returns-2 c =
     let l = languageOf (a .target) in
     let t = a .table .now in
     c .refuse .ensures
-    ∙ ap (λ (k : ℕ). checked.Refused k (c .before .before .before .lowest-fault .result))
+    ∙ ap (λ (k : ℕ). Checked.Refused k (c .before .before .before .lowest-fault .result))
     (c .before .record-fault .ensures)
     ∙ next-at (recordFault l t) (lowestRecord t (λ n. ltb 0 (recordFault l t n)))
     (c .before .before .before .lowest-fault .result) (fromShapes l t)

@@ -5,8 +5,7 @@ use mathlib.Core.Bool.{Bool}
 use mathlib.Core.List.{List}
 use mathlib.Core.Path.{_≡_, sym, ap, _∙_}
 use lib.Dec.{ltb}
-use Rattle.rules.specs.declared.Checked.{Checked}
-use Rattle.rules.specs.declared.Checked.the-variants as checked
+use Rattle.rules.specs.declared.{Checked.Checked}
 use Rattle.rules.specs.Records.{recordCount}
 use Rattle.rules.specs.Checker.{lowestRecord, recordFault, shapeFault, scopeFault, lastRule}
 use Rattle.checker_forms.specs.Codes.{languageOf}

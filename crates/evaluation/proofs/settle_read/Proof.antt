@@ -4,8 +4,7 @@ use mathlib.Core.Path.{sym, ap, _∙_}
 use Rattle.rules.specs.Kinds.{place}
 use Rattle.rules.specs.Memory.{onPlace, readCell}
 use Rattle.rules.specs.Layout.{memoryOf}
-use Rattle.rules.specs.declared.Found.{Found}
-use Rattle.rules.specs.declared.Evaluated.the-variants as evaluated
+use Rattle.rules.specs.declared.{Evaluated.Evaluated, Found.Found}
 use Rattle.evaluation.specs.State.{variablesOf}
 use Rattle.evaluation.proofs.Arms.{within, variable-mark, variable-arm}
 use borrow.Author.Needs.{needs}
@@ -47,7 +46,7 @@ returns c =
     let s = k .before .before in
     let m = memoryOf (now (s .args .mem)) in
     λ τ. c .read .ensures .0
-    ∙ ap (λ (f : Found). onPlace f evaluated.Stopped (readCell m))
+    ∙ ap (λ (f : Found). onPlace f Evaluated.Stopped (readCell m))
     (variable-arm (now (s .args .table)) τ (variablesOf (now (s .args .variables))) m (s .args .n) (s .pre)
     (sym (k .kind .ensures) ∙ i .if1 .taken) (v .mark .ensures))
 

@@ -2,8 +2,7 @@
 use mathlib.Core.Path.{sym, ap, _∙_}
 use Rattle.rules.specs.Memory.{onPointer}
 use Rattle.rules.specs.Evaluation.{pointedBy}
-use Rattle.rules.specs.declared.Value.{Value}
-use Rattle.rules.specs.declared.Found.the-variants as found
+use Rattle.rules.specs.declared.{Value.Value, Found.Found}
 use borrow.Author.Needs.{needs}
 use Rattle.evaluation_answers.proofs.point.Statement.{statement}
 use Rattle.evaluation_answers.proofs.point.Tie as tie
@@ -33,7 +32,7 @@ returns-3 : tie.Need-returns-3
 returns-3 c =
     let v = c .before in
     sym (ap pointedBy (v .before .before .before .e .given .1)
-    ∙ ap (λ (x : Value). onPointer x found.Stopped found.Place) (v .v .given .1))
+    ∙ ap (λ (x : Value). onPointer x Found.Stopped Found.Place) (v .v .given .1))
 
 returns-4 : tie.Need-returns-4
 returns-4 c = sym (ap pointedBy (c .before .e2 .given .1))

@@ -4,8 +4,7 @@ use mathlib.Core.Path.{sym, ap, _∙_}
 use mir.Syntax.{w64}
 use mir.Val.{SFits}
 use mir.Facts.{toZ-ofZ}
-use Rattle.rules.specs.declared.Value.the-variants as value
-use Rattle.rules.specs.declared.Evaluated.the-variants as evaluated
+use Rattle.rules.specs.declared.{Value.Value, Evaluated.Evaluated}
 use borrow.Author.Needs.{needs}
 use Rattle.evaluation_answers.proofs.restate.Statement.{statement}
 use Rattle.evaluation_answers.proofs.restate.Tie as tie
@@ -28,7 +27,7 @@ enum-known-e-2 c = search needs
 returns : tie.Need-returns
 returns c =
     let e = c .before .before .before in
-    sym (e .e .given .1 ∙ ap evaluated.Value (c .enum-told .given .1))
+    sym (e .e .given .1 ∙ ap Evaluated.Value (c .enum-told .given .1))
 
 returns-2 : tie.Need-returns-2
 returns-2 c =
@@ -36,7 +35,7 @@ returns-2 c =
     let e = v .before .before .before in
     let k = v .v .given in
     let f : SFits w64 (k .0 .0) = record { sfits = c .known-told2 .given .0 .1 } in
-    ap (λ (z : ℤ). evaluated.Value (value.Integer z)) (toZ-ofZ f) ∙ sym (e .e .given .1 ∙ ap evaluated.Value (k .1))
+    ap (λ (z : ℤ). Evaluated.Value (Value.Integer z)) (toZ-ofZ f) ∙ sym (e .e .given .1 ∙ ap Evaluated.Value (k .1))
 
 returns-3 : tie.Need-returns-3
 returns-3 c =
@@ -44,8 +43,8 @@ returns-3 c =
     let e = v .before .before .before in
     let k = v .v2 .given in
     let f : SFits w64 (k .0 .0 .offset) = record { sfits = c .struct-told .given .1 .0 .1 } in
-    ap (λ (z : ℤ). evaluated.Value (value.Pointer (record { name = k .0 .0 .name; offset = z }))) (toZ-ofZ f)
-    ∙ sym (e .e .given .1 ∙ ap evaluated.Value (k .1))
+    ap (λ (z : ℤ). Evaluated.Value (Value.Pointer (record { name = k .0 .0 .name; offset = z }))) (toZ-ofZ f)
+    ∙ sym (e .e .given .1 ∙ ap Evaluated.Value (k .1))
 
 returns-4 : tie.Need-returns-4
 returns-4 c = sym (c .before .e2 .given .1)

@@ -5,8 +5,7 @@ use Rattle.rules.specs.Nodes.{queryOf}
 use Rattle.rules.specs.Memory.{onValue}
 use Rattle.rules.specs.Layout.{memoryOf}
 use Rattle.rules.specs.Evaluation.{queryMemory}
-use Rattle.rules.specs.declared.Evaluated.{Evaluated}
-use Rattle.rules.specs.declared.Evaluated.the-variants as evaluated
+use Rattle.rules.specs.declared.{Evaluated.Evaluated}
 use borrow.Author.Needs.{needs}
 use Rattle.evaluation_predicates.proofs.ask.Statement.{statement}
 use Rattle.evaluation_predicates.proofs.ask.Tie as tie
@@ -42,13 +41,13 @@ returns-3 c =
     let s = e .before .before in
     let q = queryMemory (queryOf (s .args .q)) (memoryOf (now (s .args .mem))) in
     c .query .ensures .0
-    ∙ sym (ap (λ (x : Evaluated). onValue x evaluated.Stopped q) (e .e .given .1) ∙ ap q (v .v .given .1))
+    ∙ sym (ap (λ (x : Evaluated). onValue x Evaluated.Stopped q) (e .e .given .1) ∙ ap q (v .v .given .1))
 
 returns-4 : tie.Need-returns-4
 returns-4 c =
     let s = c .before .before .before in
     let q = queryMemory (queryOf (s .args .q)) (memoryOf (now (s .args .mem))) in
-    sym (ap (λ (x : Evaluated). onValue x evaluated.Stopped q) (c .before .e2 .given .1))
+    sym (ap (λ (x : Evaluated). onValue x Evaluated.Stopped q) (c .before .e2 .given .1))
 
 pub ask-spec : {M : Type 1} → statement M
 ask-spec =

@@ -7,11 +7,8 @@ use mir.Val.{SFits}
 use mir.Facts.{toZ-ofZ}
 use Rattle.number.proofs.Integers.{zero-test}
 use Rattle.rules.specs.Numbers.{sameInteger}
-use Rattle.rules.specs.declared.Evaluated.the-variants as evaluated
+use Rattle.rules.specs.declared.{Value.Value, Evaluated.Evaluated, Test.Test}
 use Rattle.rules.specs.Evaluation.{onTest}
-use Rattle.rules.specs.declared.Test.the-variants as test
-use Rattle.rules.specs.declared.Value.{Value}
-use Rattle.rules.specs.declared.Value.the-variants as value
 use Rattle.evaluation_predicates.specs.Joints.{jointOf}
 use Rattle.evaluation_predicates.specs.declared.Joint.{Joint}
 use Rattle.evaluation_predicates.specs.declared.Joint.the-variants as joint
@@ -22,10 +19,10 @@ use Rattle.evaluation_predicates.proofs.join.Tie as tie
 -- by whether A is 0, and whether it is of an 'or'
 abbrev told : Bool → Bool → Value → Joint
 told w b v =
-    onTest (cond w test.No test.Yes) (λ k. joint.Decided (evaluated.Stopped k))
-    (cond b (joint.Decided (evaluated.Value v)) joint.Open) (cond b joint.Open (joint.Decided (evaluated.Value v)))
+    onTest (cond w Test.No Test.Yes) (λ k. joint.Decided (Evaluated.Stopped k))
+    (cond b (joint.Decided (Evaluated.Value v)) joint.Open) (cond b joint.Open (joint.Decided (Evaluated.Value v)))
 
-decided : (w b : Bool) (v : Value) → not (Bool·beq w b) ≡ true → joint.Decided (evaluated.Value v) ≡ told w b v
+decided : (w b : Bool) (v : Value) → not (Bool·beq w b) ≡ true → joint.Decided (Evaluated.Value v) ≡ told w b v
 decided true true v h = absurd (false≢true h)
 decided true false v h = refl
 decided false true v h = refl
@@ -56,7 +53,7 @@ returns : tie.Need-returns
 returns c =
     let a = c .before .before .before in
     let s = a .before .before in
-    sym (ap (jointOf (s .args .either)) (a .a .given .1 ∙ ap evaluated.Value (c .enum-told .given .1)))
+    sym (ap (jointOf (s .args .either)) (a .a .given .1 ∙ ap Evaluated.Value (c .enum-told .given .1)))
 
 returns-2 : tie.Need-returns-2
 returns-2 c =
@@ -66,9 +63,9 @@ returns-2 c =
     let z = v .v .given .0 .0 in
     let f : SFits w64 z = record { sfits = c .before .known-told2 .given .0 .1 } in
     let w = zero-test z f in
-    let r = a .a .given .1 ∙ ap evaluated.Value (v .v .given .1) in
-    ap (λ (z : ℤ). joint.Decided (evaluated.Value (value.Integer z))) (toZ-ofZ f)
-    ∙ decided (sameInteger z (pos 0)) b (value.Integer z)
+    let r = a .a .given .1 ∙ ap Evaluated.Value (v .v .given .1) in
+    ap (λ (z : ℤ). joint.Decided (Evaluated.Value (Value.Integer z))) (toZ-ofZ f)
+    ∙ decided (sameInteger z (pos 0)) b (Value.Integer z)
     (ap (λ (x : Bool). not (Bool·beq x b)) (sym w) ∙ c .if1 .taken)
     ∙ sym (ap (jointOf b) r)
 
@@ -80,8 +77,8 @@ returns-3 c =
     let z = v .v .given .0 .0 in
     let f : SFits w64 z = record { sfits = c .before .known-told2 .given .0 .1 } in
     let w = zero-test z f in
-    let r = a .a .given .1 ∙ ap evaluated.Value (v .v .given .1) in
-    left-open (sameInteger z (pos 0)) b (value.Integer z)
+    let r = a .a .given .1 ∙ ap Evaluated.Value (v .v .given .1) in
+    left-open (sameInteger z (pos 0)) b (Value.Integer z)
     (ap (λ (x : Bool). not (Bool·beq x b)) (sym w) ∙ c .if1 .left)
     ∙ sym (ap (jointOf b) r)
 
@@ -89,7 +86,7 @@ returns-4 : tie.Need-returns-4
 returns-4 c =
     let a = c .before .before .before in
     let s = a .before .before in
-    sym (ap (jointOf (s .args .either)) (a .a .given .1 ∙ ap evaluated.Value (c .enum-told2 .given .1)))
+    sym (ap (jointOf (s .args .either)) (a .a .given .1 ∙ ap Evaluated.Value (c .enum-told2 .given .1)))
 
 returns-5 : tie.Need-returns-5
 returns-5 c =

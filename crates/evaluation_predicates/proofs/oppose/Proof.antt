@@ -2,8 +2,7 @@
 use mathlib.Core.Path.{sym, ap, _∙_}
 use Rattle.rules.specs.Memory.{onValue}
 use Rattle.rules.specs.Evaluation.{opposite}
-use Rattle.rules.specs.declared.Evaluated.{Evaluated}
-use Rattle.rules.specs.declared.Evaluated.the-variants as evaluated
+use Rattle.rules.specs.declared.{Evaluated.Evaluated}
 use borrow.Author.Needs.{needs}
 use Rattle.evaluation_predicates.proofs.oppose.Statement.{statement}
 use Rattle.evaluation_predicates.proofs.oppose.Tie as tie
@@ -22,7 +21,7 @@ returns c = search needs
 
 returns-2 : tie.Need-returns-2
 returns-2 c =
-    sym (ap (λ (x : Evaluated). onValue x evaluated.Stopped opposite) (c .before .e2 .given .1))
+    sym (ap (λ (x : Evaluated). onValue x Evaluated.Stopped opposite) (c .before .e2 .given .1))
 
 pub oppose-spec : {M : Type 1} → statement M
 oppose-spec = tie.close (tie.spec enum-known-e negate-requires enum-known-e-2 returns returns-2)

@@ -5,8 +5,7 @@ use mir.Syntax.{w64}
 use mir.Val.{SFits}
 use mir.Facts.{toZ-ofZ}
 use denote.Ref.{now}
-use Rattle.rules.specs.declared.Value.{Value}
-use Rattle.rules.specs.declared.Temporary.the-variants as temporary
+use Rattle.rules.specs.declared.{Value.Value, Temporary.Temporary}
 use Rattle.evaluation_temporaries.specs.Bytes.{temporariesOf}
 use borrow.Author.Needs.{needs}
 use Rattle.evaluation_temporaries.proofs.take.Statement.{statement}
@@ -35,7 +34,7 @@ returns c =
     let s = c .before .before .before .before in
     let e = c .before .before .enum-told .given .1 in
     c .write-temporary .ensures
-    ∙ ap (λ (x : Value). set (temporariesOf (now (s .args .temporaries))) (s .args .n) (temporary.Holds x)) (sym e)
+    ∙ ap (λ (x : Value). set (temporariesOf (now (s .args .temporaries))) (s .args .n) (Temporary.Holds x)) (sym e)
 
 returns-2 : tie.Need-returns-2
 returns-2 c =
@@ -43,7 +42,7 @@ returns-2 c =
     let k = c .before .before .before .v .given in
     let f : SFits w64 (k .0 .0) = record { sfits = c .before .before .known-told .given .0 .1 } in
     (rw (toZ-ofZ f) at (c .write-temporary2 .ensures))
-    ∙ ap (λ (x : Value). set (temporariesOf (now (s .args .temporaries))) (s .args .n) (temporary.Holds x))
+    ∙ ap (λ (x : Value). set (temporariesOf (now (s .args .temporaries))) (s .args .n) (Temporary.Holds x))
     (sym (k .1))
 
 returns-3 : tie.Need-returns-3
@@ -52,7 +51,7 @@ returns-3 c =
     let k = c .before .before .before .before .v2 .given in
     let f : SFits w64 (k .0 .0 .offset) = search needs in
     (rw (toZ-ofZ f) at (c .write-temporary3 .ensures))
-    ∙ ap (λ (x : Value). set (temporariesOf (now (s .args .temporaries))) (s .args .n) (temporary.Holds x))
+    ∙ ap (λ (x : Value). set (temporariesOf (now (s .args .temporaries))) (s .args .n) (Temporary.Holds x))
     (sym (k .1))
 
 pub take-spec : {M : Type 1} → statement M

@@ -3,9 +3,7 @@ use mir.Syntax.{w64}
 use mir.Val.{SFits}
 use mir.Facts.{toZ-ofZ}
 use Rattle.rules.specs.Memory.{defined}
-use Rattle.rules.specs.declared.Cell.the-variants as cell
-use Rattle.rules.specs.declared.Value.the-variants as value
-use Rattle.rules.specs.declared.Evaluated.the-variants as evaluated
+use Rattle.rules.specs.declared.{Value.Value, Evaluated.Evaluated, Cell.Cell}
 use Rattle.memory_cells.specs.Changes.{CellFits}
 use mathlib.Core.Path.{_≡_, refl, sym, ap, _∙_, subst}
 use borrow.Author.Needs.{needs}
@@ -40,16 +38,16 @@ returns-3 c =
     let s = c .before .before .before .before .before .before in
     let o = c .before .before .before .before .c .given in
     let k = c .before .v .given in
-    let e : s .args .c ≡ cell.Holds (o .0 .0) (value.Integer (k .0 .0)) = o .1 ∙ ap (cell.Holds (o .0 .0)) (k .1) in
+    let e : s .args .c ≡ Cell.Holds (o .0 .0) (Value.Integer (k .0 .0)) = o .1 ∙ ap (Cell.Holds (o .0 .0)) (k .1) in
     let f : SFits w64 (k .0 .0) = record { sfits = c .known-told2 .given .0 .1 } in
-    (ap (λ (z : ℤ). evaluated.Value (value.Integer z)) (toZ-ofZ f) ∙ sym (ap defined e), tt)
+    (ap (λ (z : ℤ). Evaluated.Value (Value.Integer z)) (toZ-ofZ f) ∙ sym (ap defined e), tt)
 
 returns-4 : tie.Need-returns-4
 returns-4 c =
     let s = c .before .before .before .before .before .before in
     let o = c .before .before .before .before .c .given in
     let k = c .before .v2 .given in
-    let e : s .args .c ≡ cell.Holds (o .0 .0) (value.Pointer (k .0 .0)) = o .1 ∙ ap (cell.Holds (o .0 .0)) (k .1) in
+    let e : s .args .c ≡ Cell.Holds (o .0 .0) (Value.Pointer (k .0 .0)) = o .1 ∙ ap (Cell.Holds (o .0 .0)) (k .1) in
     (sym (ap defined e), subst CellFits e (s .pre) .1)
 
 pub define-spec : {M : Type 1} → statement M

@@ -1,6 +1,6 @@
 use Rattle.rules.specs.Memory.{locate, defined}
 use Rattle.rules.specs.Layout.{memoryOf}
-use Rattle.rules.specs.declared.Located.the-variants as located
+use Rattle.rules.specs.declared.{Located.Located}
 use mathlib.Core.Path.{_≡_, refl, sym, ap, _∙_, subst}
 use borrow.Author.Needs.{needs}
 use Rattle.memory.proofs.read.Statement.{statement}
@@ -34,21 +34,21 @@ returns c =
     let s = c .before .before .before .before .before .before in
     let m = memoryOf (s .args .mem .now) in
     let i = c .before .before .before .i .given in
-    let e : locate m (s .args .p) ≡ located.At (i .0 .0) =
+    let e : locate m (s .args .p) ≡ Located.At (i .0 .0) =
     sym (c .before .before .before .before .before .locate .ensures) ∙ i .1 in
     (rw e (c .define .ensures .0 ∙ ap defined (c .before .cell .ensures .0)), c .define .ensures .1)
 
 returns-2 : tie.Need-returns-2
 returns-2 c =
     let s = c .before .before .before in
-    let e : locate (memoryOf (s .args .mem .now)) (s .args .p) ≡ located.Dead =
+    let e : locate (memoryOf (s .args .mem .now)) (s .args .p) ≡ Located.Dead =
     sym (c .before .before .locate .ensures) ∙ c .enum-told .given .1 in
     (rw e refl, tt)
 
 returns-3 : tie.Need-returns-3
 returns-3 c =
     let s = c .before .before .before in
-    let e : locate (memoryOf (s .args .mem .now)) (s .args .p) ≡ located.Outside =
+    let e : locate (memoryOf (s .args .mem .now)) (s .args .p) ≡ Located.Outside =
     sym (c .before .before .locate .ensures) ∙ c .enum-told2 .given .1 in
     (rw e refl, tt)
 

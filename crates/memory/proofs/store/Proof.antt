@@ -1,7 +1,7 @@
 -- `memory::store` meets its contract. Assumes nothing.
 use mathlib.Core.Path.{_≡_, refl, sym, ap, _∙_, subst}
 use Prim.Native.Nat.{ℕ, suc, _+_, _-_, _*_, _≤_, _<_}
-use Rattle.rules.specs.declared.Located.the-variants as located
+use Rattle.rules.specs.declared.{Located.Located}
 use Rattle.rules.specs.Memory.{locate}
 use Rattle.rules.specs.Layout.{memoryOf}
 use Rattle.memory.proofs.Names.{located-name}
@@ -25,7 +25,7 @@ put-cell-requires c κs =
     let s = c .before .before .before .before .before .before in
     let l = s .args .mem .now in
     let i = c .before .before .i .given in
-    let e : locate (memoryOf l) (s .args .p) ≡ located.At (i .0 .0) =
+    let e : locate (memoryOf l) (s .args .p) ≡ Located.At (i .0 .0) =
     sym (c .before .before .before .before .locate .ensures) ∙ i .1 in
     (located-name l (s .args .p) (i .0 .0) e, s .pre)
 
@@ -40,7 +40,7 @@ returns c =
     let s = c .before .before .before .before .before .before .before in
     let l = s .args .mem .now in
     let i = c .before .before .before .i .given in
-    let e : locate (memoryOf l) (s .args .p) ≡ located.At (i .0 .0) =
+    let e : locate (memoryOf l) (s .args .p) ≡ Located.At (i .0 .0) =
     sym (c .before .before .before .before .before .locate .ensures) ∙ i .1 in
     (rw e refl, rw e (c .put-cell .ensures))
 
@@ -48,7 +48,7 @@ returns-2 : tie.Need-returns-2
 returns-2 c =
     let s = c .before .before .before .before in
     let l = s .args .mem .now in
-    let e : locate (memoryOf l) (s .args .p) ≡ located.Dead =
+    let e : locate (memoryOf l) (s .args .p) ≡ Located.Dead =
     sym (c .before .before .locate .ensures) ∙ c .enum-told .given .1 in
     (rw e refl, rw e (unchanged l (memoryOf l) refl))
 
@@ -56,7 +56,7 @@ returns-3 : tie.Need-returns-3
 returns-3 c =
     let s = c .before .before .before .before in
     let l = s .args .mem .now in
-    let e : locate (memoryOf l) (s .args .p) ≡ located.Outside =
+    let e : locate (memoryOf l) (s .args .p) ≡ Located.Outside =
     sym (c .before .before .locate .ensures) ∙ c .enum-told2 .given .1 in
     (rw e refl, rw e (unchanged l (memoryOf l) refl))
 

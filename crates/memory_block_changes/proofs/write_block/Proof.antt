@@ -2,8 +2,7 @@
 use mathlib.Core.Path.{_≡_, refl, sym, ap, _∙_, subst}
 use Prim.Native.Nat.{ℕ, suc, _+_, _-_, _*_, _≤_, _<_}
 use native.Mathlib.Omega.{arith}
-use Rattle.rules.specs.declared.Block.{Block}
-use Rattle.rules.specs.declared.Block.the-variants as block
+use Rattle.rules.specs.declared.{Block.Block}
 use Rattle.rules.specs.Words.{put}
 use Rattle.rules.specs.Layout.{blockBytes, blockPlace}
 use Rattle.memory_cells.specs.Changes.{BlockHeld}

@@ -3,8 +3,7 @@ use mathlib.Core.Path.{_≡_, refl, sym, ap, _∙_, subst}
 use Prim.Native.Nat.{ℕ, suc, _+_, _-_, _*_, _≤_, _<_}
 use native.Mathlib.Omega.{arith}
 use Rattle.rules.specs.Layout.{memoryOf}
-use Rattle.rules.specs.declared.Search.{Search}
-use Rattle.rules.specs.declared.Search.the-variants as search
+use Rattle.rules.specs.declared.{Search.Search}
 use Rattle.rules.specs.Memory.{nextName, freeRun}
 use Rattle.memory_cell_changes.proofs.Writing.{unchanged}
 use Rattle.memory_blocks.proofs.Runs.{name-bound, run-bound}
@@ -40,7 +39,7 @@ cast-place c =
     let s = c .before .before .before .before .before .before .before .before .before .before .before in
     let m = memoryOf (s .args .mem .now) in
     let k = c .before .before .before .before .before .before .before .k .given in
-    let name : nextName m ≡ search.At (k .0 .0) =
+    let name : nextName m ≡ Search.At (k .0 .0) =
     sym (c .before .before .before .before .before .before .before .before .before .next-name .ensures)
     ∙ k .1 in
     omega (arith, name-bound m (k .0 .0) name)
@@ -50,11 +49,11 @@ cast-place-2 c =
     let s = c .before .before .before .before .before .before .before .before .before .before .before in
     let m = memoryOf (s .args .mem .now) in
     let k = c .before .before .before .before .before .before .before .k .given in
-    let name : nextName m ≡ search.At (k .0 .0) =
+    let name : nextName m ≡ Search.At (k .0 .0) =
     sym (c .before .before .before .before .before .before .before .before .before .next-name .ensures)
     ∙ k .1 in
     let first = c .before .before .first .given in
-    let run : freeRun m (s .args .n) ≡ search.At (first .0 .0) =
+    let run : freeRun m (s .args .n) ≡ Search.At (first .0 .0) =
     sym (c .before .before .before .before .free-run .ensures) ∙ first .1 in
     omega (arith, run-bound m (s .args .n) (first .0 .0) run)
 
@@ -63,11 +62,11 @@ cast-place-3 c =
     let s = c .before .before .before .before .before .before .before .before .before .before .before in
     let m = memoryOf (s .args .mem .now) in
     let k = c .before .before .before .before .before .before .before .k .given in
-    let name : nextName m ≡ search.At (k .0 .0) =
+    let name : nextName m ≡ Search.At (k .0 .0) =
     sym (c .before .before .before .before .before .before .before .before .before .next-name .ensures)
     ∙ k .1 in
     let first = c .before .before .first .given in
-    let run : freeRun m (s .args .n) ≡ search.At (first .0 .0) =
+    let run : freeRun m (s .args .n) ≡ Search.At (first .0 .0) =
     sym (c .before .before .before .before .free-run .ensures) ∙ first .1 in
     omega (arith, run-bound m (s .args .n) (first .0 .0) run)
 
@@ -76,7 +75,7 @@ place-requires c κs =
     let s = c .before .before .before .before .before .before .before .before .before .before .before in
     let m = memoryOf (s .args .mem .now) in
     let k = c .before .before .before .before .before .before .before .k .given in
-    let name : nextName m ≡ search.At (k .0 .0) =
+    let name : nextName m ≡ Search.At (k .0 .0) =
     sym (c .before .before .before .before .before .before .before .before .before .next-name .ensures)
     ∙ k .1 in
     omega (arith, name-bound m (k .0 .0) name)
@@ -86,7 +85,7 @@ cast-t14 c =
     let s = c .before .before .before .before .before .before .before .before .before .before .before .before in
     let m = memoryOf (s .args .mem .now) in
     let k = c .before .before .before .before .before .before .before .before .k .given in
-    let name : nextName m ≡ search.At (k .0 .0) =
+    let name : nextName m ≡ Search.At (k .0 .0) =
     sym (c .before .before .before .before .before .before .before .before .before .before .next-name .ensures)
     ∙ k .1 in
     omega (arith, name-bound m (k .0 .0) name)
@@ -95,7 +94,7 @@ returns : tie.Need-returns
 returns c =
     let s = c .before .before .before .before in
     let m = memoryOf (s .args .mem .now) in
-    let e : nextName m ≡ search.Nothing = sym (c .before .before .next-name .ensures) ∙ c .enum-told .given .1 in
+    let e : nextName m ≡ Search.Nothing = sym (c .before .before .next-name .ensures) ∙ c .enum-told .given .1 in
     (rw e refl, rw e (unchanged (s .args .mem .now) m refl))
 
 returns-2 : tie.Need-returns-2
@@ -103,10 +102,10 @@ returns-2 c =
     let s = c .before .before .before .before .before .before .before .before .before in
     let m = memoryOf (s .args .mem .now) in
     let k = c .before .before .before .before .before .k .given in
-    let e : nextName m ≡ search.At (k .0 .0) =
+    let e : nextName m ≡ Search.At (k .0 .0) =
     sym (c .before .before .before .before .before .before .before .next-name .ensures)
     ∙ k .1 in
-    let f : freeRun m (s .args .n) ≡ search.Nothing =
+    let f : freeRun m (s .args .n) ≡ Search.Nothing =
     sym (c .before .before .free-run .ensures) ∙ c .enum-told2 .given .1 in
     (rw (e, f) refl, rw (e, f) (unchanged (s .args .mem .now) m refl))
 
@@ -115,11 +114,11 @@ returns-3 c =
     let s = c .before .before .before .before .before .before .before .before .before .before .before .before in
     let m = memoryOf (s .args .mem .now) in
     let k = c .before .before .before .before .before .before .before .before .k .given in
-    let name : nextName m ≡ search.At (k .0 .0) =
+    let name : nextName m ≡ Search.At (k .0 .0) =
     sym (c .before .before .before .before .before .before .before .before .before .before .next-name .ensures)
     ∙ k .1 in
     let first = c .before .before .before .first .given in
-    let run : freeRun m (s .args .n) ≡ search.At (first .0 .0) =
+    let run : freeRun m (s .args .n) ≡ Search.At (first .0 .0) =
     sym (c .before .before .before .before .before .free-run .ensures) ∙ first .1 in
     (rw (name, run) refl, rw (name, run) (c .place .ensures))
 

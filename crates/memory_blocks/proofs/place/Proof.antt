@@ -1,11 +1,8 @@
 -- `memory_blocks::place` meets its contract. Assumes nothing.
 use mathlib.Core.Path.{_≡_, refl, sym, ap, _∙_, subst}
 use Rattle.rules.specs.Layout.{memoryOf}
-use Rattle.rules.specs.declared.Block.{Block}
-use Rattle.rules.specs.declared.Block.the-variants as block
+use Rattle.rules.specs.declared.{Value.Value, Block.Block, Cell.Cell}
 use Rattle.rules.specs.Memory.{Memory}
-use Rattle.rules.specs.declared.Cell.the-variants as cell
-use Rattle.rules.specs.declared.Value.the-variants as value
 use Rattle.memory_cells.specs.Changes.{setBlock}
 use Rattle.memory_cell_fills.specs.Filling.{fillCells}
 use Rattle.memory_cell_changes.proofs.Writing.{becomes-then, becomes-as}
@@ -31,7 +28,7 @@ returns : tie.Need-returns
 returns c =
     let s = c .before .before .before .before .before in
     let a = s .args in
-    let m = fillCells (memoryOf (a .mem .now)) (a .first) (a .n) (cell.Holds (a .k) value.Undefined) in
+    let m = fillCells (memoryOf (a .mem .now)) (a .first) (a .n) (Cell.Holds (a .k) Value.Undefined) in
     becomes-as (ap (setBlock m (a .k)) (c .before .live .ensures))
     (becomes-then (λ (x : Memory). setBlock x (a .k) (c .before .live .result))
     (c .before .before .before .fill .ensures)

@@ -2,9 +2,7 @@
 use mathlib.Core.Path.{_≡_, refl, sym, ap, _∙_, subst}
 use Prim.Native.Nat.{ℕ, suc, _+_, _-_, _*_, _≤_, _<_}
 use native.Mathlib.Omega.{arith}
-use Rattle.rules.specs.declared.Cell.{Cell}
-use Rattle.rules.specs.declared.Cell.the-variants as cell
-use Rattle.rules.specs.declared.Value.the-variants as value
+use Rattle.rules.specs.declared.{Value.Value, Cell.Cell}
 use mir.Syntax.{w64}
 use mir.Val.{SFits}
 use mir.Facts.{toZ-ofZ}
@@ -55,7 +53,7 @@ write-parts-requires-4 c κs =
     let s = c .before .before .before .before .before .before .before .before in
     let o = c .before .before .before .before .before .before .c .given in
     let k = c .before .before .before .v2 .given in
-    let e : s .args .c ≡ cell.Holds (o .0 .0) (value.Pointer (k .0 .0)) = o .1 ∙ ap (cell.Holds (o .0 .0)) (k .1) in
+    let e : s .args .c ≡ Cell.Holds (o .0 .0) (Value.Pointer (k .0 .0)) = o .1 ∙ ap (Cell.Holds (o .0 .0)) (k .1) in
     let f = subst CellFits e (s .pre .1) in
     (s .pre .0, f .0, f .1)
 
@@ -75,7 +73,7 @@ returns-2 c =
     let s = c .before .before .before .before .before .before .before in
     let o = c .before .before .before .before .before .c .given in
     let k = c .before .before .enum-told2 .given in
-    let e : s .args .c ≡ cell.Holds (o .0 .0) (value.Undefined) = o .1 ∙ ap (cell.Holds (o .0 .0)) (k .1) in (
+    let e : s .args .c ≡ Cell.Holds (o .0 .0) (Value.Undefined) = o .1 ∙ ap (Cell.Holds (o .0 .0)) (k .1) in (
       c .write-parts2 .ensures .0
           ∙ ap (λ (x : Cell). put (s .args .mem .now) (cellPlace (s .args .i)) (cellBytes x)) (sym e),
       (subst CellHeld (sym e) tt, c .write-parts2 .ensures .1),
@@ -87,7 +85,7 @@ returns-3 c =
     let s = c .before .before .before .before .before .before .before .before in
     let o = c .before .before .before .before .before .before .c .given in
     let k = c .before .before .before .v .given in
-    let e : s .args .c ≡ cell.Holds (o .0 .0) (value.Integer (k .0 .0)) = o .1 ∙ ap (cell.Holds (o .0 .0)) (k .1) in
+    let e : s .args .c ≡ Cell.Holds (o .0 .0) (Value.Integer (k .0 .0)) = o .1 ∙ ap (Cell.Holds (o .0 .0)) (k .1) in
     let f : SFits w64 (k .0 .0) = record { sfits = c .before .before .known-told2 .given .0 .1 } in (
       (rw (toZ-ofZ f) at (c .write-parts3 .ensures .0))
           ∙ ap (λ (x : Cell). put (s .args .mem .now) (cellPlace (s .args .i)) (cellBytes x)) (sym e),
@@ -100,7 +98,7 @@ returns-4 c =
     let s = c .before .before .before .before .before .before .before .before .before in
     let o = c .before .before .before .before .before .before .before .c .given in
     let k = c .before .before .before .before .v2 .given in
-    let e : s .args .c ≡ cell.Holds (o .0 .0) (value.Pointer (k .0 .0)) = o .1 ∙ ap (cell.Holds (o .0 .0)) (k .1) in
+    let e : s .args .c ≡ Cell.Holds (o .0 .0) (Value.Pointer (k .0 .0)) = o .1 ∙ ap (Cell.Holds (o .0 .0)) (k .1) in
     let f : SFits w64 (k .0 .0 .offset) = search needs in (
       (rw (toZ-ofZ f) at (c .write-parts4 .ensures .0))
           ∙ ap (λ (x : Cell). put (s .args .mem .now) (cellPlace (s .args .i)) (cellBytes x)) (sym e),

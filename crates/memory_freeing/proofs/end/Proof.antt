@@ -2,7 +2,7 @@
 use mathlib.Core.Path.{_≡_, refl, sym, ap, _∙_, subst}
 use Rattle.rules.specs.Layout.{memoryOf}
 use Rattle.rules.specs.Memory.{blockOf}
-use Rattle.rules.specs.declared.Block.the-variants as block
+use Rattle.rules.specs.declared.{Block.Block}
 use Rattle.memory_cell_changes.proofs.Writing.{unchanged}
 use borrow.Author.Needs.{needs}
 use Rattle.memory_freeing.proofs.end.Statement.{statement}
@@ -37,7 +37,7 @@ returns : tie.Need-returns
 returns c =
     let s = c .before .before .before .before in
     let l = s .args .mem .now in
-    let e : blockOf (memoryOf l) (s .args .name) ≡ block.Unused =
+    let e : blockOf (memoryOf l) (s .args .name) ≡ Block.Unused =
     sym (c .before .before .block .ensures) ∙ c .enum-told .given .1 in
     rw e (unchanged l (memoryOf l) refl)
 
@@ -46,7 +46,7 @@ returns-2 c =
     let s = c .before .before .before .before .before .before .before in
     let l = s .args .mem .now in
     let b = c .before .before .before .first .given in
-    let e : blockOf (memoryOf l) (s .args .name) ≡ block.Fixed (b .0 .0) (b .0 .1 .0) =
+    let e : blockOf (memoryOf l) (s .args .name) ≡ Block.Fixed (b .0 .0) (b .0 .1 .0) =
     sym (c .before .before .before .before .before .block .ensures) ∙ b .1 in
     rw e (c .release .ensures)
 
@@ -55,7 +55,7 @@ returns-3 c =
     let s = c .before .before .before .before .before .before .before in
     let l = s .args .mem .now in
     let b = c .before .before .before .first2 .given in
-    let e : blockOf (memoryOf l) (s .args .name) ≡ block.Freeable (b .0 .0) (b .0 .1 .0) =
+    let e : blockOf (memoryOf l) (s .args .name) ≡ Block.Freeable (b .0 .0) (b .0 .1 .0) =
     sym (c .before .before .before .before .before .block .ensures) ∙ b .1 in
     rw e (c .release2 .ensures)
 
@@ -63,7 +63,7 @@ returns-4 : tie.Need-returns-4
 returns-4 c =
     let s = c .before .before .before .before in
     let l = s .args .mem .now in
-    let e : blockOf (memoryOf l) (s .args .name) ≡ block.Dead =
+    let e : blockOf (memoryOf l) (s .args .name) ≡ Block.Dead =
     sym (c .before .before .block .ensures) ∙ c .enum-told2 .given .1 in
     rw e (unchanged l (memoryOf l) refl)
 

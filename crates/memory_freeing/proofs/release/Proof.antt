@@ -1,6 +1,6 @@
 -- `memory_freeing::release` meets its contract. Assumes nothing.
 use Rattle.rules.specs.Memory.{Memory}
-use Rattle.rules.specs.declared.Block.the-variants as block
+use Rattle.rules.specs.declared.{Block.Block}
 use Rattle.memory_cells.specs.Changes.{setBlock}
 use Rattle.memory_cell_changes.proofs.Writing.{becomes-then}
 use borrow.Author.Needs.{needs}
@@ -20,7 +20,7 @@ put-block-requires c κs = search needs
 returns : tie.Need-returns
 returns c =
     let s = c .before .before .before .before in
-    becomes-then (λ (x : Memory). setBlock x (s .args .name) block.Dead) (c .before .before .fill .ensures)
+    becomes-then (λ (x : Memory). setBlock x (s .args .name) Block.Dead) (c .before .before .fill .ensures)
     (c .put-block .ensures)
 
 pub release-spec : {M : Type 1} → statement M

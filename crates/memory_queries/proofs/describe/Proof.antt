@@ -2,11 +2,10 @@
 use mathlib.Core.Path.{_≡_, refl, sym, ap, _∙_, subst}
 use native.Mathlib.Omega.{arith}
 use lib.IntN.{ℤ, pos}
-use Rattle.rules.specs.declared.Value.the-variants as value
+use Rattle.rules.specs.declared.{Value.Value, Evaluated.Evaluated}
 use mir.Syntax.{w64}
 use mir.Val.{SFits}
 use mir.Facts.{toZ-ofZ}
-use Rattle.rules.specs.declared.Evaluated.the-variants as evaluated
 use Rattle.memory_queries.proofs.Queries.{other-description}
 use borrow.Author.Needs.{needs}
 use Rattle.memory_queries.proofs.describe.Statement.{statement}
@@ -30,8 +29,8 @@ returns-3 c =
     let s = c .before in
     let r = c .match .rest in
     let g : SFits w64 (pos (s .args .n)) = record { sfits = omega (arith, s .fits .n .fits) } in (
-      ap (λ (z : ℤ). evaluated.Value (value.Integer z)) (toZ-ofZ g)
-          ∙ ap evaluated.Value (other-description (s .args .q) (s .args .p) (s .args .n) (r .0 .1) (r .1)),
+      ap (λ (z : ℤ). Evaluated.Value (Value.Integer z)) (toZ-ofZ g)
+          ∙ ap Evaluated.Value (other-description (s .args .q) (s .args .p) (s .args .n) (r .0 .1) (r .1)),
       tt,
     )
 

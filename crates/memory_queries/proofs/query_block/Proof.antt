@@ -2,7 +2,7 @@
 use mathlib.Core.Path.{_≡_, refl, sym, ap, _∙_, subst}
 use Rattle.rules.specs.Layout.{memoryOf}
 use Rattle.rules.specs.Memory.{blockOf, recordedOf}
-use Rattle.rules.specs.declared.Block.the-variants as block
+use Rattle.rules.specs.declared.{Block.Block}
 use Rattle.memory_queries.proofs.Names.{live-name}
 use borrow.Author.Needs.{needs}
 use Rattle.memory_queries.proofs.query_block.Statement.{statement}
@@ -25,7 +25,7 @@ describe-requires : tie.Need-describe-requires
 describe-requires c κs =
     let s = c .before .before .before .before in
     let b = c .before .n .given in
-    let e : blockOf (memoryOf (s .args .mem .now)) (s .args .p .name) ≡ block.Fixed (b .0 .0) (b .0 .1 .0) =
+    let e : blockOf (memoryOf (s .args .mem .now)) (s .args .p .name) ≡ Block.Fixed (b .0 .0) (b .0 .1 .0) =
     sym (c .before .before .before .block .ensures) ∙ b .1 in
     live-name (s .args .mem .now) (s .args .p .name) (b .0 .0) (b .0 .1 .0) (ap recordedOf e)
 
@@ -36,7 +36,7 @@ describe-requires-2 : tie.Need-describe-requires-2
 describe-requires-2 c κs =
     let s = c .before .before .before .before in
     let b = c .before .n2 .given in
-    let e : blockOf (memoryOf (s .args .mem .now)) (s .args .p .name) ≡ block.Freeable (b .0 .0) (b .0 .1 .0) =
+    let e : blockOf (memoryOf (s .args .mem .now)) (s .args .p .name) ≡ Block.Freeable (b .0 .0) (b .0 .1 .0) =
     sym (c .before .before .before .block .ensures) ∙ b .1 in
     live-name (s .args .mem .now) (s .args .p .name) (b .0 .0) (b .0 .1 .0) (ap recordedOf e)
 
@@ -47,7 +47,7 @@ returns : tie.Need-returns
 returns c =
     let s = c .before .before .before in
     let b = c .enum-told .given in
-    let e : blockOf (memoryOf (s .args .mem .now)) (s .args .p .name) ≡ block.Unused =
+    let e : blockOf (memoryOf (s .args .mem .now)) (s .args .p .name) ≡ Block.Unused =
     sym (c .before .before .block .ensures) ∙ b .1 in
     (rw e refl, tt)
 
@@ -55,7 +55,7 @@ returns-2 : tie.Need-returns-2
 returns-2 c =
     let s = c .before .before .before .before .before in
     let b = c .before .before .n .given in
-    let e : blockOf (memoryOf (s .args .mem .now)) (s .args .p .name) ≡ block.Fixed (b .0 .0) (b .0 .1 .0) =
+    let e : blockOf (memoryOf (s .args .mem .now)) (s .args .p .name) ≡ Block.Fixed (b .0 .0) (b .0 .1 .0) =
     sym (c .before .before .before .before .block .ensures) ∙ b .1 in
     (rw e (c .describe .ensures .0), c .describe .ensures .1)
 
@@ -63,7 +63,7 @@ returns-3 : tie.Need-returns-3
 returns-3 c =
     let s = c .before .before .before .before .before in
     let b = c .before .before .n2 .given in
-    let e : blockOf (memoryOf (s .args .mem .now)) (s .args .p .name) ≡ block.Freeable (b .0 .0) (b .0 .1 .0) =
+    let e : blockOf (memoryOf (s .args .mem .now)) (s .args .p .name) ≡ Block.Freeable (b .0 .0) (b .0 .1 .0) =
     sym (c .before .before .before .before .block .ensures) ∙ b .1 in
     (rw e (c .describe2 .ensures .0), c .describe2 .ensures .1)
 
@@ -71,7 +71,7 @@ returns-4 : tie.Need-returns-4
 returns-4 c =
     let s = c .before .before .before in
     let b = c .enum-told2 .given in
-    let e : blockOf (memoryOf (s .args .mem .now)) (s .args .p .name) ≡ block.Dead =
+    let e : blockOf (memoryOf (s .args .mem .now)) (s .args .p .name) ≡ Block.Dead =
     sym (c .before .before .block .ensures) ∙ b .1 in
     (rw e refl, tt)
 

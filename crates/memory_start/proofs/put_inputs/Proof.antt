@@ -7,8 +7,7 @@ use mir.Syntax.{w64}
 use Rattle.rules.specs.Layout.{memoryOf}
 use Rattle.rules.specs.Memory.{Memory, setCell}
 use Rattle.rules.specs.Words.{integerAt}
-use Rattle.rules.specs.declared.Cell.the-variants as cell
-use Rattle.rules.specs.declared.Value.the-variants as value
+use Rattle.rules.specs.declared.{Value.Value, Cell.Cell}
 use Rattle.memory_cells.specs.Changes.{Becomes}
 use Rattle.memory_start.specs.Starting.{withInputs}
 use Rattle.memory_cell_changes.proofs.Writing.{unchanged, becomes-then, becomes-as}
@@ -56,7 +55,7 @@ loop-again c =
       omega arith,
       becomes-as (inputs-more (memoryOf (a .mem .now)) (a .inputs .now) (l .i))
           (becomes-then
-          (λ (x : Memory). setCell x (l .i + 1) (cell.Holds 2 (value.Integer (integerAt (a .inputs .now) (l .i * 8)))))
+          (λ (x : Memory). setCell x (l .i + 1) (Cell.Holds 2 (Value.Integer (integerAt (a .inputs .now) (l .i * 8)))))
           (l .inv .1) b),
     )
 

@@ -1,9 +1,7 @@
 -- `memory_start::put_start` meets its contract. Assumes nothing.
 use lib.IntN.{pos}
 use Rattle.rules.specs.Memory.{Memory, setCell}
-use Rattle.rules.specs.declared.Block.the-variants as block
-use Rattle.rules.specs.declared.Cell.the-variants as cell
-use Rattle.rules.specs.declared.Value.the-variants as value
+use Rattle.rules.specs.declared.{Value.Value, Block.Block, Cell.Cell}
 use Rattle.memory_cells.specs.Changes.{setBlock}
 use Rattle.memory_cell_changes.proofs.Writing.{becomes-then}
 use borrow.Author.Needs.{needs}
@@ -27,8 +25,8 @@ returns : tie.Need-returns
 returns c =
     let s = c .before .before .before .before .before .before in
     becomes-then
-    (λ (x : Memory). setCell x 0 (cell.Holds 1 (value.Pointer (record { name = 2; offset = pos 0 }))))
-    (becomes-then (λ (x : Memory). setBlock x 2 (block.Fixed 1 (s .args .n)))
+    (λ (x : Memory). setCell x 0 (Cell.Holds 1 (Value.Pointer (record { name = 2; offset = pos 0 }))))
+    (becomes-then (λ (x : Memory). setBlock x 2 (Block.Fixed 1 (s .args .n)))
     (c .before .before .before .before .put-block .ensures)
     (c .before .before .put-block2 .ensures))
     (c .put-cell .ensures)

@@ -3,7 +3,7 @@ use borrow.Author.Needs.{needs}
 use Rattle.observation_block_queries.proofs.if_live.Statement.{statement}
 use Rattle.observation_block_queries.proofs.if_live.Tie as tie
 use mathlib.Core.Path.{sym, ap}
-use Rattle.rules.specs.declared.Recorded.{Recorded}
+use Rattle.rules.specs.declared.{Recorded.Recorded}
 use Rattle.rules.specs.Evaluation.{ofLive}
 
 enum-told : tie.Need-enum-told

@@ -5,7 +5,7 @@ use Rattle.observation_block_queries.proofs.span_of.Tie as tie
 use Prim.Native.Nat.{ℕ, _^_, _<_}
 use native.Mathlib.Omega.{arith}
 use mathlib.Core.Path.{_≡_, refl, sym, ap, _∙_}
-use Rattle.rules.specs.declared.Recorded.{Recorded}
+use Rattle.rules.specs.declared.{Recorded.Recorded}
 use lib.IntN.{pos}
 use mir.Syntax.{w64}
 use mir.Val.{toZ}

@@ -10,7 +10,7 @@ use denote.Ref.{now}
 use Rattle.rules.specs.Sizes.{nameCount}
 use Rattle.rules.specs.Layout.{recordedAt, observationOf}
 use lib.ListN.{drop}
-use Rattle.rules.specs.declared.Recorded.{Recorded}
+use Rattle.rules.specs.declared.{Recorded.Recorded}
 use Rattle.observation_free_marks.specs.Occupied.{occupy, occupyAll}
 use Rattle.observation_free_marks.proofs.PlaceLaws.{cover-start, cover-more}
 

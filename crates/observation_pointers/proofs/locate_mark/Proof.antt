@@ -4,7 +4,7 @@ use Rattle.observation_pointers.proofs.locate_mark.Statement.{statement
 use Rattle.observation_pointers.proofs.locate_mark.Tie as tie
 use mathlib.Core.Path.{ap, _∙_}
 use Rattle.rules.specs.Memory.{locatedIn}
-use Rattle.rules.specs.declared.Recorded.{Recorded}
+use Rattle.rules.specs.declared.{Recorded.Recorded}
 use mir.Facts.{toZ-ofZ}
 use mir.Syntax.{w64}
 use mir.Val.{SFits}

@@ -9,7 +9,7 @@ use mir.Val.{SFits}
 use mir.Facts.{toZ-ofZ}
 use Rattle.rules.specs.Layout.{observationOf}
 use Rattle.rules.specs.Observation.{storeBlock}
-use Rattle.rules.specs.declared.Value.{Value}
+use Rattle.rules.specs.declared.{Value.Value}
 use Rattle.observation_answers.proofs.ArmLaws.{answers-refused, answers-same}
 
 enum-known-v : tie.Need-enum-known-v

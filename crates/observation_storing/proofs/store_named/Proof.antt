@@ -6,7 +6,7 @@ use mathlib.Core.Path.{refl, sym, ap, _∙_}
 use denote.Ref.{now}
 use Rattle.rules.specs.Layout.{observationOf}
 use Rattle.rules.specs.Observation.{markRun, storeAt}
-use Rattle.rules.specs.declared.Recorded.{Recorded}
+use Rattle.rules.specs.declared.{Recorded.Recorded}
 use Rattle.observation_records.proofs.ObservationLaws.{alive-named}
 use Rattle.observation_answers.proofs.ArmLaws.{answers-refused, answers-same}
 

@@ -10,12 +10,11 @@ use Rattle.rules.specs.Sizes.{cellCount}
 use Rattle.rules.specs.Layout.{observationOf}
 use Rattle.rules.specs.Observation.{markRun, storeAt}
 use Rattle.rules.proofs.lists.RunLaws.{run-bound}
-use Rattle.rules.specs.declared.Recorded.the-variants as recorded
-use Rattle.rules.specs.declared.Search.the-variants as search
+use Rattle.rules.specs.declared.{Search.Search, Recorded.Recorded}
 use Rattle.observation_answers.proofs.ArmLaws.{answers-refused, answers-noted}
 
 run-is : (c : tie.After-first) → markRun (observationOf (now (c .before .before .before .before .args .obs)))
-    (c .before .before .before .before .args .n) ≡ search.At (c .first .given .0 .0)
+    (c .before .before .before .before .args .n) ≡ Search.At (c .first .given .0 .0)
 run-is c = sym (c .before .before .find-marks .ensures) ∙ c .first .given .1
 
 low : (c : tie.After-first) → c .first .given .0 .0 + c .before .before .before .before .args .n ≤ cellCount
@@ -49,7 +48,7 @@ returns c =
     let l = now (s .args .obs) in
     let o = observationOf l in
     answers-noted l (c .place-block .last .0)
-    (ap (storeAt o (s .args .name) (s .args .n) recorded.Unused) (run-is (c .before .before .before)))
+    (ap (storeAt o (s .args .name) (s .args .n) Recorded.Unused) (run-is (c .before .before .before)))
     (c .place-block .ensures)
 
 returns-2 : tie.Need-returns-2
@@ -57,7 +56,7 @@ returns-2 c =
     let s = c .before .before .before .before in
     let l = now (s .args .obs) in
     let o = observationOf l in
-    answers-refused l 48 (ap (storeAt o (s .args .name) (s .args .n) recorded.Unused)
+    answers-refused l 48 (ap (storeAt o (s .args .name) (s .args .n) Recorded.Unused)
     (sym (c .before .before .find-marks .ensures) ∙ c .enum-told .given .1))
 
 pub store-new-spec : {M : Type 1} → statement M

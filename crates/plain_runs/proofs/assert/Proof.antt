@@ -1,7 +1,7 @@
 use mathlib.Core.Path.{sym, ap, _∙_}
 use Rattle.rules.specs.Flow.{after}
 use Rattle.rules.specs.Plain.{asserted}
-use Rattle.rules.specs.declared.Test.{Test}
+use Rattle.rules.specs.declared.{Test.Test}
 use Rattle.rules.specs.Layout.{memoryOf}
 use Rattle.rules.specs.Nodes.{statementAt}
 use Rattle.evaluation.specs.State.{variablesOf}

@@ -2,7 +2,7 @@
 use borrow.Author.Needs.{needs}
 use mathlib.Core.Path.{_≡_, sym, ap, _∙_}
 use Rattle.rules.specs.Answers.{Translated, translatedBy}
-use Rattle.rules.specs.declared.Answer.{Answer}
+use Rattle.rules.specs.declared.{Answer.Answer}
 use denote.Ref.{now}
 use Rattle.recorder.proofs.recorder_translate.Statement.{statement}
 use Rattle.recorder.proofs.recorder_translate.Tie as tie

@@ -2,7 +2,7 @@
 use borrow.Author.Needs.{needs}
 use mathlib.Core.Path.{sym, ap, _∙_}
 use Rattle.rules.specs.Kinds.{source}
-use Rattle.rules.specs.declared.Answer.{Answer}
+use Rattle.rules.specs.declared.{Answer.Answer}
 use Rattle.rules.proofs.acceptance.CheckLaws.{zero-accepts}
 use Rattle.recorder.specs.BothRuns.{lent}
 use Rattle.recorder.proofs.BothLaws.{checked-refused}

@@ -17,22 +17,20 @@ use Rattle.rules.proofs.lists.SearchLaws.{lowest-found}
 use Rattle.rules.proofs.lists.SearchLaws as search-laws
 use Rattle.rules.proofs.acceptance.ParentLaws.{Passed}
 use Rattle.rules.proofs.acceptance.CheckLaws.{none-fails, each-passes, check-kept, accepted-keeps, accepted-last}
-use Rattle.rules.specs.declared.Search.{Search}
-use Rattle.rules.specs.declared.Search.the-variants as search
-use Rattle.rules.specs.declared.Checked.the-variants as checked
+use Rattle.rules.specs.Types.{Search, Checked}
 -- the lowest that passes is found, and only it; the same of none
 pub use Rattle.rules.proofs.lists.SearchLaws.{NonePass, Lowest}
 
-pub lowest-at : (p : ℕ → Bool) (j k n : ℕ) → lowest p j k ≡ search.At n → Lowest p j k n
+pub lowest-at : (p : ℕ → Bool) (j k n : ℕ) → lowest p j k ≡ Search.At n → Lowest p j k n
 lowest-at p j k n e = subst (search-laws.Found p j k) e (lowest-found p j k)
 
-pub at-lowest : (p : ℕ → Bool) (j k n : ℕ) → Lowest p j k n → lowest p j k ≡ search.At n
+pub at-lowest : (p : ℕ → Bool) (j k n : ℕ) → Lowest p j k n → lowest p j k ≡ Search.At n
 at-lowest p j k n h = search-laws.lowest-at p j k n (h .from) (h .below) (h .passes) (h .none-lower)
 
-pub lowest-nothing : (p : ℕ → Bool) (j k : ℕ) → lowest p j k ≡ search.Nothing → NonePass p j (j + k)
+pub lowest-nothing : (p : ℕ → Bool) (j k : ℕ) → lowest p j k ≡ Search.Nothing → NonePass p j (j + k)
 lowest-nothing p j k e = subst (search-laws.Found p j k) e (lowest-found p j k)
 
-pub nothing-lowest : (p : ℕ → Bool) (j k : ℕ) → NonePass p j (j + k) → lowest p j k ≡ search.Nothing
+pub nothing-lowest : (p : ℕ → Bool) (j k : ℕ) → NonePass p j (j + k) → lowest p j k ≡ Search.Nothing
 nothing-lowest p j k h = search-laws.lowest-nothing p j k h
 
 -- no record of the table fails the test
@@ -53,15 +51,15 @@ pub record Accepted (l : Language) (t : List ℕ) : Type 0 where
   pub scopes : NoRecord t (scopeFault l t)
   pub levels : LevelsHold l t
 
-refused-nowhere : (rule : ℕ) (s : Search) → refuseAt rule s ≡ checked.Accepted → s ≡ search.Nothing
-refused-nowhere rule (search.At n) h = let z : _≡_ {A = ℕ} 0 1 = cc in absurd (omega arith)
-refused-nowhere rule search.Nothing h = refl
+refused-nowhere : (rule : ℕ) (s : Search) → refuseAt rule s ≡ Checked.Accepted → s ≡ Search.Nothing
+refused-nowhere rule (Search.At n) h = let z : _≡_ {A = ℕ} 0 1 = cc in absurd (omega arith)
+refused-nowhere rule Search.Nothing h = refl
 
-last-holds : (l : Language) (t : List ℕ) → lastRule l t ≡ checked.Accepted → LevelsHold l t
+last-holds : (l : Language) (t : List ℕ) → lastRule l t ≡ Checked.Accepted → LevelsHold l t
 last-holds source t h = each-passes t (levelFault t) (refused-nowhere 8 (lowestRecord t (levelFault t)) h)
 last-holds target t h = tt
 
-holds-last : (l : Language) (t : List ℕ) → LevelsHold l t → lastRule l t ≡ checked.Accepted
+holds-last : (l : Language) (t : List ℕ) → LevelsHold l t → lastRule l t ≡ Checked.Accepted
 holds-last source t h = rw (none-fails t (levelFault t) h)
 holds-last target t h = refl
 
@@ -75,7 +73,7 @@ not-empty-of n h =
 length-passes : (n : ℕ) → n % 16 ≡ 0 → 1 ≤ n / 16 → (eqb n 0 || not (eqb (n % 16) 0)) ≡ false
 length-passes n m p = rw (ne-eqb n 0 (λ e. omega arith), eq-eqb (n % 16) 0 m)
 
-pub accepted-says : (l : Language) (t : List ℕ) → check l t ≡ checked.Accepted → Accepted l t
+pub accepted-says : (l : Language) (t : List ℕ) → check l t ≡ Checked.Accepted → Accepted l t
 accepted-says l t h =
     let k = accepted-keeps l t h in
     let s = not-empty-of (length t) (k .length-kept) in
@@ -93,7 +91,7 @@ accepted-says l t h =
 pub passed-of : (l : Language) (t : List ℕ) → Accepted l t → Passed l t
 passed-of l t a = record { records = a .record-rules; shape = a .shape }
 
-pub says-accepted : (l : Language) (t : List ℕ) → Accepted l t → check l t ≡ checked.Accepted
+pub says-accepted : (l : Language) (t : List ℕ) → Accepted l t → check l t ≡ Checked.Accepted
 says-accepted l t a =
     check-kept l t (record {
       length-kept = length-passes (length t) (a .whole) (a .not-empty);
@@ -103,5 +101,5 @@ says-accepted l t a =
     })
     ∙ holds-last l t (a .levels)
 
-pub accepted-exactly : (l : Language) (t : List ℕ) → (check l t ≡ checked.Accepted) ↔ Accepted l t
+pub accepted-exactly : (l : Language) (t : List ℕ) → (check l t ≡ Checked.Accepted) ↔ Accepted l t
 accepted-exactly l t = (accepted-says l t, says-accepted l t)

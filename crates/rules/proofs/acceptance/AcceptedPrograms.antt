@@ -8,7 +8,7 @@ use Rattle.rules.specs.Records.{recordCount}
 use Rattle.rules.specs.Kinds.{Language, source, target, Sort, statement, recordLimit}
 use Rattle.rules.specs.Checker.{check}
 use Rattle.rules.specs.Nodes.{NodeOf, sortOfNode, nodeAt, HasSort}
-use Rattle.rules.specs.declared.Checked.the-variants as checked
+use Rattle.rules.specs.Types.{Checked}
 use Rattle.rules.proofs.acceptance.Sound.{startScope}
 use Rattle.rules.proofs.acceptance.Acceptance.{Accepted, accepted-says}
 use Rattle.rules.proofs.acceptance.AcceptedTrees.{accepted-last}
@@ -43,7 +43,7 @@ without-level : (l : Language) (x : NodeOf l) (v : ℕ) → SoundAs l statement 
 without-level source x v h = h
 without-level target x v h = h
 
-pub accepted-program : (l : Language) (t : List ℕ) → check l t ≡ checked.Accepted → AcceptedProgram l t
+pub accepted-program : (l : Language) (t : List ℕ) → check l t ≡ Checked.Accepted → AcceptedProgram l t
 accepted-program l t h =
     let a = accepted-says l t h in
     record {
@@ -58,7 +58,7 @@ accepted-program l t h =
     }
 
 -- the same with bytes behind the table
-pub padded-program : (l : Language) (t z : List ℕ) → check l t ≡ checked.Accepted → Runs l (t ++ z) (recordCount t)
+pub padded-program : (l : Language) (t z : List ℕ) → check l t ≡ Checked.Accepted → Runs l (t ++ z) (recordCount t)
 padded-program l t z h =
     let r = accepted-program l t h .last in
     let e = node-padded t z l (recordCount t) (le-refl (recordCount t)) in

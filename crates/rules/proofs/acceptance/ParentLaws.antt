@@ -12,8 +12,7 @@ use Rattle.rules.specs.Records.{Record, recordCount, kindOf, childA, chi
 use Rattle.rules.specs.Kinds.{Language, Sort, sortNumber, Field, unnamed, child, number, Form, fieldOf, formOf}
 use Rattle.rules.specs.Checker.{fieldFits, literalFits, fieldsFit, sortOf, childFits, childrenFit, faultOf}
 use Rattle.rules.specs.Checker.{recordFault, timesIn, timesOf, timesChildOf, timesChild, shapeFault, parentOf}
-use Rattle.rules.specs.declared.Search.{Search}
-use Rattle.rules.specs.declared.Search.the-variants as search
+use Rattle.rules.specs.Types.{Search}
 pub use Rattle.rules.proofs.lists.BooleanLaws.{three-pass, five-pass}
 use Rattle.rules.proofs.lists.BooleanLaws.{and-split}
 use Rattle.rules.proofs.lists.SearchLaws.{lowest-nothing, lowest-at, Outcome, lowest-outcome}
@@ -122,13 +121,13 @@ module _ (l : Language) (t : List ℕ) (c : ℕ) where
   parent-outcome = lowest-outcome (λ m. ltb 0 (timesChildOf l t m c)) 1 (recordCount t)
 
   pub parent-lowest : (n : ℕ) → 1 ≤ n → n ≤ recordCount t → 0 < timesChildOf l t n c
-      → ((i : ℕ) → 1 ≤ i → i < n → timesChildOf l t i c ≡ 0) → parentOf l t c ≡ search.At n
+      → ((i : ℕ) → 1 ≤ i → i < n → timesChildOf l t i c ≡ 0) → parentOf l t c ≡ Search.At n
   unfolding parentOf
   parent-lowest n p q h f =
       lowest-at (λ m. ltb 0 (timesChildOf l t m c)) 1 (recordCount t) n p (omega arith) (lt-ltb 0 _ h)
       (λ i a b. le-ltb 0 (timesChildOf l t i c) (omega (arith, f i a b)))
 
-  pub parent-none : ((i : ℕ) → 1 ≤ i → i ≤ recordCount t → timesChildOf l t i c ≡ 0) → parentOf l t c ≡ search.Nothing
+  pub parent-none : ((i : ℕ) → 1 ≤ i → i ≤ recordCount t → timesChildOf l t i c ≡ 0) → parentOf l t c ≡ Search.Nothing
   unfolding parentOf
   parent-none f =
       lowest-nothing (λ m. ltb 0 (timesChildOf l t m c)) 1 (recordCount t)
@@ -149,7 +148,7 @@ pub record Parent (l : Language) (t : List ℕ) (c : ℕ) : Type 0 where
   pub number : ℕ
   pub is-parent : IsParent l t number c
 
-pub parent-is : (l : Language) (t : List ℕ) (m c : ℕ) → parentOf l t c ≡ search.At m → IsParent l t m c
+pub parent-is : (l : Language) (t : List ℕ) (m c : ℕ) → parentOf l t c ≡ Search.At m → IsParent l t m c
 parent-is l t m c e =
     let h : (1 ≤ m) × (m < 1 + recordCount t) × (ltb 0 (timesChildOf l t m c) ≡ true) =
     subst (Outcome (λ m. ltb 0 (timesChildOf l t m c)) 1 (recordCount t)) e (parent-outcome l t c) in
@@ -212,7 +211,7 @@ module _ (l : Language) (t : List ℕ) (keeps : Passed l t) where
   child-once c p q = once-of l t c (ne-eqb c (recordCount t) (omega arith)) (keeps .shape c p (omega arith))
 
   -- a child's parent is the record that has it
-  pub parent-of-child : (m c : ℕ) → IsParent l t m c → parentOf l t c ≡ search.At m
+  pub parent-of-child : (m c : ℕ) → IsParent l t m c → parentOf l t c ≡ Search.At m
   parent-of-child m c h =
       let below : (0 < c) × (c < m) = parent-above m c h in
       parent-lowest l t c m (h .in-table .0) (h .in-table .1) (h .has-child)
@@ -244,7 +243,7 @@ module _ (l : Language) (t : List ℕ) (keeps : Passed l t) where
   pub last-no-child : timesChild l t (recordCount t) (recordCount t) ≡ 0
   last-no-child = times-none l t (recordCount t) (recordCount t) (not-child (recordCount t) (omega arith))
 
-  pub last-parent : (n : ℕ) → recordCount t ≤ n → parentOf l t n ≡ search.Nothing
+  pub last-parent : (n : ℕ) → recordCount t ≤ n → parentOf l t n ≡ Search.Nothing
   last-parent n h = parent-none l t n (not-child n h)
 
   -- every other record has one
@@ -252,11 +251,11 @@ module _ (l : Language) (t : List ℕ) (keeps : Passed l t) where
   has-parent c p q = go (parentOf l t c) (parent-outcome l t c)
     where
       go : (s : Search) → Outcome (λ m. ltb 0 (timesChildOf l t m c)) 1 (recordCount t) s → Parent l t c
-      go (search.At m) h = record {
+      go (Search.At m) h = record {
         number = m;
         is-parent = record { in-table = omega arith; has-child = ltb-true 0 (timesChildOf l t m c) (h .2) };
       }
-      go search.Nothing h =
+      go Search.Nothing h =
           absurd (omega (
             arith,
             child-once c p q,

@@ -9,8 +9,7 @@ use Rattle.rules.specs.Records.{fieldsOf, recordCount, kindOf, recordAt}
 use Rattle.rules.specs.Kinds.{Language, source}
 use Rattle.rules.specs.Checker.{parentOf, isLetOf, inScope, levelBelow, positionIn, levelOf}
 use Rattle.rules.specs.Origins.{copiesIn, copiesOf}
-use Rattle.rules.specs.declared.Search.{Search}
-use Rattle.rules.specs.declared.Search.the-variants as search
+use Rattle.rules.specs.Types.{Search}
 use Rattle.rules.proofs.lists.BooleanLaws.{eqb-swap}
 use Rattle.rules.proofs.acceptance.Sound.{Scope, startScope, adding}
 use Rattle.rules.proofs.acceptance.ParentLaws.{Passed, IsParent, parent-is, parent-above, parent-of-child}
@@ -18,20 +17,20 @@ use Rattle.rules.proofs.acceptance.ParentLaws.{last-parent}
 
 -- what record n has, d records up at most: top where none is above, and up n m of what its parent m has
 abbrev pub fromParent : {A : Type 0} → A → (ℕ → A) → Search → A
-fromParent top up search.Nothing = top
-fromParent top up (search.At m) = up m
+fromParent top up Search.Nothing = top
+fromParent top up (Search.At m) = up m
 
 unfoldable pub climb : {A : Type 0} → Language → List ℕ → A → (ℕ → ℕ → A → A) → ℕ → ℕ → A
 climb l t top up zero n = top
 climb l t top up (suc d) n = fromParent top (λ m. up n m (climb l t top up d m)) (parentOf l t n)
 
 module _ {A : Type 0} (l : Language) (t : List ℕ) (top : A) (up : ℕ → ℕ → A → A) where
-  climb-top : (d n : ℕ) → parentOf l t n ≡ search.Nothing → climb l t top up d n ≡ top
+  climb-top : (d n : ℕ) → parentOf l t n ≡ Search.Nothing → climb l t top up d n ≡ top
   unfolding climb
   climb-top zero n e = refl
   climb-top (suc d) n e = ap (fromParent top (λ m. up n m (climb l t top up d m))) e
 
-  climb-up : (d n m : ℕ) → parentOf l t n ≡ search.At m → climb l t top up (suc d) n ≡ up n m (climb l t top up d m)
+  climb-up : (d n m : ℕ) → parentOf l t n ≡ Search.At m → climb l t top up (suc d) n ≡ up n m (climb l t top up d m)
   unfolding climb
   climb-up d n m e = ap (fromParent top (λ m. up n m (climb l t top up d m))) e
 
@@ -39,15 +38,15 @@ module _ {A : Type 0} (l : Language) (t : List ℕ) (top : A) (up : ℕ → ℕ 
   -- as many as there are records after it are enough
   climb-enough : (d n : ℕ) → recordCount t ≤ n + d → climb l t top up d n ≡ climb l t top up (suc d) n
   climb-enough zero n h =
-      let e : parentOf l t n ≡ search.Nothing = last-parent l t keeps n (omega arith) in
+      let e : parentOf l t n ≡ Search.Nothing = last-parent l t keeps n (omega arith) in
       climb-top l t top up 0 n e ∙ sym (climb-top l t top up 1 n e)
   climb-enough (suc d) n h = go (parentOf l t n) refl (λ m. climb-enough d m)
     where
       go : (s : Search) → parentOf l t n ≡ s
           → ((m : ℕ) → recordCount t ≤ m + d → climb l t top up d m ≡ climb l t top up (suc d) m)
           → climb l t top up (suc d) n ≡ climb l t top up (suc (suc d)) n
-      go search.Nothing e f = climb-top l t top up (suc d) n e ∙ sym (climb-top l t top up (suc (suc d)) n e)
-      go (search.At m) e f =
+      go Search.Nothing e f = climb-top l t top up (suc d) n e ∙ sym (climb-top l t top up (suc (suc d)) n e)
+      go (Search.At m) e f =
           climb-up l t top up d n m e
           ∙ ap (up n m) (f m (omega (arith, parent-above l t keeps m n (parent-is l t m n e))))
           ∙ sym (climb-up l t top up (suc d) n m e)
@@ -79,16 +78,16 @@ one-up : (b : Bool) (s : Search) (p f g : ℕ → Bool) → ((m : ℕ) → f m �
       | true ↦ true
       | false ↦
           elim s as (λ q. Bool) [
-            | search.Nothing ↦ false
-            | search.At m ↦
+            | Search.Nothing ↦ false
+            | Search.At m ↦
                 elim (p m) as (λ q. Bool) [ true ↦ true | false ↦ f m ]
           ]
     ]
     ≡ fromParent b (λ m. b || (p m || g m)) s
-one-up true search.Nothing p f g h = refl
-one-up true (search.At m) p f g h = refl
-one-up false search.Nothing p f g h = refl
-one-up false (search.At m) p f g h = let-or-above (p m) (f m) (g m) (h m)
+one-up true Search.Nothing p f g h = refl
+one-up true (Search.At m) p f g h = refl
+one-up false Search.Nothing p f g h = refl
+one-up false (Search.At m) p f g h = let-or-above (p m) (f m) (g m) (h m)
 
 scope-climb : (l : Language) (t : List ℕ) (x d n : ℕ) → inScope l t d x n ≡ climb l t (eqb x 0) (scopeUp t x) d n
 unfolding inScope climb
@@ -136,9 +135,9 @@ adding-is ρ v x = go (eqb x v) ∙ ap (λ b. b || ρ x) (eqb-swap x v)
 
 -- ---- levels and copies, of a source table
 by-parent : {A : Type 0} (top : A) (up : ℕ → A → A) (f g : ℕ → A) → ((m : ℕ) → f m ≡ g m) → (s : Search)
-    → elim s as (λ q. A) [ search.At m ↦ up m (f m) | search.Nothing ↦ top ] ≡ fromParent top (λ m. up m (g m)) s
-by-parent top up f g h search.Nothing = refl
-by-parent top up f g h (search.At m) = ap (up m) (h m)
+    → elim s as (λ q. A) [ Search.At m ↦ up m (f m) | Search.Nothing ↦ top ] ≡ fromParent top (λ m. up m (g m)) s
+by-parent top up f g h Search.Nothing = refl
+by-parent top up f g h (Search.At m) = ap (up m) (h m)
 
 abbrev levelUp : List ℕ → ℕ → ℕ → ℕ → ℕ
 levelUp t n m k = levelBelow (kindOf t m) (positionIn (fieldsOf (recordAt t m)) n) k

@@ -40,13 +40,10 @@ use Rattle.rules.proofs.translation.SizeBound.{size-bound}
 use Rattle.rules.proofs.translation.TranslatedTables.{translatedSize, translation-accepted, translation-program}
 use Rattle.rules.proofs.lists.SearchLaws.{lowest-here, lowest-next}
 use Rattle.rules.proofs.memory.MemoryLaws.{fill-above, allFree-all, allFree-taken}
-use Rattle.rules.specs.declared.Value.the-variants as value
-use Rattle.rules.specs.declared.Search.the-variants as search
-use Rattle.rules.specs.declared.Cell.the-variants as cell
-use Rattle.rules.specs.declared.Checked.the-variants as checked
+use Rattle.rules.specs.Types.{Value, Search, Cell, Checked}
 
 -- A translation is accepted, and read back as the translated tree: it need not be emitted.
-stops-are : (rs : List Record) → check source (tableBytes rs) ≡ checked.Accepted → endings rs ≡ stops rs
+stops-are : (rs : List Record) → check source (tableBytes rs) ≡ Checked.Accepted → endings rs ≡ stops rs
 unfolding little digits wordAt stops errors.plainly errors.watchedly
 stops-are rs c =
     let t : List ℕ = tableBytes rs in
@@ -60,7 +57,7 @@ stops-are rs c =
     (translation-program t sound small)
 
 -- no bytes of a cell are worked out for a block's record
-block-is : (rs : List Record) (k : ℕ) → check source (tableBytes rs) ≡ checked.Accepted
+block-is : (rs : List Record) (k : ℕ) → check source (tableBytes rs) ≡ Checked.Accepted
     → blockAfter rs k ≡ part 8 (memoryImage (plainly rs .state)) (blockPlace (k - 1))
 unfolding blockAfter
 block-is rs k c = ap (λ (r : PlainRun). part 8 (r .memory) (blockPlace (k - 1))) (plain-is rs c)
@@ -72,20 +69,20 @@ start = startMemory (pos 7 ∷ pos 9 ∷ [])
 inLetFive : Memory
 inLetFive = withBlock start fixed 3 3 1
 
-free-at-start : (i : ℕ) → 3 ≤ i → i < cellCount → cellOf start i ≡ cell.Free
+free-at-start : (i : ℕ) → 3 ≤ i → i < cellCount → cellOf start i ≡ Cell.Free
 unfolding start startMemory
 free-at-start zero h b = absurd (omega arith)
 free-at-start (suc zero) h b = absurd (omega arith)
 free-at-start (suc (suc zero)) h b = absurd (omega arith)
-free-at-start (suc (suc (suc i))) h b = getD-replicate (cellCount - 3) i cell.Free cell.Free (omega arith)
+free-at-start (suc (suc (suc i))) h b = getD-replicate (cellCount - 3) i Cell.Free Cell.Free (omega arith)
 
 free-from-four : (i : ℕ) → 4 ≤ i → i < cellCount → isFree (cellOf inLetFive i) ≡ true
 unfolding inLetFive
 free-from-four i h b =
-    ap isFree (fill-above (start .cells) 3 1 (cell.Holds 3 value.Undefined) i cell.Free h
+    ap isFree (fill-above (start .cells) 3 1 (Cell.Holds 3 Value.Undefined) i Cell.Free h
     ∙ free-at-start i (omega arith) b)
 
-first-room : freeRun start 1 ≡ search.At 3
+first-room : freeRun start 1 ≡ Search.At 3
 unfolding start startMemory lowestRun allFree lowest
 first-room = refl
 
@@ -94,7 +91,7 @@ taken : (isFree (cellOf inLetFive 0) ≡ false) × (isFree (cellOf inLetFive 1) 
 unfolding inLetFive start startMemory
 taken = (refl, refl, refl, refl)
 
-last-room : freeRun inLetFive 1020 ≡ search.At 4
+last-room : freeRun inLetFive 1020 ≡ Search.At 4
 unfolding lowestRun
 last-room =
     let p : ℕ → Bool = λ i. isFree (cellOf inLetFive i) in
@@ -110,11 +107,11 @@ unfolding little digits wordAt flat lookUp formOf lowest recordFault makeNode no
     runBy start inLetFive
 last-fits =
     (λ i. stop (plainEnded (flow.ending (inLet 4 startVariables start 0
-    (makeAt start fixed 1 (search.At 3) (first-room i)) endBlock (λ k m f.
+    (makeAt start fixed 1 (Search.At 3) (first-room i)) endBlock (λ k m f.
     into 0 (run (new 3 (variable 5) (literal (pos 1020))) (extend startVariables 5 k) m f)))) .answer))
     ∙ (λ i. stop (plainEnded (flow.ending (next (into 0 (after 3 (extend startVariables 5 3) 0
     (storeNew inLetFive (record { name = 3; offset = pos 0 })
-    (makeAt inLetFive freeable 1020 (search.At 4) (last-room i)))))
+    (makeAt inLetFive freeable 1020 (Search.At 4) (last-room i)))))
     (λ m f. finished (endBlock m 3) f))) .answer))
 
 -- P5 to P10; P6, P7 and an offset of P5 are told where people err

@@ -28,7 +28,7 @@ use Rattle.rules.specs.Listing.{decimalDigits, recordLines, listing}
 use Rattle.rules.specs.Cases.{inputs, minus, plain, watched, stop, ending, endings, p1, listingOnPaper}
 use Rattle.rules.specs.Cases.{division, assertion, variableCell, divided, quotient, noQuotient}
 use Rattle.rules.proofs.claim.UnrefusedRuns.{plain-runs, watched-runs}
-use Rattle.rules.specs.declared.Checked.the-variants as checked
+use Rattle.rules.specs.Types.{Checked}
 
 -- "P1: source .. gives" these lines
 pub listing-of-P1 : listing (tableBytes p1) ≡ listingOnPaper
@@ -45,26 +45,26 @@ abbrev pub watchedly : List Record → Ending WatchedState
 watchedly rs = flow.ending (watchedOutcome (translation (tableBytes rs)) inputs 0)
 
 -- A run of an accepted table is its outcome: the lent memories are of the right length.
-pub plain-is : (rs : List Record) → check source (tableBytes rs) ≡ checked.Accepted
+pub plain-is : (rs : List Record) → check source (tableBytes rs) ≡ Checked.Accepted
     → plain rs ≡ plainEnded (plainly rs)
 unfolding plain digits
 plain-is rs c =
     plain-runs (tableBytes rs) inputs 0 (replicate memoryLength 0) c refl (length-replicate {A = ℕ} memoryLength 0)
 
-pub watched-is : (rs : List Record) → check target (translation (tableBytes rs)) ≡ checked.Accepted
+pub watched-is : (rs : List Record) → check target (translation (tableBytes rs)) ≡ Checked.Accepted
     → watched rs ≡ watchedEnded (watchedly rs)
 unfolding watched digits
 watched-is rs c =
     watched-runs (translation (tableBytes rs)) inputs 0 (replicate memoryLength 0) (replicate observationLength 0) c
     refl (length-replicate {A = ℕ} memoryLength 0) (length-replicate {A = ℕ} observationLength 0)
 
-pub ending-is : (rs : List Record) → check source (tableBytes rs) ≡ checked.Accepted
+pub ending-is : (rs : List Record) → check source (tableBytes rs) ≡ Checked.Accepted
     → ending rs ≡ stop (plainEnded (plainly rs) .answer)
 unfolding ending
 ending-is rs c = ap (λ (r : PlainRun). stop (r .answer)) (plain-is rs c)
 
-pub endings-are : (rs : List Record) → check source (tableBytes rs) ≡ checked.Accepted
-    → check target (translation (tableBytes rs)) ≡ checked.Accepted
+pub endings-are : (rs : List Record) → check source (tableBytes rs) ≡ Checked.Accepted
+    → check target (translation (tableBytes rs)) ≡ Checked.Accepted
     → endings rs ≡ stop (plainEnded (plainly rs) .answer) ++ stop (watchedEnded (watchedly rs) .answer)
 unfolding endings
 endings-are rs c d = λ i. ending-is rs c i ++ stop (watched-is rs d i .answer)
@@ -79,10 +79,10 @@ shown o x y z =
 
 abbrev Accepted : ℕ → ℤ → ℤ → ℤ → Type 0
 Accepted o x y z =
-    (check source (tableBytes (division o x y)) ≡ checked.Accepted)
-    × (check target (translation (tableBytes (division o x y))) ≡ checked.Accepted)
-    × (check source (tableBytes (assertion o x y z)) ≡ checked.Accepted)
-    × (check target (translation (tableBytes (assertion o x y z))) ≡ checked.Accepted)
+    (check source (tableBytes (division o x y)) ≡ Checked.Accepted)
+    × (check target (translation (tableBytes (division o x y))) ≡ Checked.Accepted)
+    × (check source (tableBytes (assertion o x y z)) ≡ Checked.Accepted)
+    × (check target (translation (tableBytes (assertion o x y z))) ≡ Checked.Accepted)
 
 shown-is : (o : ℕ) (x y z : ℤ) → Accepted o x y z → divided o x y z ≡ shown o x y z
 unfolding divided

@@ -18,7 +18,7 @@ use Rattle.rules.specs.Layout.{memoryImage, observationImage}
 use Rattle.rules.specs.Answers.{PlainRun, WatchedRun, inputsOf, plainOutcome, plainEnded, watchedOutcome}
 use Rattle.rules.specs.Answers.{watchedEnded}
 use Rattle.rules.specs.Demand3.{Agreement, Demand3}
-use Rattle.rules.specs.declared.Checked.the-variants as checked
+use Rattle.rules.specs.Types.{Checked}
 use Rattle.rules.proofs.claim.UnrefusedRuns.{plain-runs, watched-runs}
 use Rattle.rules.proofs.acceptance.Sound.{startScope, SoundStatement}
 use Rattle.rules.proofs.acceptance.Acceptance.{accepted-says}
@@ -36,7 +36,7 @@ watched-from : (t i : List ℕ) (f : ℕ) → targetProgram (translation t) ≡ 
     → watchedOutcome (translation t) i f ≡ watchedFrom (translate (sourceProgram t)) (inputsOf i) f
 watched-from t i f e = ap (λ (a : TargetStatement). watchedFrom a (inputsOf i) f) e
 
-module _ (t i : List ℕ) (f : ℕ) (c : check source t ≡ checked.Accepted) (e : inputsFault i ≡ false) where
+module _ (t i : List ℕ) (f : ℕ) (c : check source t ≡ Checked.Accepted) (e : inputsFault i ≡ false) where
   few : recordCount t ≤ sourceLimit
   few = accepted-program source t c .not-too-many
 

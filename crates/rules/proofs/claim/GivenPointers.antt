@@ -31,10 +31,7 @@ use Rattle.rules.proofs.memory.GivenNames.{IsGiven, GivenValue, CellsGi
 use Rattle.rules.proofs.claim.Start.{start-invariant}
 use Rattle.rules.proofs.claim.Inputs.{inputs-few, inputs-some}
 use Rattle.rules.proofs.claim.WholeRun.{runs-same}
-use Rattle.rules.specs.declared.Value.the-variants as value
-use Rattle.rules.specs.declared.Checked.the-variants as checked
-use Rattle.rules.specs.declared.Cell.the-variants as cell
-use Rattle.rules.specs.declared.Temporary.the-variants as temporary
+use Rattle.rules.specs.Types.{Value, Cell, Temporary, Checked}
 
 start-given : (is : List ℤ) → length is ≤ inputLimit
     → PointersGiven startScope startVariables (startMemory is) startTemporaries
@@ -42,14 +39,14 @@ unfolding startMemory
 start-given is le = record {
   invariant = start-invariant is le;
   cells =
-      also {x = cell.Holds 1 (value.Pointer (record { name = 2; offset = pos 0 }))} (omega arith, omega arith, refl)
-      (all-append (integers is) (all-replicate (cellCount - 1 - length is) cell.Free tt));
-  temporaries = all-replicate temporaryCount temporary.Empty tt;
+      also {x = Cell.Holds 1 (Value.Pointer (record { name = 2; offset = pos 0 }))} (omega arith, omega arith, refl)
+      (all-append (integers is) (all-replicate (cellCount - 1 - length is) Cell.Free tt));
+  temporaries = all-replicate temporaryCount Temporary.Empty tt;
   variables = λ x e. first x e;
 }
   where
     integers : (is₁ : List ℤ)
-        → All (CellHas (GivenValue (startMemory is))) (map (λ z. cell.Holds 2 (value.Integer z)) is₁)
+        → All (CellHas (GivenValue (startMemory is))) (map (λ z. Cell.Holds 2 (Value.Integer z)) is₁)
     integers [] = none
     integers (z ∷ is₁) = also tt (integers is₁)
 
@@ -72,13 +69,13 @@ from-start a is f h le =
     (g .cells, g .temporaries)
 
 -- every accepted target table, a hand-made one too
-pub watched-given : (t i : List ℕ) (f : ℕ) → check target t ≡ checked.Accepted → inputsFault i ≡ false
+pub watched-given : (t i : List ℕ) (f : ℕ) → check target t ≡ Checked.Accepted → inputsFault i ≡ false
     → AllGiven (ending (watchedOutcome t i f) .state)
 watched-given t i f c e =
     from-start (targetProgram t) (inputsOf i) f (accepted-program target t c .last .sound) (inputs-few i e)
 
 -- every accepted source table: its plain run leaves the memory of its translation's watched run
-pub plain-given : (t i : List ℕ) (f : ℕ) → check source t ≡ checked.Accepted → inputsFault i ≡ false
+pub plain-given : (t i : List ℕ) (f : ℕ) → check source t ≡ Checked.Accepted → inputsFault i ≡ false
     → CellsGiven (ending (plainOutcome t i f) .state)
 plain-given t i f c e =
     let sound = accepted-program source t c .last .sound in

@@ -15,16 +15,12 @@ use Rattle.rules.specs.Observation.{Observation, covers, covered, markRu
 use Rattle.rules.specs.Observation.{markCell, markAll, emptyObservation, startObservation, mirror}
 use Rattle.rules.proofs.memory.MemoryLaws.{Covering, inside, below, above, covering}
 use Rattle.rules.proofs.claim.Start.{inputCells}
-use Rattle.rules.specs.declared.Located.the-variants as located
-use Rattle.rules.specs.declared.Search.the-variants as search
-use Rattle.rules.specs.declared.Block.the-variants as block
-use Rattle.rules.specs.declared.Recorded.the-variants as recorded
-use Rattle.rules.specs.declared.Cell.the-variants as cell
+use Rattle.rules.specs.Types.{Located, Search, Block, Recorded, Cell}
 
 -- block 1 recorded and marked
 abbrev first : Observation
 first = record {
-  blocks = recorded.Live 0 1 ∷ replicate (nameCount - 1) recorded.Unused;
+  blocks = Recorded.Live 0 1 ∷ replicate (nameCount - 1) Recorded.Unused;
   marks = true ∷ replicate (cellCount - 1) false;
 }
 
@@ -35,9 +31,9 @@ first-is = refl
 -- block 2 of n cells recorded
 abbrev second : ℕ → List Bool → Observation
 second n marks =
-    record { blocks = recorded.Live 0 1 ∷ recorded.Live 1 n ∷ replicate (nameCount - 2) recorded.Unused; marks = marks }
+    record { blocks = Recorded.Live 0 1 ∷ Recorded.Live 1 n ∷ replicate (nameCount - 2) Recorded.Unused; marks = marks }
 
-unused-covered : (r i : ℕ) → covered (replicate r recorded.Unused) i ≡ false
+unused-covered : (r i : ℕ) → covered (replicate r Recorded.Unused) i ≡ false
 unfolding covered
 unused-covered zero i = refl
 unused-covered (suc r) i = unused-covered r i
@@ -45,14 +41,14 @@ unused-covered (suc r) i = unused-covered r i
 -- every mark but the first is free
 free-after : (i : ℕ) → 1 ≤ i → not (covered (first .blocks) i) ≡ true
 unfolding covered
-free-after i h = go (covers (recorded.Live 0 1) i) refl (covering 0 1 i)
+free-after i h = go (covers (Recorded.Live 0 1) i) refl (covering 0 1 i)
   where
-    go : (b : Bool) → covers (recorded.Live 0 1) i ≡ b → Covering 0 1 i b → not (covered (first .blocks) i) ≡ true
+    go : (b : Bool) → covers (Recorded.Live 0 1) i ≡ b → Covering 0 1 i b → not (covered (first .blocks) i) ≡ true
     go true e (inside p q) = absurd (omega arith)
     go false e (below p) = absurd (omega arith)
     go false e (above p) =
         ap (λ (c : Bool). not
-        (elim c [ true ↦ true | false ↦ covered (replicate (nameCount - 1) recorded.Unused) i ])) e
+        (elim c [ true ↦ true | false ↦ covered (replicate (nameCount - 1) Recorded.Unused) i ])) e
         ∙ ap not (unused-covered (nameCount - 1) i)
 
 allFree-from : (p : ℕ → Bool) (s n : ℕ) → ((i : ℕ) → s ≤ i → p i ≡ true) → allFree p s n ≡ true
@@ -62,17 +58,17 @@ allFree-from p s (suc n) h =
     ap (λ (c : Bool). elim c [ true ↦ allFree p (suc s) n | false ↦ false ]) (h s (omega arith))
     ∙ allFree-from p (suc s) n (λ i l. h i (omega arith))
 
-lowest-second : (p : ℕ → Bool) (k : ℕ) → p 0 ≡ false → p 1 ≡ true → lowest p 0 (suc (suc k)) ≡ search.At 1
+lowest-second : (p : ℕ → Bool) (k : ℕ) → p 0 ≡ false → p 1 ≡ true → lowest p 0 (suc (suc k)) ≡ Search.At 1
 unfolding lowest
 lowest-second p k a b =
-    ap (λ (c : Bool). elim c [ true ↦ search.At 0 | false ↦ lowest p 1 (suc k) ]) a
-    ∙ ap (λ (c : Bool). elim c [ true ↦ search.At 1 | false ↦ lowest p 2 k ]) b
+    ap (λ (c : Bool). elim c [ true ↦ Search.At 0 | false ↦ lowest p 1 (suc k) ]) a
+    ∙ ap (λ (c : Bool). elim c [ true ↦ Search.At 1 | false ↦ lowest p 2 k ]) b
 
 first-taken : (n : ℕ) → allFree (λ i. not (covered (first .blocks) i)) 0 (suc n) ≡ false
 unfolding allFree covered
 first-taken n = refl
 
-second-run : (n : ℕ) → suc n ≤ inputLimit → markRun first (suc n) ≡ search.At 1
+second-run : (n : ℕ) → suc n ≤ inputLimit → markRun first (suc n) ≡ Search.At 1
 unfolding lowestRun
 second-run n h =
     let enough : suc cellCount - suc n ≡ suc (suc (1022 - n)) = omega arith in
@@ -87,7 +83,7 @@ fill-same (suc r) (suc s) n x = ap (λ l. x ∷ l) (fill-same r s n x)
 second-is : (n : ℕ) → suc n ≤ inputLimit
     → recordBlock first 2 (suc n) ≡ second (suc n) (true ∷ replicate (cellCount - 1) false)
 second-is n h =
-    ap (λ r. kept first (storeAt first 2 (suc n) recorded.Unused r)) (second-run n h)
+    ap (λ r. kept first (storeAt first 2 (suc n) Recorded.Unused r)) (second-run n h)
     ∙ ap (λ l. second (suc n) (true ∷ l)) (fill-same (cellCount - 1) 0 (suc n) false)
 
 -- the marks after j of block 2's cells are marked
@@ -103,7 +99,7 @@ unfolding markAll
 marked n zero h le = refl
 marked n (suc j) h le =
     ap (λ o. markCell o 2 j) (marked n j (omega arith) le)
-    ∙ ap (λ b. kept o₁ (markAt o₁ (cond b (located.At (1 + j)) located.Outside))) (lt-ltb j n (omega arith))
+    ∙ ap (λ b. kept o₁ (markAt o₁ (cond b (Located.At (1 + j)) Located.Outside))) (lt-ltb j n (omega arith))
     ∙ ap (λ i. second n (set (true ∷ (replicate j true ++ replicate (cellCount - 1 - j) false)) i true)) one-more
     ∙ ap (λ r. second n (true ∷ set (replicate j true ++ replicate r false) j true)) left
     ∙ ap (λ l. second n (true ∷ l)) (mark-next j (cellCount - 1 - suc j))
@@ -123,7 +119,7 @@ map-replicate g (suc r) x = ap (λ l. g x ∷ l) (map-replicate g r x)
 
 input-marks : (is : List ℤ) (r : ℕ) → map isInitialised (inputCells is r)
     ≡ replicate (length is) true ++ replicate r false
-input-marks [] r = map-replicate isInitialised r cell.Free
+input-marks [] r = map-replicate isInitialised r Cell.Free
 input-marks (z ∷ is) r = ap (λ l. true ∷ l) (input-marks is r)
 
 mirror-start : (is : List ℤ)
@@ -131,7 +127,7 @@ mirror-start : (is : List ℤ)
     ≡ second (length is) (true ∷ (replicate (length is) true ++ replicate (cellCount - 1 - length is) false))
 unfolding startMemory
 mirror-start is = λ i. record {
-  blocks = recorded.Live 0 1 ∷ recorded.Live 1 (length is) ∷ map-replicate recordedOf (nameCount - 2) block.Unused i;
+  blocks = Recorded.Live 0 1 ∷ Recorded.Live 1 (length is) ∷ map-replicate recordedOf (nameCount - 2) Block.Unused i;
   marks = true ∷ input-marks is (cellCount - 1 - length is) i;
 }
 

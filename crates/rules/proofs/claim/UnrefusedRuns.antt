@@ -14,8 +14,7 @@ use Rattle.rules.specs.Flow.{ending}
 use Rattle.rules.specs.Answers.{refusals, PlainRun, WatchedRun, plainOutcome, plainRefused, plainEnded, plainAs}
 use Rattle.rules.specs.Answers.{plainBy, runPlain, watchedOutcome, watchedRefused, watchedEnded, watchedAs}
 use Rattle.rules.specs.Answers.{watchedBy, runWatched}
-use Rattle.rules.specs.declared.Checked.{Checked}
-use Rattle.rules.specs.declared.Checked.the-variants as checked
+use Rattle.rules.specs.Types.{Checked}
 use Rattle.rules.proofs.lists.Among.{Among}
 use Rattle.rules.proofs.acceptance.CheckLaws.{Numbered, check-numbered}
 
@@ -24,13 +23,13 @@ right-length : (l : List ℕ) (n : ℕ) → length l ≡ n → not (eqb (length 
 right-length l n e = ap not (eq-eqb (length l) n e)
 
 -- a run that is not refused
-pub plain-runs : (t i : List ℕ) (f : ℕ) (memory : List ℕ) → check source t ≡ checked.Accepted → inputsFault i ≡ false
+pub plain-runs : (t i : List ℕ) (f : ℕ) (memory : List ℕ) → check source t ≡ Checked.Accepted → inputsFault i ≡ false
     → length memory ≡ memoryLength → runPlain t i f memory ≡ plainEnded (ending (plainOutcome t i f))
 plain-runs t i f memory c e h =
     ap (λ x. plainBy x t i f memory) c
     ∙ (λ k. plainAs (refuseIf 9 (e k) otherwise refuseIf 21 (right-length memory memoryLength h k)) t i f memory)
 
-pub watched-runs : (t i : List ℕ) (f : ℕ) (memory observation : List ℕ) → check target t ≡ checked.Accepted
+pub watched-runs : (t i : List ℕ) (f : ℕ) (memory observation : List ℕ) → check target t ≡ Checked.Accepted
     → inputsFault i ≡ false → length memory ≡ memoryLength → length observation ≡ observationLength
     → runWatched t i f memory observation ≡ watchedEnded (ending (watchedOutcome t i f))
 watched-runs t i f memory observation c e h k =
@@ -55,8 +54,8 @@ plain-answered t i f memory = by-check (check source t) (check-numbered source t
     by-tests false false = ran
 
     by-check : (c : Checked) → Numbered c → PlainAnswered t i f memory (plainBy c t i f memory)
-    by-check (checked.Refused k n) h = refused h
-    by-check checked.Accepted h = by-tests (inputsFault i) (memoryFault memory)
+    by-check (Checked.Refused k n) h = refused h
+    by-check Checked.Accepted h = by-tests (inputsFault i) (memoryFault memory)
 
 pub data WatchedAnswered (t i : List ℕ) (f : ℕ) (memory observation : List ℕ) : WatchedRun → Type 0 where
   refused : {k n : ℕ} → Among refusals k
@@ -77,5 +76,5 @@ watched-answered t i f memory observation = by-check (check target t) (check-num
 
     by-check : (c : Checked) → Numbered c
         → WatchedAnswered t i f memory observation (watchedBy c t i f memory observation)
-    by-check (checked.Refused k n) h = refused h
-    by-check checked.Accepted h = by-tests (inputsFault i) (memoryFault memory) (observationFault observation)
+    by-check (Checked.Refused k n) h = refused h
+    by-check Checked.Accepted h = by-tests (inputsFault i) (memoryFault memory) (observationFault observation)

@@ -27,7 +27,7 @@ use Rattle.rules.proofs.simulation.Simulation.{simulates}
 use Rattle.rules.proofs.claim.Start.{start-invariant}
 use Rattle.rules.proofs.claim.StartObservation.{start-mirrors}
 use Rattle.rules.proofs.memory.Orderly.{Orderly, plain-orderly, watched-orderly}
-use Rattle.rules.specs.declared.Temporary.the-variants as temporary
+use Rattle.rules.specs.Types.{Temporary}
 
 -- a plain and a watched run come out alike
 pub record Same (p : Ending Memory) (w : Ending WatchedState) : Type 0 where
@@ -75,7 +75,7 @@ runs-same a σ is f d h le =
     rw (start-mirrors is h le)
     (same-of
     (simulates a σ startVariables (startMemory is) startTemporaries f d (start-invariant is le)
-    (length-replicate 64 temporary.Empty))
+    (length-replicate 64 Temporary.Empty))
     (run-endings a startVariables (startMemory is) f))
 
 -- what holds of the execution memory after a run, of the translation or of any other target statement

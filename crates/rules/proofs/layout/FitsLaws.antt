@@ -21,19 +21,10 @@ use Rattle.rules.proofs.lists.Lists.{all-map, length-fill, length-setNa
 use Rattle.rules.specs.Fits.{FitsName, FitsPlaces, FitsBlock, FitsRecorded, FitsCell, FitsMemory, All, also}
 use Rattle.rules.specs.Fits.{FitsObservation, InsideRecorded, InsideBlock, InsideMemory}
 use Rattle.rules.specs.Fits.{InsideObservation}
-use Rattle.rules.specs.declared.Value.the-variants as value
-use Rattle.rules.specs.declared.Pointer.{Pointer}
-use Rattle.rules.specs.declared.Located.{Located}
-use Rattle.rules.specs.declared.Located.the-variants as located
-use Rattle.rules.specs.declared.Search.the-variants as search
-use Rattle.rules.specs.declared.Block.the-variants as block
-use Rattle.rules.specs.declared.Recorded.{Recorded}
-use Rattle.rules.specs.declared.Recorded.the-variants as recorded
-use Rattle.rules.specs.declared.Cell.{Cell}
-use Rattle.rules.specs.declared.Cell.the-variants as cell
+use Rattle.rules.specs.Types.{Pointer, Value, Located, Search, Block, Recorded, Cell}
 
 -- ---- what a search finds is in range
-pub nextName-fits : (m : Memory) (k : ℕ) → nextName m ≡ search.At k → FitsName k
+pub nextName-fits : (m : Memory) (k : ℕ) → nextName m ≡ Search.At k → FitsName k
 nextName-fits m k e =
     let h = subst (Outcome (λ j. isUnused (blockOf m j)) 1 nameCount) e (lowest-outcome _ 1 nameCount) in
     omega (arith, h .0, h .1)
@@ -55,7 +46,7 @@ pub withBlock-fits : (m : Memory) (u : Use) (k first n : ℕ) → FitsMemory m �
     → FitsMemory (withBlock m u k first n)
 withBlock-fits m u k first n h l r = record {
   block-count = length-setNamed (m .blocks) k (blockFor u first n) ∙ h .block-count;
-  cell-count = length-fill (m .cells) first n (cell.Holds k value.Undefined) ∙ h .cell-count;
+  cell-count = length-fill (m .cells) first n (Cell.Holds k Value.Undefined) ∙ h .cell-count;
   blocks-fit = all-setNamed (h .blocks-fit) k (made-fits u);
   cells-fit = all-fill (h .cells-fit) first n (l, tt);
 }
@@ -79,23 +70,23 @@ pub endBlock-fits : (m : Memory) (k : ℕ) → FitsMemory m → FitsMemory (endB
 endBlock-fits m k h = of (recordedOf (blockOf m k))
   where
     of : (b : Recorded) → FitsMemory (withoutCells m k b)
-    of recorded.Unused = h
-    of (recorded.Live first n) = record {
-      block-count = length-setNamed (m .blocks) k block.Dead ∙ h .block-count;
-      cell-count = length-fill (m .cells) first n cell.Free ∙ h .cell-count;
+    of Recorded.Unused = h
+    of (Recorded.Live first n) = record {
+      block-count = length-setNamed (m .blocks) k Block.Dead ∙ h .block-count;
+      cell-count = length-fill (m .cells) first n Cell.Free ∙ h .cell-count;
       blocks-fit = all-setNamed (h .blocks-fit) k tt;
       cells-fit = all-fill (h .cells-fit) first n tt;
     }
-    of recorded.Dead = h
+    of Recorded.Dead = h
 
 pub endBlock-inside : (m : Memory) (k : ℕ) → InsideMemory m → InsideMemory (endBlock m k)
 endBlock-inside m k h =
     record { memory-fits = endBlock-fits m k (h .memory-fits); blocks-inside = of (recordedOf (blockOf m k)) }
   where
     of : (b : Recorded) → All InsideBlock (withoutCells m k b .blocks)
-    of recorded.Unused = h .blocks-inside
-    of (recorded.Live first n) = all-setNamed (h .blocks-inside) k tt
-    of recorded.Dead = h .blocks-inside
+    of Recorded.Unused = h .blocks-inside
+    of (Recorded.Live first n) = all-setNamed (h .blocks-inside) k tt
+    of Recorded.Dead = h .blocks-inside
 
 abbrev pub InRange : ℤ → Type 0
 InRange z = inRange z ≡ true
@@ -104,27 +95,27 @@ pub startMemory-fits : (inputs : List ℤ) → All InRange inputs → length inp
     → FitsMemory (startMemory inputs)
 unfolding startMemory
 startMemory-fits inputs h l = record {
-  block-count = ap (λ (n : ℕ). suc (suc n)) (length-replicate (nameCount - 2) block.Unused);
+  block-count = ap (λ (n : ℕ). suc (suc n)) (length-replicate (nameCount - 2) Block.Unused);
   cell-count = counted;
   blocks-fit =
-      also {x = block.Fixed 0 1} (omega arith, omega arith) (also {x = block.Fixed 1 (length inputs)}
-      (omega arith, omega arith) (all-replicate (nameCount - 2) block.Unused tt));
-  cells-fit = also {x = cell.Holds 1 (value.Pointer (record { name = 2; offset = pos 0 }))}
+      also {x = Block.Fixed 0 1} (omega arith, omega arith) (also {x = Block.Fixed 1 (length inputs)}
+      (omega arith, omega arith) (all-replicate (nameCount - 2) Block.Unused tt));
+  cells-fit = also {x = Cell.Holds 1 (Value.Pointer (record { name = 2; offset = pos 0 }))}
       (omega arith, (omega arith, refl)) (all-append
-      (all-map (λ z. cell.Holds 2 (value.Integer z)) (λ z e. (omega arith, e)) h)
-      (all-replicate (cellCount - 1 - length inputs) cell.Free tt));
+      (all-map (λ z. Cell.Holds 2 (Value.Integer z)) (λ z e. (omega arith, e)) h)
+      (all-replicate (cellCount - 1 - length inputs) Cell.Free tt));
 }
   where
     filled : List Cell
-    filled = map (λ z. cell.Holds 2 (value.Integer z)) inputs
+    filled = map (λ z. Cell.Holds 2 (Value.Integer z)) inputs
 
-    counted : suc (length (filled ++ replicate (cellCount - 1 - length inputs) cell.Free)) ≡ cellCount
+    counted : suc (length (filled ++ replicate (cellCount - 1 - length inputs) Cell.Free)) ≡ cellCount
     counted =
         omega (
           arith,
-          length-append filled (replicate (cellCount - 1 - length inputs) cell.Free),
-          length-map inputs (λ z. cell.Holds 2 (value.Integer z)),
-          length-replicate (cellCount - 1 - length inputs) cell.Free,
+          length-append filled (replicate (cellCount - 1 - length inputs) Cell.Free),
+          length-map inputs (λ z. Cell.Holds 2 (Value.Integer z)),
+          length-replicate (cellCount - 1 - length inputs) Cell.Free,
         )
 
 pub startMemory-inside : (inputs : List ℤ) → All InRange inputs → length inputs ≤ inputLimit
@@ -132,8 +123,8 @@ pub startMemory-inside : (inputs : List ℤ) → All InRange inputs → length i
 unfolding startMemory
 startMemory-inside inputs h l = record {
   memory-fits = startMemory-fits inputs h l;
-  blocks-inside = also {x = block.Fixed 0 1} (omega arith) (also {x = block.Fixed 1 (length inputs)} (omega arith)
-      (all-replicate (nameCount - 2) block.Unused tt));
+  blocks-inside = also {x = Block.Fixed 0 1} (omega arith) (also {x = Block.Fixed 1 (length inputs)} (omega arith)
+      (all-replicate (nameCount - 2) Block.Unused tt));
 }
 
 -- ---- the observation memory
@@ -162,28 +153,28 @@ marked-fits o i h = record {
 
 -- ---- where a pointer leads is inside
 abbrev LeadsInside : Located → Type 0
-LeadsInside (located.At i) = i < cellCount
-LeadsInside located.Dead = Unit {0}
-LeadsInside located.Outside = Unit {0}
+LeadsInside (Located.At i) = i < cellCount
+LeadsInside Located.Dead = Unit {0}
+LeadsInside Located.Outside = Unit {0}
 
 locatedIn-inside : (b : Recorded) (z : ℤ) → InsideRecorded b → LeadsInside (locatedIn b z)
-locatedIn-inside recorded.Unused z h = tt
-locatedIn-inside (recorded.Live first n) (pos o) h = pick (ltb o n) refl
+locatedIn-inside Recorded.Unused z h = tt
+locatedIn-inside (Recorded.Live first n) (pos o) h = pick (ltb o n) refl
   where
-    pick : (t : Bool) → ltb o n ≡ t → LeadsInside (cond t (located.At (first + o)) located.Outside)
+    pick : (t : Bool) → ltb o n ≡ t → LeadsInside (cond t (Located.At (first + o)) Located.Outside)
     pick true e = omega (arith, ltb-true o n e)
     pick false e = tt
-locatedIn-inside (recorded.Live first n) (negsuc o) h = tt
-locatedIn-inside recorded.Dead z h = tt
+locatedIn-inside (Recorded.Live first n) (negsuc o) h = tt
+locatedIn-inside Recorded.Dead z h = tt
 
-pub locate-inside : (m : Memory) (p : Pointer) (i : ℕ) → InsideMemory m → locate m p ≡ located.At i → i < cellCount
+pub locate-inside : (m : Memory) (p : Pointer) (i : ℕ) → InsideMemory m → locate m p ≡ Located.At i → i < cellCount
 unfolding locate
 locate-inside m p i h e =
     subst LeadsInside e (locatedIn-inside (recordedOf (blockOf m (p .name))) (p .offset)
-    (all-named (h .blocks-inside) (p .name) block.Dead tt))
+    (all-named (h .blocks-inside) (p .name) Block.Dead tt))
 
 pub locateMark-inside : (o : Observation) (p : Pointer) (i : ℕ) → InsideObservation o
-    → locateMark o p ≡ located.At i → i < cellCount
+    → locateMark o p ≡ Located.At i → i < cellCount
 locateMark-inside o p i h e =
     subst LeadsInside e (locatedIn-inside (recordOf o (p .name)) (p .offset)
-    (all-named (h .records-inside) (p .name) recorded.Dead tt))
+    (all-named (h .records-inside) (p .name) Recorded.Dead tt))

@@ -19,17 +19,7 @@ use Rattle.rules.proofs.runs.EvaluatedValues.{CellHas, addressOf-has, e
 use Rattle.rules.proofs.lists.Lists.{all-getD, all-named}
 use Rattle.rules.specs.Fits.{FitsName, FitsPointer, FitsValue, FitsRecorded, FitsCell, FitsTemporary}
 use Rattle.rules.specs.Fits.{FitsMemory, FitsObservation}
-use Rattle.rules.specs.declared.Pointer.{Pointer}
-use Rattle.rules.specs.declared.Value.{Value}
-use Rattle.rules.specs.declared.Evaluated.{Evaluated}
-use Rattle.rules.specs.declared.Evaluated.the-variants as evaluated
-use Rattle.rules.specs.declared.Found.{Found}
-use Rattle.rules.specs.declared.Recorded.{Recorded}
-use Rattle.rules.specs.declared.Recorded.the-variants as recorded
-use Rattle.rules.specs.declared.Cell.{Cell}
-use Rattle.rules.specs.declared.Cell.the-variants as cell
-use Rattle.rules.specs.declared.Temporary.{Temporary}
-use Rattle.rules.specs.declared.Temporary.the-variants as temporaries
+use Rattle.rules.specs.Types.{Pointer, Value, Evaluated, Found, Recorded, Cell, Temporary}
 
 abbrev pub FitsEvaluated : Evaluated → Type 0
 FitsEvaluated e = Gives FitsValue AnyNumber e
@@ -52,9 +42,9 @@ operated-fits o a b g h = operated-gives FitsValue AnyNumber (λ z e. e) moved-f
 -- queries
 ofLive-fits : (b : Recorded) (f : ℕ → Value) → FitsRecorded b → ((n : ℕ) → n < 65536 → FitsValue (f n))
     → FitsEvaluated (ofLive b f)
-ofLive-fits recorded.Unused f h g = tt
-ofLive-fits (recorded.Live first n) f h g = g n (h .1)
-ofLive-fits recorded.Dead f h g = tt
+ofLive-fits Recorded.Unused f h g = tt
+ofLive-fits (Recorded.Live first n) f h g = g n (h .1)
+ofLive-fits Recorded.Dead f h g = tt
 
 queried-fits : (q : Query) (b : Recorded) (marked : ℕ → Bool) (p : Pointer) → FitsRecorded b → FitsPointer p
     → FitsEvaluated (queried q b marked p)
@@ -68,30 +58,30 @@ queried-fits blockLength b marked p h k = ofLive-fits b _ h (λ n l. lt-ltb n (2
 pub queryObservation-fits : (q : Query) (o : Observation) (v : Value) → FitsObservation o → FitsValue v
     → FitsEvaluated (queryObservation q o v)
 queryObservation-fits q o v h k =
-    on-pointer FitsEvaluated AnyNumber evaluated.Stopped (λ c x. tt) FitsValue v _ tt k (λ p l.
+    on-pointer FitsEvaluated AnyNumber Evaluated.Stopped (λ c x. tt) FitsValue v _ tt k (λ p l.
     queried-fits q (recordOf o (p .name)) (λ i. isMarked o i) p
-    (all-named (h .records-fit) (p .name) recorded.Dead tt) l)
+    (all-named (h .records-fit) (p .name) Recorded.Dead tt) l)
 
 pub opposite-fits : (v : Value) → FitsEvaluated (opposite v)
 opposite-fits v = opposite-gives FitsValue AnyNumber (λ z e. e) moved-fits (λ c h. tt) v
 
 -- temporaries, places and expressions
 pub held-fits : (t : Temporary) → FitsTemporary t → FitsEvaluated (held t)
-held-fits temporaries.Empty h = tt
-held-fits (temporaries.Holds v) h = h
+held-fits Temporary.Empty h = tt
+held-fits (Temporary.Holds v) h = h
 
 pub addressOf-fits : (f : Found) → FoundFits f → FitsEvaluated (addressOf f)
 addressOf-fits f h = addressOf-has FitsValue f h
 
 cell-fits : (c : Cell) → FitsCell c → CellHas FitsValue c
-cell-fits cell.Free h = tt
-cell-fits (cell.Holds o v) h = h .1
+cell-fits Cell.Free h = tt
+cell-fits (Cell.Holds o v) h = h .1
 
 -- N is what a temporary's name keeps, of no account here
 module _ {T : Type 0} (N : T → Type 0) (τ : Holding T) (holding : (t : T) → FitsEvaluated (held (τ t))) (ρ : Variables)
     (names : (x : ℕ) → FitsName (ρ x)) (m : Memory) (fits : FitsMemory m) (σ : Scope) where
   cells : (i : ℕ) → CellHas FitsValue (cellOf m i)
-  cells i = cell-fits (cellOf m i) (all-getD (fits .cells-fit) i cell.Free tt)
+  cells i = cell-fits (cellOf m i) (all-getD (fits .cells-fit) i Cell.Free tt)
 
   pub evaluate-fits : (e : Expression T) → SoundExpression e N σ → FitsEvaluated (evaluate e τ ρ m)
   evaluate-fits e h =

@@ -15,9 +15,7 @@ use Rattle.rules.specs.Layout.{blockPlace, cellPlace, markPlace}
 use Rattle.rules.proofs.lists.Rows.{put-left, put-right, length-flat, flat-put}
 use Rattle.rules.proofs.layout.LayoutLaws.{length-blockBytes, length-recordedBytes, length-cellBytes}
 use Rattle.rules.proofs.layout.LayoutLaws.{length-markBytes}
-use Rattle.rules.specs.declared.Block.{Block}
-use Rattle.rules.specs.declared.Recorded.{Recorded}
-use Rattle.rules.specs.declared.Cell.{Cell}
+use Rattle.rules.specs.Types.{Block, Recorded, Cell}
 
 -- rows of width v and then rows of width w: a put of one of the first, and of one of the others
 module _ {A B : Type 0} (f : A → List ℕ) (v : ℕ) (f-wide : (x : A) → length (f x) ≡ v)

@@ -19,9 +19,7 @@ use Rattle.rules.proofs.lists.RunLaws.{run-bound}
 use Rattle.rules.proofs.layout.FitsLaws.{nextName-fits, setCell-fits, setCell-inside}
 use Rattle.rules.proofs.layout.FitsLaws.{withBlock-fits, withBlock-inside, endBlock-fits, endBlock-inside}
 use Rattle.rules.proofs.layout.FitsLaws.{withMarks-fits, withMarks-inside, marked-fits}
-use Rattle.rules.specs.declared.Search.the-variants as search
-use Rattle.rules.specs.declared.Recorded.the-variants as recorded
-use Rattle.rules.specs.declared.Cell.{Cell}
+use Rattle.rules.specs.Types.{Search, Recorded, Cell}
 
 pub record MemoryInvariant (J : Memory → Type 0) : Type 0 where
   pub fitting : (m : Memory) → J m → FitsMemory m
@@ -50,7 +48,7 @@ inside-invariant = record {
   ending = endBlock-inside;
 }
 
-markRun-places : (o : Observation) (n first : ℕ) → markRun o n ≡ search.At first → first + n ≤ cellCount
+markRun-places : (o : Observation) (n first : ℕ) → markRun o n ≡ Search.At first → first + n ≤ cellCount
 markRun-places o n first e = run-bound _ n first e
 
 pub fits-observation-invariant : ObservationInvariant FitsObservation
@@ -59,8 +57,8 @@ fits-observation-invariant = record {
   calls = record {
     storing = λ o k first n h d e.
         let r = markRun-places o n first e in
-        withMarks-fits o k (recorded.Live first n) first n h (omega arith, omega arith);
-    deleting = λ o k first n h d. withMarks-fits o k recorded.Dead first n h tt;
+        withMarks-fits o k (Recorded.Live first n) first n h (omega arith, omega arith);
+    deleting = λ o k first n h d. withMarks-fits o k Recorded.Dead first n h tt;
     marking = λ o p i h d. marked-fits o i h;
   };
 }
@@ -71,8 +69,8 @@ inside-observation-invariant = record {
   calls = record {
     storing = λ o k first n h d e.
         let r = markRun-places o n first e in
-        withMarks-inside o k (recorded.Live first n) first n h (omega arith, omega arith) r;
-    deleting = λ o k first n h d. withMarks-inside o k recorded.Dead first n h tt tt;
+        withMarks-inside o k (Recorded.Live first n) first n h (omega arith, omega arith) r;
+    deleting = λ o k first n h d. withMarks-inside o k Recorded.Dead first n h tt tt;
     marking = λ o p i h d. record {
       observation-fits = marked-fits o i (h .observation-fits);
       records-inside = h .records-inside;
@@ -95,11 +93,11 @@ makeBlock-keeps J v m u n h =
 pub empty-inside : InsideObservation emptyObservation
 empty-inside = record {
   observation-fits = record {
-    record-count = length-replicate nameCount recorded.Unused;
+    record-count = length-replicate nameCount Recorded.Unused;
     mark-count = length-replicate cellCount false;
-    records-fit = all-replicate nameCount recorded.Unused tt;
+    records-fit = all-replicate nameCount Recorded.Unused tt;
   };
-  records-inside = all-replicate nameCount recorded.Unused tt;
+  records-inside = all-replicate nameCount Recorded.Unused tt;
 }
 
 pub startObservation-inside : (n : ℕ) → InsideObservation (startObservation n)

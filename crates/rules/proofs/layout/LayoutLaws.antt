@@ -22,13 +22,7 @@ use Rattle.rules.proofs.lists.WordLaws.{bytes-digits}
 use Rattle.rules.proofs.lists.Rows.{tabulate-list, length-flat, row-byte, row-word}
 use Rattle.rules.proofs.lists.Lists.{all-getD}
 use Rattle.rules.specs.Fits.{FitsBlock, FitsRecorded, FitsCell, FitsMemory, FitsObservation, All, none, also}
-use Rattle.rules.specs.declared.Value.the-variants as value
-use Rattle.rules.specs.declared.Block.{Block}
-use Rattle.rules.specs.declared.Block.the-variants as block
-use Rattle.rules.specs.declared.Recorded.{Recorded}
-use Rattle.rules.specs.declared.Recorded.the-variants as recorded
-use Rattle.rules.specs.declared.Cell.{Cell}
-use Rattle.rules.specs.declared.Cell.the-variants as cell
+use Rattle.rules.specs.Types.{Value, Block, Recorded, Cell}
 
 -- ---- one record
 length-record : (s first n : ℕ) → length (blockRecord s first n) ≡ 8
@@ -37,23 +31,23 @@ length-record s first n = refl
 
 pub length-blockBytes : (b : Block) → length (blockBytes b) ≡ 8
 unfolding blockBytes
-length-blockBytes block.Unused = length-record 0 0 0
-length-blockBytes (block.Fixed first n) = length-record 1 first n
-length-blockBytes (block.Freeable first n) = length-record 2 first n
-length-blockBytes block.Dead = length-record 3 0 0
+length-blockBytes Block.Unused = length-record 0 0 0
+length-blockBytes (Block.Fixed first n) = length-record 1 first n
+length-blockBytes (Block.Freeable first n) = length-record 2 first n
+length-blockBytes Block.Dead = length-record 3 0 0
 
 pub length-recordedBytes : (b : Recorded) → length (recordedBytes b) ≡ 8
 unfolding recordedBytes
-length-recordedBytes recorded.Unused = length-record 0 0 0
-length-recordedBytes (recorded.Live first n) = length-record 1 first n
-length-recordedBytes recorded.Dead = length-record 2 0 0
+length-recordedBytes Recorded.Unused = length-record 0 0 0
+length-recordedBytes (Recorded.Live first n) = length-record 1 first n
+length-recordedBytes Recorded.Dead = length-record 2 0 0
 
 pub length-cellBytes : (c : Cell) → length (cellBytes c) ≡ 16
 unfolding cellBytes digits
-length-cellBytes cell.Free = refl
-length-cellBytes (cell.Holds o value.Undefined) = refl
-length-cellBytes (cell.Holds o (value.Integer z)) = refl
-length-cellBytes (cell.Holds o (value.Pointer p)) = refl
+length-cellBytes Cell.Free = refl
+length-cellBytes (Cell.Holds o Value.Undefined) = refl
+length-cellBytes (Cell.Holds o (Value.Integer z)) = refl
+length-cellBytes (Cell.Holds o (Value.Pointer p)) = refl
 
 pub length-markBytes : (b : Bool) → length (markBytes b) ≡ 1
 length-markBytes b = refl
@@ -69,30 +63,30 @@ length-back s first n h = digits-value 2 n h
 block-back : (b : Block) → FitsBlock b
     → blockFrom (getD (blockBytes b) 0 0) (wordAt 2 (blockBytes b) 2) (wordAt 2 (blockBytes b) 4) ≡ b
 unfolding blockBytes
-block-back block.Unused h = refl
-block-back (block.Fixed first n) h =
-    ap₂ block.Fixed (first-back 1 first n (h .0)) (length-back 1 first n (h .1))
-block-back (block.Freeable first n) h =
-    ap₂ block.Freeable (first-back 2 first n (h .0)) (length-back 2 first n (h .1))
-block-back block.Dead h = refl
+block-back Block.Unused h = refl
+block-back (Block.Fixed first n) h =
+    ap₂ Block.Fixed (first-back 1 first n (h .0)) (length-back 1 first n (h .1))
+block-back (Block.Freeable first n) h =
+    ap₂ Block.Freeable (first-back 2 first n (h .0)) (length-back 2 first n (h .1))
+block-back Block.Dead h = refl
 
 recorded-back : (b : Recorded) → FitsRecorded b
     → recordedFrom (getD (recordedBytes b) 0 0) (wordAt 2 (recordedBytes b) 2) (wordAt 2 (recordedBytes b) 4) ≡ b
 unfolding recordedBytes
-recorded-back recorded.Unused h = refl
-recorded-back (recorded.Live first n) h =
-    ap₂ recorded.Live (first-back 1 first n (h .0)) (length-back 1 first n (h .1))
-recorded-back recorded.Dead h = refl
+recorded-back Recorded.Unused h = refl
+recorded-back (Recorded.Live first n) h =
+    ap₂ Recorded.Live (first-back 1 first n (h .0)) (length-back 1 first n (h .1))
+recorded-back Recorded.Dead h = refl
 
 cell-back : (c : Cell) → FitsCell c
     → cellFrom (getD (cellBytes c) 0 0) (getD (cellBytes c) 1 0) (getD (cellBytes c) 2 0)
     (integerAt (cellBytes c) 8) ≡ c
 unfolding cellBytes wordAt digits
-cell-back cell.Free h = refl
-cell-back (cell.Holds o value.Undefined) h = refl
-cell-back (cell.Holds o (value.Integer z)) h = ap (λ (x : ℤ). cell.Holds o (value.Integer x)) (integer-value z (h .1))
-cell-back (cell.Holds o (value.Pointer p)) h =
-    ap (λ (x : ℤ). cell.Holds o (value.Pointer (record { name = p .name; offset = x })))
+cell-back Cell.Free h = refl
+cell-back (Cell.Holds o Value.Undefined) h = refl
+cell-back (Cell.Holds o (Value.Integer z)) h = ap (λ (x : ℤ). Cell.Holds o (Value.Integer x)) (integer-value z (h .1))
+cell-back (Cell.Holds o (Value.Pointer p)) h =
+    ap (λ (x : ℤ). Cell.Holds o (Value.Pointer (record { name = p .name; offset = x })))
     (integer-value (p .offset) (h .1 .1))
 
 mark-back : (b : Bool) → eqb (getD (markBytes b) 0 0) 1 ≡ b
@@ -137,16 +131,16 @@ bytes-record s first n h =
 
 bytes-block : (b : Block) → FitsBlock b → Bytes (blockBytes b)
 unfolding blockBytes
-bytes-block block.Unused h = bytes-record 0 0 0 (omega arith)
-bytes-block (block.Fixed first n) h = bytes-record 1 first n (omega arith)
-bytes-block (block.Freeable first n) h = bytes-record 2 first n (omega arith)
-bytes-block block.Dead h = bytes-record 3 0 0 (omega arith)
+bytes-block Block.Unused h = bytes-record 0 0 0 (omega arith)
+bytes-block (Block.Fixed first n) h = bytes-record 1 first n (omega arith)
+bytes-block (Block.Freeable first n) h = bytes-record 2 first n (omega arith)
+bytes-block Block.Dead h = bytes-record 3 0 0 (omega arith)
 
 bytes-recorded : (b : Recorded) → FitsRecorded b → Bytes (recordedBytes b)
 unfolding recordedBytes
-bytes-recorded recorded.Unused h = bytes-record 0 0 0 (omega arith)
-bytes-recorded (recorded.Live first n) h = bytes-record 1 first n (omega arith)
-bytes-recorded recorded.Dead h = bytes-record 2 0 0 (omega arith)
+bytes-recorded Recorded.Unused h = bytes-record 0 0 0 (omega arith)
+bytes-recorded (Recorded.Live first n) h = bytes-record 1 first n (omega arith)
+bytes-recorded Recorded.Dead h = bytes-record 2 0 0 (omega arith)
 
 bytes-cellRecord : (k o n : ℕ) (z : ℤ) → k < 256 → o < 256 → n < 256 → Bytes (cellRecord k o n z)
 bytes-cellRecord k o n z a b c =
@@ -156,10 +150,10 @@ bytes-cellRecord k o n z a b c =
 
 bytes-cell : (c : Cell) → FitsCell c → Bytes (cellBytes c)
 unfolding cellBytes
-bytes-cell cell.Free h = bytes-cellRecord 0 0 0 (pos 0) (omega arith) (omega arith) (omega arith)
-bytes-cell (cell.Holds o value.Undefined) h = bytes-cellRecord 1 o 0 (pos 0) (omega arith) (h .0) (omega arith)
-bytes-cell (cell.Holds o (value.Integer z)) h = bytes-cellRecord 2 o 0 z (omega arith) (h .0) (omega arith)
-bytes-cell (cell.Holds o (value.Pointer p)) h =
+bytes-cell Cell.Free h = bytes-cellRecord 0 0 0 (pos 0) (omega arith) (omega arith) (omega arith)
+bytes-cell (Cell.Holds o Value.Undefined) h = bytes-cellRecord 1 o 0 (pos 0) (omega arith) (h .0) (omega arith)
+bytes-cell (Cell.Holds o (Value.Integer z)) h = bytes-cellRecord 2 o 0 z (omega arith) (h .0) (omega arith)
+bytes-cell (Cell.Holds o (Value.Pointer p)) h =
     bytes-cellRecord 3 o (p .name) (p .offset) (omega arith) (h .0) (h .1 .0)
 
 bytes-marks : (l : List Bool) → Bytes (flat markBytes l)
@@ -200,13 +194,13 @@ pub records-length : {A : Type 0} (f : A → List ℕ) (xs : List A) → ((x : A
 records-length f xs wide e = omega (arith, length-flat f 8 wide xs)
 
 module _ (m : Memory) (fits : FitsMemory m) where
-  pub image-block : (k : ℕ) → k < nameCount → blockAt (memoryImage m) k ≡ getD (m .blocks) k block.Dead
+  pub image-block : (k : ℕ) → k < nameCount → blockAt (memoryImage m) k ≡ getD (m .blocks) k Block.Dead
   unfolding blockAt memoryImage
   image-block k h =
-      record-back FitsBlock blockBytes blockFrom length-blockBytes block-back (m .blocks) block.Dead
+      record-back FitsBlock blockBytes blockFrom length-blockBytes block-back (m .blocks) Block.Dead
       (flat cellBytes (m .cells)) k (fits .blocks-fit) tt (omega (arith, fits .block-count))
 
-  pub image-cell : (i : ℕ) → i < cellCount → cellAt (memoryImage m) i ≡ getD (m .cells) i cell.Free
+  pub image-cell : (i : ℕ) → i < cellCount → cellAt (memoryImage m) i ≡ getD (m .cells) i Cell.Free
   unfolding cellAt memoryImage
   image-cell i h =
       let front : List ℕ = flat blockBytes (m .blocks) in
@@ -214,26 +208,26 @@ module _ (m : Memory) (fits : FitsMemory m) where
       let s : length front ≡ blocksLength =
       records-length blockBytes (m .blocks) length-blockBytes (fits .block-count) in
       let e = append-nil (flat cellBytes (m .cells)) in
-      let byte = row-byte cellBytes 16 length-cellBytes front (m .cells) [] i cell.Free l in
+      let byte = row-byte cellBytes 16 length-cellBytes front (m .cells) [] i Cell.Free l in
       let x = byte (cellPlace i) 0 (omega arith) (omega arith) in
       let y = byte (cellPlace i + 1) 1 (omega arith) (omega arith) in
       let z = byte (cellPlace i + 2) 2 (omega arith) (omega arith) in
-      let w = row-word cellBytes 16 length-cellBytes front (m .cells) [] i cell.Free l 8
+      let w = row-word cellBytes 16 length-cellBytes front (m .cells) [] i Cell.Free l 8
       (cellPlace i + 8) 8 (omega arith) (omega arith) in
-      rw (← e, x, y, z, w) (cell-back (getD (m .cells) i cell.Free) (all-getD (fits .cells-fit) i cell.Free tt))
+      rw (← e, x, y, z, w) (cell-back (getD (m .cells) i Cell.Free) (all-getD (fits .cells-fit) i Cell.Free tt))
 
   pub memory-back : memoryOf (memoryImage m) ≡ m
   unfolding memoryOf
   memory-back = λ t. record {
-    blocks = tabulate-list nameCount (blockAt (memoryImage m)) (m .blocks) block.Dead (fits .block-count) image-block t;
-    cells = tabulate-list cellCount (cellAt (memoryImage m)) (m .cells) cell.Free (fits .cell-count) image-cell t;
+    blocks = tabulate-list nameCount (blockAt (memoryImage m)) (m .blocks) Block.Dead (fits .block-count) image-block t;
+    cells = tabulate-list cellCount (cellAt (memoryImage m)) (m .cells) Cell.Free (fits .cell-count) image-cell t;
   }
 
 module _ (o : Observation) (fits : FitsObservation o) where
-  pub image-recorded : (k : ℕ) → k < nameCount → recordedAt (observationImage o) k ≡ getD (o .blocks) k recorded.Dead
+  pub image-recorded : (k : ℕ) → k < nameCount → recordedAt (observationImage o) k ≡ getD (o .blocks) k Recorded.Dead
   unfolding recordedAt observationImage
   image-recorded k h =
-      record-back FitsRecorded recordedBytes recordedFrom length-recordedBytes recorded-back (o .blocks) recorded.Dead
+      record-back FitsRecorded recordedBytes recordedFrom length-recordedBytes recorded-back (o .blocks) Recorded.Dead
       (flat markBytes (o .marks)) k (fits .records-fit) tt (omega (arith, fits .record-count))
 
   pub image-mark-byte : (i : ℕ) → i < cellCount
@@ -256,7 +250,7 @@ module _ (o : Observation) (fits : FitsObservation o) where
   pub observation-back : observationOf (observationImage o) ≡ o
   unfolding observationOf
   observation-back = λ t. record {
-    blocks = tabulate-list nameCount (recordedAt (observationImage o)) (o .blocks) recorded.Dead (fits .record-count)
+    blocks = tabulate-list nameCount (recordedAt (observationImage o)) (o .blocks) Recorded.Dead (fits .record-count)
         image-recorded t;
     marks = tabulate-list cellCount (markAt (observationImage o)) (o .marks) false (fits .mark-count) image-mark t;
   }

@@ -24,9 +24,7 @@ use Rattle.rules.proofs.layout.LayoutLaws.{image-mark-byte, image-mark,
 use Rattle.rules.proofs.claim.UnrefusedRuns.{watched-runs}
 use Rattle.rules.proofs.memory.ObservationOrder.{OrderlyObservation}
 use Rattle.rules.proofs.memory.ObservedRuns.{observed-in-order}
-use Rattle.rules.specs.declared.Recorded.{Recorded}
-use Rattle.rules.specs.declared.Recorded.the-variants as recorded
-use Rattle.rules.specs.declared.Checked.the-variants as checked
+use Rattle.rules.specs.Types.{Recorded, Checked}
 
 pub record OrderlyBytes (l : List ℕ) : Type 0 where
   -- what the bytes stand for is in order, and they are its bytes and no others
@@ -48,32 +46,32 @@ fits : (o : Observation) → OrderlyObservation o → FitsObservation o
 fits o y = record {
   record-count = y .record-count;
   mark-count = y .mark-count;
-  records-fit = each (o .blocks) (λ k. recorded-fits (getD (o .blocks) k recorded.Dead) (y .within (suc k)));
+  records-fit = each (o .blocks) (λ k. recorded-fits (getD (o .blocks) k Recorded.Dead) (y .within (suc k)));
 }
   where
-    recorded-fits : (b : Recorded) → ((first n : ℕ) → b ≡ recorded.Live first n → first + n ≤ cellCount)
+    recorded-fits : (b : Recorded) → ((first n : ℕ) → b ≡ Recorded.Live first n → first + n ≤ cellCount)
         → FitsRecorded b
-    recorded-fits recorded.Unused h = tt
-    recorded-fits (recorded.Live first n) h = let r = h first n refl in (omega arith, omega arith)
-    recorded-fits recorded.Dead h = tt
+    recorded-fits Recorded.Unused h = tt
+    recorded-fits (Recorded.Live first n) h = let r = h first n refl in (omega arith, omega arith)
+    recorded-fits Recorded.Dead h = tt
 
-    each : (l : List Recorded) → ((k : ℕ) → FitsRecorded (getD l k recorded.Dead)) → All FitsRecorded l
+    each : (l : List Recorded) → ((k : ℕ) → FitsRecorded (getD l k Recorded.Dead)) → All FitsRecorded l
     each [] h = none
     each (b ∷ l) h = also (h 0) (each l (λ k. h (suc k)))
 
 -- a place that no record covers
-covered-by-none : (l : List Recorded) (i : ℕ) → ((k : ℕ) → k < length l → covers (getD l k recorded.Dead) i ≡ false)
+covered-by-none : (l : List Recorded) (i : ℕ) → ((k : ℕ) → k < length l → covers (getD l k Recorded.Dead) i ≡ false)
     → covered l i ≡ false
 unfolding covered
 covered-by-none [] i h = refl
 covered-by-none (b ∷ l) i h =
     rw (h 0 (omega arith), covered) (covered-by-none l i (λ k d. h (suc k) (omega arith)))
 
-dead-at : (l : List ℕ) (k : ℕ) → getD l (blockPlace k) 0 ≡ 2 → recordedAt l k ≡ recorded.Dead
+dead-at : (l : List ℕ) (k : ℕ) → getD l (blockPlace k) 0 ≡ 2 → recordedAt l k ≡ Recorded.Dead
 unfolding recordedAt
 dead-at l k e = ap (λ s. recordedFrom s (wordAt 2 l (blockPlace k + 2)) (wordAt 2 l (blockPlace k + 4))) e
 
-dead-bytes : recordedBytes recorded.Dead ≡ blockRecord 2 0 0
+dead-bytes : recordedBytes Recorded.Dead ≡ blockRecord 2 0 0
 unfolding recordedBytes
 dead-bytes = refl
 
@@ -81,8 +79,8 @@ image-record : (o : Observation) → OrderlyObservation o → (k : ℕ) → k < 
     → part 8 (observationImage o) (blockPlace k) ≡ recordedBytes (recordedAt (observationImage o) k)
 unfolding observationImage
 image-record o y k h =
-    let b : Recorded = getD (o .blocks) k recorded.Dead in
-    row-part recordedBytes 8 length-recordedBytes [] (o .blocks) (flat markBytes (o .marks)) k recorded.Dead
+    let b : Recorded = getD (o .blocks) k Recorded.Dead in
+    row-part recordedBytes 8 length-recordedBytes [] (o .blocks) (flat markBytes (o .marks)) k Recorded.Dead
     (omega (arith, y .record-count)) 8 (blockPlace k) 0 (omega arith) (omega arith)
     ∙ take-all 8 (recordedBytes b) (omega (arith, length-recordedBytes b))
     ∙ ap recordedBytes (sym (image-recorded o (fits o y) k h))
@@ -107,7 +105,7 @@ image-in-order o y = record {
     names k d = omega (arith, y .record-count)
 
 -- for every accepted target table, where nothing is refused
-pub watched-bytes-in-order : (t i : List ℕ) (f : ℕ) (memory observation : List ℕ) → check target t ≡ checked.Accepted
+pub watched-bytes-in-order : (t i : List ℕ) (f : ℕ) (memory observation : List ℕ) → check target t ≡ Checked.Accepted
     → inputsFault i ≡ false → length memory ≡ memoryLength → length observation ≡ observationLength
     → OrderlyBytes (runWatched t i f memory observation .observation)
 watched-bytes-in-order t i f memory observation c e h k =

@@ -38,11 +38,7 @@ use Rattle.rules.specs.Fits.{FitsName, FitsPointer, FitsValue, FitsTempo
 use Rattle.rules.proofs.layout.KeptPredicates.{MemoryInvariant, ObservationInvariant, MadeWith, makeBlock-keeps}
 use Rattle.rules.proofs.layout.FittingValues.{operated-fits, queryObservation-fits, opposite-fits, FitsEvaluated}
 use Rattle.rules.proofs.layout.FittingValues.{held-fits, addressOf-fits, evaluate-fits, findPlace-fits}
-use Rattle.rules.specs.declared.Value.the-variants as value
-use Rattle.rules.specs.declared.Evaluated.{Evaluated}
-use Rattle.rules.specs.declared.Evaluated.the-variants as evaluated
-use Rattle.rules.specs.declared.Cell.the-variants as cell
-use Rattle.rules.specs.declared.Temporary.the-variants as temporary
+use Rattle.rules.specs.Types.{Value, Evaluated, Cell, Temporary}
 
 pub extend-fits : (ρ : Variables) (x k : ℕ) → VariablesFit ρ → FitsName k → VariablesFit (extend ρ x k)
 extend-fits ρ x k h l y = pick (eqb y x)
@@ -66,7 +62,7 @@ module _ (J : Memory → Type 0) (v : MemoryInvariant J) {T : Type 0} (N : T →
       (findPlace p τ ρ m) (evaluate e τ ρ m) j
       (findPlace-fits N τ holding ρ names m (v .fitting m j) σ p h)
       (evaluate-fits N τ holding ρ names m (v .fitting m j) σ e g)
-      (λ q w a b i. v .storing m i (cell.Holds (q .name) w) j (a .0, b))
+      (λ q w a b i. v .storing m i (Cell.Holds (q .name) w) j (a .0, b))
 
   allocated-kept : (p : Place T) (e : Expression T) → SoundPlace p N σ → SoundExpression e N σ
       → ChangeKeeps J AnyNumber (allocated m (findPlace p τ ρ m) (evaluate e τ ρ m))
@@ -77,7 +73,7 @@ module _ (J : Memory → Type 0) (v : MemoryInvariant J) {T : Type 0} (N : T →
       (evaluate-fits N τ holding ρ names m (v .fitting m j) σ e g)
       tt (λ n. makeBlock-keeps J v m freeable (suc n) j) (λ k m₁ x. x .1)
       (λ q a k m₁ x i.
-      v .storing m₁ i (cell.Holds (q .name) (value.Pointer (record { name = k; offset = pos 0 }))) (x .1)
+      v .storing m₁ i (Cell.Holds (q .name) (Value.Pointer (record { name = k; offset = pos 0 }))) (x .1)
       (a .0, (x .0, refl)))
 
   freed-kept : (e : Expression T) → SoundExpression e N σ
@@ -141,7 +137,7 @@ pub record Watchedly (J : Memory → Type 0) (O : Observation → Type 0) (x : W
   pub temporaries-fit : All FitsTemporary (x .temporaries)
 
 pub startTemporaries-fit : All FitsTemporary startTemporaries
-startTemporaries-fit = all-replicate temporaryCount temporary.Empty tt
+startTemporaries-fit = all-replicate temporaryCount Temporary.Empty tt
 
 module _ (J : Memory → Type 0) (v : MemoryInvariant J) (O : Observation → Type 0) (u : ObservationInvariant O) where
   abbrev pub WatchedRuns : WatchedState → ℕ → Outcome WatchedState → Type 0
@@ -153,7 +149,7 @@ module _ (J : Memory → Type 0) (v : MemoryInvariant J) (O : Observation → Ty
   module _ (x : WatchedState) (i : Watchedly J O x) where
     held-kept : (n : ℕ) → FitsEvaluated (holding x n)
     held-kept n =
-        held-fits (temporaryOf (x .temporaries) n) (all-getD (i .temporaries-fit) n temporary.Empty tt)
+        held-fits (temporaryOf (x .temporaries) n) (all-getD (i .temporaries-fit) n Temporary.Empty tt)
 
     with-memory : (m : Memory) → J m → Watchedly J O (withMemory x m)
     with-memory m h =
@@ -172,7 +168,7 @@ module _ (J : Memory → Type 0) (v : MemoryInvariant J) (O : Observation → Ty
         (taken-keeps (Watchedly J O) AnyNumber FitsValue x n e i h (λ w g. record {
           memory-kept = i .memory-kept;
           observation-kept = i .observation-kept;
-          temporaries-fit = all-set (i .temporaries-fit) n {x = temporary.Holds w} g;
+          temporaries-fit = all-set (i .temporaries-fit) n {x = Temporary.Holds w} g;
         }))
 
     observed-kept : (s : ℕ) (ρ : Variables) (f : ℕ) (r : Noted) → NotedKeeps O AnyNumber r
@@ -238,11 +234,11 @@ module _ (J : Memory → Type 0) (v : MemoryInvariant J) (O : Observation → Ty
       (held-kept x i (suc (suc n))))
   watch-keeps (takeQuery s n q) σ h ρ r x f i =
       taken-kept x i s ρ f n (querying q n x)
-      (on-value FitsEvaluated AnyNumber evaluated.Stopped (λ c y. tt) (holding x (suc n)) _ (held-kept x i (suc n))
+      (on-value FitsEvaluated AnyNumber Evaluated.Stopped (λ c y. tt) (holding x (suc n)) _ (held-kept x i (suc n))
       (λ w g. queryObservation-fits q (x .observation) w (u .fitting (x .observation) (i .observation-kept)) g))
   watch-keeps (takeNot s n) σ h ρ r x f i =
       taken-kept x i s ρ f n (negating n x)
-      (on-value FitsEvaluated AnyNumber evaluated.Stopped (λ c y. tt) (holding x (suc n)) _ (held-kept x i (suc n))
+      (on-value FitsEvaluated AnyNumber Evaluated.Stopped (λ c y. tt) (holding x (suc n)) _ (held-kept x i (suc n))
       (λ w g. opposite-fits w))
   watch-keeps (branchOn s n a b) σ h ρ r x f i =
       reach-decide AnyNumber stays s ρ (condition (holding x n)) x f (into 1 (watch a ρ x f)) (into 2 (watch b ρ x f)) i

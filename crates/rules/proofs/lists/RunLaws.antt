@@ -9,8 +9,7 @@ use mathlib.Core.Bool.{Bool, true, false}
 use Rattle.rules.specs.Sizes.{cellCount}
 use Rattle.rules.specs.Checker.{lowest}
 use Rattle.rules.specs.Memory.{allFree, lowestRun}
-use Rattle.rules.specs.declared.Search.{Search}
-use Rattle.rules.specs.declared.Search.the-variants as search
+use Rattle.rules.specs.Types.{Search}
 
 lt-or-le : (a b : ℕ) → (a < b) ⊎ (b ≤ a)
 lt-or-le a b = pick (decLt a b)
@@ -61,12 +60,12 @@ step-on false s r e = refl
 
 module _ (q : ℕ → Bool) where
   pub lowest-at : (k j m : ℕ) → ((i : ℕ) → j ≤ i → i < m → q i ≡ false) → q m ≡ true → j ≤ m → m < j + k
-      → lowest q j k ≡ search.At m
+      → lowest q j k ≡ Search.At m
   unfolding lowest
   lowest-at zero j m f t a b = absurd (omega arith)
   lowest-at (suc k) j m f t a b =
-      ⊎-elim (λ e. step-found (q j) (search.At j) (lowest q (suc j) k) (ap q e ∙ t) ∙ ap search.At e)
-      (λ l. step-on (q j) (search.At j) (lowest q (suc j) k) (f j (same j) l)
+      ⊎-elim (λ e. step-found (q j) (Search.At j) (lowest q (suc j) k) (ap q e ∙ t) ∙ ap Search.At e)
+      (λ l. step-on (q j) (Search.At j) (lowest q (suc j) k) (f j (same j) l)
       ∙ lowest-at k (suc j) m (λ i x y. f i (less j i x) y) t l (reach k j m b)) (eq-or-lt-of-le a)
     where
       same : (j : ℕ) → j ≤ j
@@ -78,11 +77,11 @@ module _ (q : ℕ → Bool) where
       reach : (k j m : ℕ) → m < j + suc k → m < suc j + k
       reach k j m b = omega arith
 
-  pub lowest-none : (k j : ℕ) → ((i : ℕ) → j ≤ i → i < j + k → q i ≡ false) → lowest q j k ≡ search.Nothing
+  pub lowest-none : (k j : ℕ) → ((i : ℕ) → j ≤ i → i < j + k → q i ≡ false) → lowest q j k ≡ Search.Nothing
   unfolding lowest
   lowest-none zero j f = refl
   lowest-none (suc k) j f =
-      step-on (q j) (search.At j) (lowest q (suc j) k) (f j (omega arith) (omega arith))
+      step-on (q j) (Search.At j) (lowest q (suc j) k) (f j (omega arith) (omega arith))
       ∙ lowest-none k (suc j) (λ i x y. f i (omega arith) (omega arith))
 
 -- two tests that agree on the cells find the same run
@@ -101,7 +100,7 @@ module _ (p q : ℕ → Bool) where
   lowest-same (suc k) j f =
       let here : p j ≡ q j = f j (omega arith) in
       let rest : lowest p (suc j) k ≡ lowest q (suc j) k = lowest-same k (suc j) (λ i b. f i (omega arith)) in
-      ap₂ (λ (b : Bool) (r : Search). elim b [ true ↦ search.At j | false ↦ r ]) here rest
+      ap₂ (λ (b : Bool) (r : Search). elim b [ true ↦ Search.At j | false ↦ r ]) here rest
 
 pub run-same : (p q : ℕ → Bool) (n : ℕ) → ((j : ℕ) → j < cellCount → p j ≡ q j) → lowestRun p n ≡ lowestRun q n
 unfolding lowestRun
@@ -113,12 +112,12 @@ run-same p q n f =
     low s j b c = omega arith
 
 -- the bound of what is found
-step-bound : (b : Bool) (j m : ℕ) (r : Search) → elim b [ true ↦ search.At j | false ↦ r ] ≡ search.At m
-    → (j ≡ m) ⊎ (r ≡ search.At m)
+step-bound : (b : Bool) (j m : ℕ) (r : Search) → elim b [ true ↦ Search.At j | false ↦ r ] ≡ Search.At m
+    → (j ≡ m) ⊎ (r ≡ Search.At m)
 step-bound true j m r e = inl (cc)
 step-bound false j m r e = inr e
 
-lowest-bound : (q : ℕ → Bool) (k j m : ℕ) → lowest q j k ≡ search.At m → m < j + k
+lowest-bound : (q : ℕ → Bool) (k j m : ℕ) → lowest q j k ≡ Search.At m → m < j + k
 unfolding lowest
 lowest-bound q zero j m e = let z : _≡_ {A = ℕ} 0 1 = cc in absurd (omega arith)
 lowest-bound q (suc k) j m e =
@@ -131,7 +130,7 @@ lowest-bound q (suc k) j m e =
     there : (k j m : ℕ) → m < suc j + k → m < j + suc k
     there k j m h = omega arith
 
-pub run-bound : (p : ℕ → Bool) (n first : ℕ) → lowestRun p n ≡ search.At first → first + n ≤ cellCount
+pub run-bound : (p : ℕ → Bool) (n first : ℕ) → lowestRun p n ≡ Search.At first → first + n ≤ cellCount
 unfolding lowestRun
 run-bound p n first e = omega (arith, lowest-bound (λ s. allFree p s n) (suc cellCount - n) 0 first e)
 
@@ -197,7 +196,7 @@ module _ (p : ℕ → Bool) (n : ℕ) where
         reach : (j : ℕ) → i - run ≤ j → i < j + n
         reach j l = omega (arith, s .short, s .some)
 
-    pub scan-found : p i ≡ true → run + 1 ≡ n → search.At (i + 1 - n) ≡ lowestRun p n
+    pub scan-found : p i ≡ true → run + 1 ≡ n → Search.At (i + 1 - n) ≡ lowestRun p n
     unfolding lowestRun
     scan-found t e =
         let m : i + 1 - n ≡ i - run = omega (arith, s .some) in
@@ -210,7 +209,7 @@ module _ (p : ℕ → Bool) (n : ℕ) where
         full : (j : ℕ) → i - run ≤ j → j < i - run + n → p j ≡ true
         full j a b = ⊎-elim (λ q. ap p q ∙ t) (λ l. s .passed j a l) (last-of j a b)
 
-  pub scan-none : (run : ℕ) → Scanned p n cellCount run → search.Nothing ≡ lowestRun p n
+  pub scan-none : (run : ℕ) → Scanned p n cellCount run → Search.Nothing ≡ lowestRun p n
   unfolding lowestRun
   scan-none run s =
       sym (lowest-none (λ (j : ℕ). allFree p j n) (suc cellCount - n) 0 (λ j a b. s .nowhere j (under j b)))

@@ -5,11 +5,10 @@ use native.Mathlib.Decide.{decLt}
 use mathlib.Core.Path.{_≡_, refl, ap, _∙_}
 use mathlib.Core.Bool.{Bool, true, false}
 use Rattle.rules.specs.Checker.{lowest}
-use Rattle.rules.specs.declared.Search.{Search}
-use Rattle.rules.specs.declared.Search.the-variants as search
+use Rattle.rules.specs.Types.{Search}
 
 -- one step
-pub lowest-here : (p : ℕ → Bool) (j k : ℕ) → p j ≡ true → lowest p j (suc k) ≡ search.At j
+pub lowest-here : (p : ℕ → Bool) (j k : ℕ) → p j ≡ true → lowest p j (suc k) ≡ Search.At j
 unfolding lowest
 lowest-here p j k e = rw (e, lowest)
 
@@ -18,7 +17,7 @@ unfolding lowest
 lowest-next p j k e = rw (e, lowest)
 
 pub lowest-nothing : (p : ℕ → Bool) (j k : ℕ) → ((i : ℕ) → j ≤ i → i < j + k → p i ≡ false)
-    → lowest p j k ≡ search.Nothing
+    → lowest p j k ≡ Search.Nothing
 unfolding lowest
 lowest-nothing p j zero h = refl
 lowest-nothing p j (suc k) h =
@@ -26,15 +25,15 @@ lowest-nothing p j (suc k) h =
     ∙ lowest-nothing p (suc j) k (λ i a b. h i (omega arith) (omega arith))
 
 pub lowest-at : (p : ℕ → Bool) (j k n : ℕ) → j ≤ n → n < j + k → p n ≡ true → ((i : ℕ) → j ≤ i → i < n → p i ≡ false)
-    → lowest p j k ≡ search.At n
+    → lowest p j k ≡ Search.At n
 lowest-at p j zero n a b e h = absurd (omega arith)
 lowest-at p j (suc k) n a b e h = go (decLt j n) (lowest-at p (suc j) k n)
   where
     go : Dec (j < n) → (suc j ≤ n → n < suc j + k → p n ≡ true → ((i : ℕ) → suc j ≤ i → i < n → p i ≡ false)
-        → lowest p (suc j) k ≡ search.At n) → lowest p j (suc k) ≡ search.At n
+        → lowest p (suc j) k ≡ Search.At n) → lowest p j (suc k) ≡ Search.At n
     go (no q) f =
         let same : j ≡ n = omega arith in
-        lowest-here p j k (ap p same ∙ e) ∙ ap search.At same
+        lowest-here p j k (ap p same ∙ e) ∙ ap Search.At same
     go (yes q) f =
         lowest-next p j k (h j (omega arith) q) ∙ f (omega arith) (omega arith) e (λ i c d. h i (omega arith) d)
 
@@ -49,8 +48,8 @@ pub record Lowest (p : ℕ → Bool) (j k n : ℕ) : Type 0 where
   pub none-lower : NonePass p j n
 
 abbrev pub Found : (ℕ → Bool) → ℕ → ℕ → Search → Type 0
-Found p j k search.Nothing = NonePass p j (j + k)
-Found p j k (search.At n) = Lowest p j k n
+Found p j k Search.Nothing = NonePass p j (j + k)
+Found p j k (Search.At n) = Lowest p j k n
 
 pub lowest-found : (p : ℕ → Bool) (j k : ℕ) → Found p j k (lowest p j k)
 unfolding lowest
@@ -62,8 +61,8 @@ lowest-found p j (suc k) = go (p j) refl (lowest p (suc j) k) (lowest-found p (s
     more n e h i a b (yes q) = h i q b
 
     later : p j ≡ false → (s : Search) → Found p (suc j) k s → Found p j (suc k) s
-    later e search.Nothing h = λ i a b. more (j + suc k) e (λ i c d. h i c (omega arith)) i a b (decLt j i)
-    later e (search.At n) h = record {
+    later e Search.Nothing h = λ i a b. more (j + suc k) e (λ i c d. h i c (omega arith)) i a b (decLt j i)
+    later e (Search.At n) h = record {
       from = omega (arith, h .from);
       below = omega (arith, h .below);
       passes = h .passes;
@@ -71,7 +70,7 @@ lowest-found p j (suc k) = go (p j) refl (lowest p (suc j) k) (lowest-found p (s
     }
 
     go : (b : Bool) → p j ≡ b → (s : Search) → Found p (suc j) k s
-        → Found p j (suc k) (elim b as (λ q. Search) [ true ↦ search.At j | false ↦ s ])
+        → Found p j (suc k) (elim b as (λ q. Search) [ true ↦ Search.At j | false ↦ s ])
     go true e s h = record {
       from = omega arith;
       below = omega arith;
@@ -82,12 +81,12 @@ lowest-found p j (suc k) = go (p j) refl (lowest p (suc j) k) (lowest-found p (s
 
 -- the same without what is lower
 abbrev pub Outcome : (ℕ → Bool) → ℕ → ℕ → Search → Type 0
-Outcome p j k search.Nothing = (i : ℕ) → j ≤ i → i < j + k → p i ≡ false
-Outcome p j k (search.At n) = (j ≤ n) × (n < j + k) × (p n ≡ true)
+Outcome p j k Search.Nothing = (i : ℕ) → j ≤ i → i < j + k → p i ≡ false
+Outcome p j k (Search.At n) = (j ≤ n) × (n < j + k) × (p n ≡ true)
 
 pub lowest-outcome : (p : ℕ → Bool) (j k : ℕ) → Outcome p j k (lowest p j k)
 lowest-outcome p j k = of (lowest p j k) (lowest-found p j k)
   where
     of : (s : Search) → Found p j k s → Outcome p j k s
-    of search.Nothing h = h
-    of (search.At n) h = (h .from, h .below, h .passes)
+    of Search.Nothing h = h
+    of (Search.At n) h = (h .from, h .below, h .passes)

@@ -21,19 +21,7 @@ use Rattle.rules.proofs.memory.Room.{HasRoom, room}
 use Rattle.rules.proofs.memory.BlockChanges.{onward-make, make-given, end-given}
 use Rattle.rules.proofs.memory.Changes.{change-kept, onward-assigned, onward-allocated, onward-freed}
 use Rattle.rules.proofs.runs.EvaluatedValues.{CellHas, TemporaryHas, EvaluatedHas, FoundHas}
-use Rattle.rules.specs.declared.Pointer.{Pointer}
-use Rattle.rules.specs.declared.Value.{Value}
-use Rattle.rules.specs.declared.Value.the-variants as values
-use Rattle.rules.specs.declared.Evaluated.{Evaluated}
-use Rattle.rules.specs.declared.Found.{Found}
-use Rattle.rules.specs.declared.Search.{Search}
-use Rattle.rules.specs.declared.Search.the-variants as search
-use Rattle.rules.specs.declared.Recorded.{Recorded}
-use Rattle.rules.specs.declared.Recorded.the-variants as recorded
-use Rattle.rules.specs.declared.Cell.{Cell}
-use Rattle.rules.specs.declared.Cell.the-variants as cell
-use Rattle.rules.specs.declared.Temporary.{Temporary}
-use Rattle.rules.specs.declared.Temporary.the-variants as temporary
+use Rattle.rules.specs.Types.{Pointer, Value, Evaluated, Found, Search, Recorded, Cell, Temporary}
 
 -- a name that was given
 abbrev pub IsGiven : Memory → ℕ → Type 0
@@ -41,9 +29,9 @@ IsGiven m k = (1 ≤ k) × (k ≤ nameCount) × (isUnused (blockOf m k) ≡ fals
 
 -- a pointer's name was given
 abbrev pub GivenValue : Memory → Value → Type 0
-GivenValue m values.Undefined = Unit {0}
-GivenValue m (values.Integer z) = Unit {0}
-GivenValue m (values.Pointer p) = IsGiven m (p .name)
+GivenValue m Value.Undefined = Unit {0}
+GivenValue m (Value.Integer z) = Unit {0}
+GivenValue m (Value.Pointer p) = IsGiven m (p .name)
 
 abbrev pub CellsGiven : Memory → Type 0
 CellsGiven m = All (CellHas (GivenValue m)) (m .cells)
@@ -63,26 +51,26 @@ end-stay m j k g = (g .0, g .1, end-given m j k (g .2))
 
 module _ (m m₁ : Memory) (stay : Stay m m₁) where
   value-stays : (v : Value) → GivenValue m v → GivenValue m₁ v
-  value-stays values.Undefined h = tt
-  value-stays (values.Integer z) h = tt
-  value-stays (values.Pointer p) h = stay (p .name) h
+  value-stays Value.Undefined h = tt
+  value-stays (Value.Integer z) h = tt
+  value-stays (Value.Pointer p) h = stay (p .name) h
 
   cell-stays : (c : Cell) → CellHas (GivenValue m) c → CellHas (GivenValue m₁) c
-  cell-stays cell.Free h = tt
-  cell-stays (cell.Holds o v) h = value-stays v h
+  cell-stays Cell.Free h = tt
+  cell-stays (Cell.Holds o v) h = value-stays v h
 
   temporary-stays : (t : Temporary) → TemporaryHas (GivenValue m) t → TemporaryHas (GivenValue m₁) t
-  temporary-stays temporary.Empty h = tt
-  temporary-stays (temporary.Holds v) h = value-stays v h
+  temporary-stays Temporary.Empty h = tt
+  temporary-stays (Temporary.Holds v) h = value-stays v h
 
   pub temporaries-stay : {τ : Temporaries} → TemporariesGiven m τ → TemporariesGiven m₁ τ
   temporaries-stay h = all-change temporary-stays h
 
 -- a store
 setCell-given : (m : Memory) (i o : ℕ) (v : Value) → CellsGiven m → GivenValue m v
-    → CellsGiven (setCell m i (cell.Holds o v))
+    → CellsGiven (setCell m i (Cell.Holds o v))
 setCell-given m i o v h g =
-    let m₁ = setCell m i (cell.Holds o v) in
+    let m₁ = setCell m i (Cell.Holds o v) in
     let stays : Stay m m₁ = λ k w. w in
     all-set (all-change (cell-stays m m₁ stays) h) i (value-stays m m₁ stays v g)
 
@@ -95,9 +83,9 @@ pub makeBlock-given : (m : Memory) (u : Use) (n : ℕ) → Invariant m → Cells
 makeBlock-given m u n y h = go (nextName m) (freeRun m n) (room m n)
   where
     go : (r s : Search) → HasRoom m n r s → MadeKeeps (MadeGiven m) AnyNumber (makeAt m u n r s)
-    go search.Nothing s w = tt
-    go (search.At k) search.Nothing w = tt
-    go (search.At k) (search.At first) w =
+    go Search.Nothing s w = tt
+    go (Search.At k) Search.Nothing w = tt
+    go (Search.At k) (Search.At first) w =
         let m₁ = withBlock m u k first n in
         let onward : Onward m m₁ = onward-make m u n k first w y in (
           onward,
@@ -110,10 +98,10 @@ pub endBlock-given : (m : Memory) (k : ℕ) → CellsGiven m → CellsGiven (end
 endBlock-given m k h = go (recordedOf (blockOf m k)) (end-stay m k)
   where
     go : (b : Recorded) → Stay m (withoutCells m k b) → CellsGiven (withoutCells m k b)
-    go recorded.Unused s = h
-    go (recorded.Live first n) s =
-        all-fill (all-change (cell-stays m (withoutCells m k (recorded.Live first n)) s) h) first n tt
-    go recorded.Dead s = h
+    go Recorded.Unused s = h
+    go (Recorded.Live first n) s =
+        all-fill (all-change (cell-stays m (withoutCells m k (Recorded.Live first n)) s) h) first n tt
+    go Recorded.Dead s = h
 
 -- the changes that statements make
 abbrev pub Changed : Memory → Memory → Type 0
@@ -148,11 +136,11 @@ module _ (m : Memory) (y : Invariant m) (h : CellsGiven m) where
       (λ p. IsGiven m (p .name)) m e h v tt (λ k. endBlock-given m k h))
 
 -- numbers, operators and queries make no names
-pub numbers-given : (m : Memory) (z : ℤ) → inRange z ≡ true → GivenValue m (values.Integer z)
+pub numbers-given : (m : Memory) (z : ℤ) → inRange z ≡ true → GivenValue m (Value.Integer z)
 numbers-given m z e = tt
 
-pub moves-given : (m : Memory) (p : Pointer) (z : ℤ) → GivenValue m (values.Pointer p) → inRange z ≡ true
-    → GivenValue m (values.Pointer (record { name = p .name; offset = z }))
+pub moves-given : (m : Memory) (p : Pointer) (z : ℤ) → GivenValue m (Value.Pointer p) → inRange z ≡ true
+    → GivenValue m (Value.Pointer (record { name = p .name; offset = z }))
 moves-given m p z h e = h
 
 pub opposite-given : (m : Memory) (v : Value) → EvaluatedHas (GivenValue m) (opposite v)
@@ -160,9 +148,9 @@ opposite-given m v = opposite-gives (GivenValue m) AnyNumber (numbers-given m) (
 
 ofLive-given : (m : Memory) (b : Recorded) (f : ℕ → Value) → ((n : ℕ) → GivenValue m (f n))
     → EvaluatedHas (GivenValue m) (ofLive b f)
-ofLive-given m recorded.Unused f h = tt
-ofLive-given m (recorded.Live first n) f h = h n
-ofLive-given m recorded.Dead f h = tt
+ofLive-given m Recorded.Unused f h = tt
+ofLive-given m (Recorded.Live first n) f h = h n
+ofLive-given m Recorded.Dead f h = tt
 
 pub queried-given : (m : Memory) (q : Query) (b : Recorded) (marked : ℕ → Bool) (p : Pointer) → IsGiven m (p .name)
     → EvaluatedHas (GivenValue m) (queried q b marked p)

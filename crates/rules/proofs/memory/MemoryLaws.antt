@@ -12,8 +12,7 @@ use lib.Seq.{getD-set-same, getD-set-other}
 use borrow.Author.Tests.{leb-true, leb-false, ltb-true, ltb-false}
 use Rattle.rules.specs.Memory.{named, fill, allFree, one, setNamed}
 use Rattle.rules.specs.Observation.{covers, covered}
-use Rattle.rules.specs.declared.Recorded.{Recorded}
-use Rattle.rules.specs.declared.Recorded.the-variants as recorded
+use Rattle.rules.specs.Types.{Recorded}
 
 module _ {A B : Type 0} (g : A → B) where
   pub map-set : (l : List A) (i : ℕ) (x : A) → map g (set l i x) ≡ set (map g l) i (g x)
@@ -118,7 +117,7 @@ pub data Covering (s n i : ℕ) : Bool → Type 0 where
   below : i < s → Covering s n i false
   above : s + n ≤ i → Covering s n i false
 
-pub covering : (s n i : ℕ) → Covering s n i (covers (recorded.Live s n) i)
+pub covering : (s n i : ℕ) → Covering s n i (covers (Recorded.Live s n) i)
 covering s n i = go (leb s i) (ltb i (s + n)) refl refl
   where
     go : (b c : Bool) → leb s i ≡ b → ltb i (s + n) ≡ c → Covering s n i (b && c)
@@ -126,7 +125,7 @@ covering s n i = go (leb s i) (ltb i (s + n)) refl refl
     go true true p q = inside (leb-true s i p) (ltb-true i (s + n) q)
     go true false p q = above (ltb-false i (s + n) q)
 
-pub covers-inside : (s n i : ℕ) → s ≤ i → i < s + n → covers (recorded.Live s n) i ≡ true
+pub covers-inside : (s n i : ℕ) → s ≤ i → i < s + n → covers (Recorded.Live s n) i ≡ true
 covers-inside s n i p q = go (covering s n i)
   where
     go : {b : Bool} → Covering s n i b → b ≡ true
@@ -140,28 +139,28 @@ coverage [] i = 0
 coverage (b ∷ bs) i = one (covers b i) + coverage bs i
 
 coverage-set : (l : List Recorded) (k : ℕ) (x : Recorded) (i : ℕ) → k < length l
-    → coverage (set l k x) i + one (covers (getD l k recorded.Dead) i) ≡ coverage l i + one (covers x i)
+    → coverage (set l k x) i + one (covers (getD l k Recorded.Dead) i) ≡ coverage l i + one (covers x i)
 coverage-set [] k x i h = absurd (omega arith)
 coverage-set (y ∷ l) zero x i h = omega arith
 coverage-set (y ∷ l) (suc k) x i h = omega (arith, coverage-set l k x i (omega arith))
 
 pub coverage-setNamed : (l : List Recorded) (k : ℕ) (x : Recorded) (i : ℕ) → 1 ≤ k → k ≤ length l
-    → coverage (setNamed l k x) i + one (covers (named l k recorded.Dead) i) ≡ coverage l i + one (covers x i)
+    → coverage (setNamed l k x) i + one (covers (named l k Recorded.Dead) i) ≡ coverage l i + one (covers x i)
 coverage-setNamed l zero x i h le = absurd (omega arith)
 coverage-setNamed l (suc k) x i h le = coverage-set l k x i (omega arith)
 
-coverage-at : (l : List Recorded) (k i : ℕ) → one (covers (getD l k recorded.Dead) i) ≤ coverage l i
+coverage-at : (l : List Recorded) (k i : ℕ) → one (covers (getD l k Recorded.Dead) i) ≤ coverage l i
 coverage-at [] k i = omega arith
 coverage-at (y ∷ l) zero i = omega arith
 coverage-at (y ∷ l) (suc k) i = omega (arith, coverage-at l k i)
 
-pub coverage-named : (l : List Recorded) (k i : ℕ) → one (covers (named l k recorded.Dead) i) ≤ coverage l i
+pub coverage-named : (l : List Recorded) (k i : ℕ) → one (covers (named l k Recorded.Dead) i) ≤ coverage l i
 coverage-named l zero i = omega arith
 coverage-named l (suc k) i = coverage-at l k i
 
 -- the blocks of two names cover a place at most as often as all blocks do
 coverage-two : (l : List Recorded) (j k i : ℕ) → j ≢ k
-    → one (covers (getD l j recorded.Dead) i) + one (covers (getD l k recorded.Dead) i) ≤ coverage l i
+    → one (covers (getD l j Recorded.Dead) i) + one (covers (getD l k Recorded.Dead) i) ≤ coverage l i
 coverage-two [] j k i d = omega arith
 coverage-two (b ∷ l) zero zero i d = absurd (d refl)
 coverage-two (b ∷ l) zero (suc k) i d = omega (arith, coverage-named l (suc k) i)
@@ -169,18 +168,18 @@ coverage-two (b ∷ l) (suc j) zero i d = omega (arith, coverage-named l (suc j)
 coverage-two (b ∷ l) (suc j) (suc k) i d = omega (arith, coverage-two l j k i (λ e. d (ap suc e)))
 
 coverage-both : (l : List Recorded) (j k i : ℕ) → j ≢ k
-    → one (covers (named l j recorded.Dead) i) + one (covers (named l k recorded.Dead) i) ≤ coverage l i
+    → one (covers (named l j Recorded.Dead) i) + one (covers (named l k Recorded.Dead) i) ≤ coverage l i
 coverage-both l zero k i d = omega (arith, coverage-named l k i)
 coverage-both l (suc j) zero i d = omega (arith, coverage-named l (suc j) i)
 coverage-both l (suc j) (suc k) i d = coverage-two l j k i (λ e. d (ap suc e))
 
 -- where no place is covered twice, the blocks of two names do not cover the same, and live ones share none
 pub not-twice : (l : List Recorded) → ((i : ℕ) → coverage l i ≤ 1) → (j k i : ℕ) → j ≢ k
-    → covers (named l j recorded.Dead) i ≡ true → covers (named l k recorded.Dead) i ≡ true → ⊥
+    → covers (named l j Recorded.Dead) i ≡ true → covers (named l k Recorded.Dead) i ≡ true → ⊥
 not-twice l once j k i d e e₁ = let z = rw (e, e₁) at (coverage-both l j k i d) in omega (arith, z, once i)
 
 pub separate : (l : List Recorded) → ((i : ℕ) → coverage l i ≤ 1) → (j k first n first₁ n₁ : ℕ) → j ≢ k
-    → named l j recorded.Dead ≡ recorded.Live first n → named l k recorded.Dead ≡ recorded.Live first₁ n₁
+    → named l j Recorded.Dead ≡ Recorded.Live first n → named l k Recorded.Dead ≡ Recorded.Live first₁ n₁
     → (i : ℕ) → first ≤ i → i < first + n → first₁ ≤ i → i < first₁ + n₁ → ⊥
 separate l once j k s n s₁ n₁ d e e₁ i p q p₁ q₁ =
     not-twice l once j k i d

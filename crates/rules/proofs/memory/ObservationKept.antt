@@ -17,8 +17,7 @@ use Rattle.rules.proofs.runs.TargetRuns.{NotedKeeps, WatchKeeps, watch-
 use Rattle.rules.proofs.runs.TargetRuns.{operating, querying, negating, storing, deleting, initialising}
 use Rattle.rules.proofs.runs.Calls.{CallsKeep, storeBlock-keeps, initialise-keeps, store-called, delete-called}
 use Rattle.rules.proofs.runs.Calls.{initialise-called}
-use Rattle.rules.specs.declared.Value.the-variants as value
-use Rattle.rules.specs.declared.Evaluated.{Evaluated}
+use Rattle.rules.specs.Types.{Value, Evaluated}
 
 -- nothing is asked of the execution memory and the temporaries
 abbrev Observing : (Observation → Type 0) → WatchedState → Type 0
@@ -32,8 +31,8 @@ module _ (O : Observation → Type 0) (v : CallsKeep O) where
 
   recordBlock-keeps : (o : Observation) (k n : ℕ) → O o → O (recordBlock o k n)
   recordBlock-keeps o k n h =
-      kept-keeps o (storeBlock o (pointerTo k 0) (value.Integer (pos n))) h
-      (storeBlock-keeps O AnyNumber tt tt o (pointerTo k 0) (value.Integer (pos n))
+      kept-keeps o (storeBlock o (pointerTo k 0) (Value.Integer (pos n))) h
+      (storeBlock-keeps O AnyNumber tt tt o (pointerTo k 0) (Value.Integer (pos n))
       (λ j l first. v .storing o j first (suc l) h))
 
   markAll-keeps : (o : Observation) (k n : ℕ) → O o → O (markAll o k n)

@@ -25,11 +25,7 @@ use Rattle.rules.proofs.memory.Changes.{onward-made}
 use Rattle.rules.proofs.memory.PlainKept.{plain-onward}
 use Rattle.rules.proofs.memory.WatchedKept.{watched-onward}
 use Rattle.rules.proofs.memory.Totals.{liveLength, countOccupied, total, total-occupied}
-use Rattle.rules.specs.declared.Block.the-variants as block
-use Rattle.rules.specs.declared.Recorded.{Recorded}
-use Rattle.rules.specs.declared.Recorded.the-variants as recorded
-use Rattle.rules.specs.declared.Cell.{Cell}
-use Rattle.rules.specs.declared.Cell.the-variants as cell
+use Rattle.rules.specs.Types.{Block, Recorded, Cell}
 
 -- no cell lies in two live blocks
 two-covers : (m : Memory) → Invariant m → (j k i : ℕ) → j ≢ k → covers (recordedOf (blockOf m j)) i ≡ true
@@ -38,27 +34,27 @@ two-covers m y j k i d e e₁ =
     not-twice (recordsOf m) (λ i₁. omega (arith, y .cover i₁, at-most-one (cellOf m i₁))) j k i d
     (at-name j ∙ e) (at-name k ∙ e₁)
   where
-    at-name : (k : ℕ) → covers (named (recordsOf m) k recorded.Dead) i ≡ covers (recordedOf (blockOf m k)) i
-    at-name k = ap (λ b. covers b i) (named-map recordedOf (m .blocks) k block.Dead)
+    at-name : (k : ℕ) → covers (named (recordsOf m) k Recorded.Dead) i ≡ covers (recordedOf (blockOf m k)) i
+    at-name k = ap (λ b. covers b i) (named-map recordedOf (m .blocks) k Block.Dead)
 
 -- a live block covers each of its cells
-covers-live : (m : Memory) (k first n : ℕ) → recordedOf (blockOf m k) ≡ recorded.Live first n → (i : ℕ) → first ≤ i
+covers-live : (m : Memory) (k first n : ℕ) → recordedOf (blockOf m k) ≡ Recorded.Live first n → (i : ℕ) → first ≤ i
     → i < first + n → covers (recordedOf (blockOf m k)) i ≡ true
 covers-live m k first n e i p q = ap (λ b. covers b i) e ∙ covers-inside first n i p q
 
 pub apart : (m : Memory) → Invariant m → (j k first n first₁ n₁ : ℕ) → j ≢ k
-    → recordedOf (blockOf m j) ≡ recorded.Live first n → recordedOf (blockOf m k) ≡ recorded.Live first₁ n₁
+    → recordedOf (blockOf m j) ≡ Recorded.Live first n → recordedOf (blockOf m k) ≡ Recorded.Live first₁ n₁
     → (i : ℕ) → first ≤ i → i < first + n → first₁ ≤ i → i < first₁ + n₁ → ⊥
 apart m y j k s n s₁ n₁ d e e₁ i p q p₁ q₁ =
     two-covers m y j k i d (covers-live m j s n e i p q) (covers-live m k s₁ n₁ e₁ i p₁ q₁)
 
 -- the cell is not free, and this name is its owner
 abbrev pub HasOwner : ℕ → Cell → Type 0
-HasOwner k cell.Free = ⊥
-HasOwner k (cell.Holds o v) = o ≡ k
+HasOwner k Cell.Free = ⊥
+HasOwner k (Cell.Holds o v) = o ≡ k
 
 -- every cell of a live block has that block's name as owner
-pub owner : (m : Memory) → Invariant m → (k first n : ℕ) → recordedOf (blockOf m k) ≡ recorded.Live first n
+pub owner : (m : Memory) → Invariant m → (k first n : ℕ) → recordedOf (blockOf m k) ≡ Recorded.Live first n
     → (i : ℕ) → first ≤ i → i < first + n → HasOwner k (cellOf m i)
 owner m y k first n e i p q = go (cellOf m i) (y .cover i) (y .owned i)
   where
@@ -66,8 +62,8 @@ owner m y k first n e i p q = go (cellOf m i) (y .cover i) (y .owned i)
     here = covers-live m k first n e i p q
 
     go : (c : Cell) → coverage (recordsOf m) i ≡ occupied c → Owned (m .blocks) i c → HasOwner k c
-    go cell.Free w g = absurd (omega (arith, w, covered-once m k i here))
-    go (cell.Holds o v) w g = same (ℕ-discrete o k)
+    go Cell.Free w g = absurd (omega (arith, w, covered-once m k i here))
+    go (Cell.Holds o v) w g = same (ℕ-discrete o k)
       where
         same : Dec (o ≡ k) → o ≡ k
         same (yes d) = d
@@ -75,23 +71,23 @@ owner m y k first n e i p q = go (cellOf m i) (y .cover i) (y .owned i)
 
 -- every other cell is free
 pub elsewhere-free : (m : Memory) → Invariant m → (i : ℕ)
-    → ((k first n : ℕ) → recordedOf (blockOf m k) ≡ recorded.Live first n → first ≤ i → i < first + n → ⊥)
-    → cellOf m i ≡ cell.Free
+    → ((k first n : ℕ) → recordedOf (blockOf m k) ≡ Recorded.Live first n → first ≤ i → i < first + n → ⊥)
+    → cellOf m i ≡ Cell.Free
 elsewhere-free m y i none = go (cellOf m i) (y .owned i)
   where
     within : (o : ℕ) (b : Recorded) → recordedOf (blockOf m o) ≡ b → covers b i ≡ true → ⊥
-    within o recorded.Unused e h = true≢false (sym h)
-    within o recorded.Dead e h = true≢false (sym h)
-    within o (recorded.Live first n) e h = at (covering first n i) h
+    within o Recorded.Unused e h = true≢false (sym h)
+    within o Recorded.Dead e h = true≢false (sym h)
+    within o (Recorded.Live first n) e h = at (covering first n i) h
       where
         at : {b : Bool} → Covering first n i b → b ≡ true → ⊥
         at (inside p q) g = none o first n e p q
         at (below p) g = true≢false (sym g)
         at (above p) g = true≢false (sym g)
 
-    go : (c : Cell) → Owned (m .blocks) i c → c ≡ cell.Free
-    go cell.Free h = refl
-    go (cell.Holds o v) h = absurd (within o (recordedOf (blockOf m o)) refl h)
+    go : (c : Cell) → Owned (m .blocks) i c → c ≡ Cell.Free
+    go Cell.Free h = refl
+    go (Cell.Holds o v) h = absurd (within o (recordedOf (blockOf m o)) refl h)
 
 -- after a run from memory m to memory m₁: "Free cells plus lengths of live blocks make 1,024"; no cell lies in two live
 -- blocks; every cell of a live block has its name as owner, and every other cell is free; the names that were given are
@@ -100,17 +96,17 @@ pub record Orderly (m m₁ : Memory) : Type 0 where
   pub sum : countFree (m₁ .cells) + liveLength (recordsOf m₁) ≡ cellCount
   pub occupied-sum : countOccupied (m₁ .cells) ≡ liveLength (recordsOf m₁)
   pub separate : (j k first n first₁ n₁ : ℕ) → j ≢ k
-      → recordedOf (blockOf m₁ j) ≡ recorded.Live first n → recordedOf (blockOf m₁ k) ≡ recorded.Live first₁ n₁
+      → recordedOf (blockOf m₁ j) ≡ Recorded.Live first n → recordedOf (blockOf m₁ k) ≡ Recorded.Live first₁ n₁
       → (i : ℕ) → first ≤ i → i < first + n → first₁ ≤ i → i < first₁ + n₁ → ⊥
-  pub owned : (k first n : ℕ) → recordedOf (blockOf m₁ k) ≡ recorded.Live first n
+  pub owned : (k first n : ℕ) → recordedOf (blockOf m₁ k) ≡ Recorded.Live first n
       → (i : ℕ) → first ≤ i → i < first + n → HasOwner k (cellOf m₁ i)
   pub free : (i : ℕ)
-      → ((k first n : ℕ) → recordedOf (blockOf m₁ k) ≡ recorded.Live first n → first ≤ i → i < first + n → ⊥)
-      → cellOf m₁ i ≡ cell.Free
+      → ((k first n : ℕ) → recordedOf (blockOf m₁ k) ≡ Recorded.Live first n → first ≤ i → i < first + n → ⊥)
+      → cellOf m₁ i ≡ Cell.Free
   pub rising : (j k : ℕ) → 1 ≤ j → j ≤ k → k ≤ nameCount → isUnused (blockOf m₁ k) ≡ false
       → isUnused (blockOf m₁ j) ≡ false
   pub given : (k : ℕ) → isUnused (blockOf m k) ≡ false → isUnused (blockOf m₁ k) ≡ false
-  pub dead : (k : ℕ) → blockOf m k ≡ block.Dead → blockOf m₁ k ≡ block.Dead
+  pub dead : (k : ℕ) → blockOf m k ≡ Block.Dead → blockOf m₁ k ≡ Block.Dead
 
 pub orderly : {m m₁ : Memory} → Onward m m₁ → Orderly m m₁
 orderly {m} {m₁} h = record {
@@ -134,7 +130,7 @@ watched-orderly a ρ x f y = orderly (watched-onward a ρ x f y)
 
 -- a new block has a name that was unused, and is no more
 pub made-unused : (m m₁ : Memory) (u : Use) (n k : ℕ) → Invariant m → makeBlock m u n ≡ made k m₁
-    → blockOf m k ≡ block.Unused
+    → blockOf m k ≡ Block.Unused
 made-unused m m₁ u n k y e = (rw e at (onward-made m u n y)) .0
 
 pub made-given : (m m₁ : Memory) (u : Use) (n k : ℕ) → Invariant m → makeBlock m u n ≡ made k m₁

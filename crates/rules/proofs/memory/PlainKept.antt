@@ -13,11 +13,11 @@ use Rattle.rules.proofs.memory.Invariant.{Invariant, Onward, onward-its
 use Rattle.rules.proofs.memory.BlockChanges.{onward-end}
 use Rattle.rules.proofs.memory.Changes.{change-kept, Given, onward-assigned, onward-made, onward-allocated}
 use Rattle.rules.proofs.memory.Changes.{onward-freed}
-use Rattle.rules.specs.declared.Block.the-variants as block
+use Rattle.rules.specs.Types.{Block}
 
 -- a block that is made had an unused name
 abbrev pub WasUnused : Memory → ℕ → Type 0
-WasUnused m k = blockOf m k ≡ block.Unused
+WasUnused m k = blockOf m k ≡ Block.Unused
 
 pub onward-runs : Onwards Invariant Onward
 onward-runs = record { valid = λ r. r .invariant; itself = onward-itself; further = onward-then }

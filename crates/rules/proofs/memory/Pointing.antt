@@ -11,29 +11,25 @@ use Rattle.rules.specs.Memory.{Memory, recordedOf, blockOf, locatedIn, l
 use Rattle.rules.specs.Observation.{covers}
 use Rattle.rules.proofs.memory.MemoryLaws.{covers-inside}
 use Rattle.rules.proofs.memory.Invariant.{Invariant}
-use Rattle.rules.specs.declared.Pointer.{Pointer}
-use Rattle.rules.specs.declared.Located.{Located}
-use Rattle.rules.specs.declared.Located.the-variants as located
-use Rattle.rules.specs.declared.Recorded.{Recorded}
-use Rattle.rules.specs.declared.Recorded.the-variants as recorded
+use Rattle.rules.specs.Types.{Pointer, Located, Recorded}
 
 -- block k covers the cell, which is one of the 1,024
 abbrev pub Leads : Memory → ℕ → Located → Type 0
-Leads m k (located.At i) = (covers (recordedOf (blockOf m k)) i ≡ true) × (i < cellCount)
-Leads m k located.Dead = Unit {0}
-Leads m k located.Outside = Unit {0}
+Leads m k (Located.At i) = (covers (recordedOf (blockOf m k)) i ≡ true) × (i < cellCount)
+Leads m k Located.Dead = Unit {0}
+Leads m k Located.Outside = Unit {0}
 
 pub leads : (m : Memory) (p : Pointer) → Invariant m → Leads m (p .name) (locate m p)
 unfolding locate
 leads m p y = go (recordedOf (blockOf m (p .name))) (p .offset) refl
   where
     go : (x : Recorded) (z : ℤ) → recordedOf (blockOf m (p .name)) ≡ x → Leads m (p .name) (locatedIn x z)
-    go recorded.Unused z e = tt
-    go recorded.Dead z e = tt
-    go (recorded.Live first n) (negsuc o) e = tt
-    go (recorded.Live first n) (pos o) e = at (ltb o n) refl
+    go Recorded.Unused z e = tt
+    go Recorded.Dead z e = tt
+    go (Recorded.Live first n) (negsuc o) e = tt
+    go (Recorded.Live first n) (pos o) e = at (ltb o n) refl
       where
-        at : (b : Bool) → ltb o n ≡ b → Leads m (p .name) (cond b (located.At (first + o)) located.Outside)
+        at : (b : Bool) → ltb o n ≡ b → Leads m (p .name) (cond b (Located.At (first + o)) Located.Outside)
         at false h = tt
         at true h =
             let inner = ltb-true o n h in (
@@ -48,6 +44,6 @@ pub at-pointed : {A : Type 0} (P : A → Type 0) (at stop : ℕ → A) (m : Memo
 at-pointed P at stop m p y g h = go (locate m p) (leads m p y)
   where
     go : (r : Located) → Leads m (p .name) r → P (atCell at stop r)
-    go (located.At i) w = g i (w .0)
-    go located.Dead w = h
-    go located.Outside w = h
+    go (Located.At i) w = g i (w .0)
+    go Located.Dead w = h
+    go Located.Outside w = h

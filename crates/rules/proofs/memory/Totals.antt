@@ -10,17 +10,13 @@ use Rattle.rules.specs.Memory.{Memory, recordedOf, one, countFree}
 use Rattle.rules.specs.Observation.{covers}
 use Rattle.rules.proofs.memory.MemoryLaws.{named-map, Covering, inside, below, above, covering, coverage}
 use Rattle.rules.proofs.memory.Invariant.{occupied, recordsOf, Invariant}
-use Rattle.rules.specs.declared.Block.the-variants as block
-use Rattle.rules.specs.declared.Recorded.{Recorded}
-use Rattle.rules.specs.declared.Recorded.the-variants as recorded
-use Rattle.rules.specs.declared.Cell.{Cell}
-use Rattle.rules.specs.declared.Cell.the-variants as cell
+use Rattle.rules.specs.Types.{Block, Recorded, Cell}
 
 -- the sum of the lengths of live blocks
 abbrev pub lengthOf : Recorded → ℕ
-lengthOf recorded.Unused = 0
-lengthOf (recorded.Live first n) = n
-lengthOf recorded.Dead = 0
+lengthOf Recorded.Unused = 0
+lengthOf (Recorded.Live first n) = n
+lengthOf Recorded.Dead = 0
 
 abbrev pub liveLength : List Recorded → ℕ
 liveLength [] = 0
@@ -70,7 +66,7 @@ hit-above zero (suc n) (suc i) p = hit-above zero n i (omega arith)
 hit-above (suc s) n zero p = absurd (omega arith)
 hit-above (suc s) n (suc i) p = hit-above s n i (omega arith)
 
-covers-hit : (s n i : ℕ) → one (covers (recorded.Live s n) i) ≡ hit s n i
+covers-hit : (s n i : ℕ) → one (covers (Recorded.Live s n) i) ≡ hit s n i
 covers-hit s n i = go (covering s n i)
   where
     go : {b : Bool} → Covering s n i b → one b ≡ hit s n i
@@ -85,13 +81,13 @@ sum-hit (suc N) zero (suc n) h = omega (arith, sum-hit N zero n (omega arith))
 sum-hit zero (suc s) n h = absurd (omega arith)
 sum-hit (suc N) (suc s) n h = omega (arith, sum-hit N s n (omega arith))
 
-sum-covers : (N : ℕ) (b : Recorded) → ((s n : ℕ) → b ≡ recorded.Live s n → s + n ≤ N)
+sum-covers : (N : ℕ) (b : Recorded) → ((s n : ℕ) → b ≡ Recorded.Live s n → s + n ≤ N)
     → sum N (λ i. one (covers b i)) ≡ lengthOf b
-sum-covers N recorded.Unused h = sum-zero N
-sum-covers N (recorded.Live s n) h = sum-same N _ _ (covers-hit s n) ∙ sum-hit N s n (h s n refl)
-sum-covers N recorded.Dead h = sum-zero N
+sum-covers N Recorded.Unused h = sum-zero N
+sum-covers N (Recorded.Live s n) h = sum-same N _ _ (covers-hit s n) ∙ sum-hit N s n (h s n refl)
+sum-covers N Recorded.Dead h = sum-zero N
 
-sum-coverage : (N : ℕ) (l : List Recorded) → ((k s n : ℕ) → getD l k recorded.Dead ≡ recorded.Live s n → s + n ≤ N)
+sum-coverage : (N : ℕ) (l : List Recorded) → ((k s n : ℕ) → getD l k Recorded.Dead ≡ Recorded.Live s n → s + n ≤ N)
     → sum N (λ i. coverage l i) ≡ liveLength l
 sum-coverage N [] h = sum-zero N
 sum-coverage N (b ∷ l) h =
@@ -102,11 +98,11 @@ sum-coverage N (b ∷ l) h =
       sum-coverage N l (λ k. h (suc k)),
     )
 
-sum-occupied : (l : List Cell) → countFree l + sum (length l) (λ i. occupied (getD l i cell.Free)) ≡ length l
+sum-occupied : (l : List Cell) → countFree l + sum (length l) (λ i. occupied (getD l i Cell.Free)) ≡ length l
 unfolding countFree
 sum-occupied [] = refl
-sum-occupied (cell.Free ∷ l) = omega (arith, sum-occupied l)
-sum-occupied (cell.Holds o v ∷ l) = omega (arith, sum-occupied l)
+sum-occupied (Cell.Free ∷ l) = omega (arith, sum-occupied l)
+sum-occupied (Cell.Holds o v ∷ l) = omega (arith, sum-occupied l)
 
 -- the number of cells that are not free
 abbrev pub countOccupied : List Cell → ℕ
@@ -116,20 +112,20 @@ countOccupied (c ∷ cs) = occupied c + countOccupied cs
 free-or-occupied : (l : List Cell) → countFree l + countOccupied l ≡ length l
 unfolding countFree
 free-or-occupied [] = refl
-free-or-occupied (cell.Free ∷ l) = omega (arith, free-or-occupied l)
-free-or-occupied (cell.Holds o v ∷ l) = omega (arith, free-or-occupied l)
+free-or-occupied (Cell.Free ∷ l) = omega (arith, free-or-occupied l)
+free-or-occupied (Cell.Holds o v ∷ l) = omega (arith, free-or-occupied l)
 
 -- at any number of cells
 total-of : (N : ℕ) (l : List Recorded) (c : List Cell) → length c ≡ N
-    → ((i : ℕ) → coverage l i ≡ occupied (getD c i cell.Free))
-    → ((k s n : ℕ) → getD l k recorded.Dead ≡ recorded.Live s n → s + n ≤ N) → countFree c + liveLength l ≡ N
+    → ((i : ℕ) → coverage l i ≡ occupied (getD c i Cell.Free))
+    → ((k s n : ℕ) → getD l k Recorded.Dead ≡ Recorded.Live s n → s + n ≤ N) → countFree c + liveLength l ≡ N
 total-of N l c e h w =
-    let q : countFree c + sum N (λ i. occupied (getD c i cell.Free)) ≡ N = rw e at (sum-occupied c) in
-    omega (arith, q, sum-same N (λ i. coverage l i) (λ i. occupied (getD c i cell.Free)) h, sum-coverage N l w)
+    let q : countFree c + sum N (λ i. occupied (getD c i Cell.Free)) ≡ N = rw e at (sum-occupied c) in
+    omega (arith, q, sum-same N (λ i. coverage l i) (λ i. occupied (getD c i Cell.Free)) h, sum-coverage N l w)
 
 pub total : (m : Memory) → Invariant m → countFree (m .cells) + liveLength (recordsOf m) ≡ cellCount
 total m y = total-of cellCount (recordsOf m) (m .cells) (y .size) (y .cover)
-    (λ k s n e. y .within (suc k) s n (sym (named-map recordedOf (m .blocks) (suc k) block.Dead) ∙ e))
+    (λ k s n e. y .within (suc k) s n (sym (named-map recordedOf (m .blocks) (suc k) Block.Dead) ∙ e))
 
 pub total-occupied : (m : Memory) → Invariant m → countOccupied (m .cells) ≡ liveLength (recordsOf m)
 total-occupied m y = omega (arith, free-or-occupied (m .cells), y .size, total m y)

@@ -37,10 +37,7 @@ use Rattle.rules.proofs.memory.GivenNames.{temporaries-stay, MadeGiven,
 use Rattle.rules.proofs.memory.GivenNames.{assigned-given, allocated-given, freed-given, numbers-given}
 use Rattle.rules.proofs.memory.GivenNames.{moves-given}
 use Rattle.rules.proofs.memory.GivenNames.{opposite-given, queried-given}
-use Rattle.rules.specs.declared.Evaluated.{Evaluated}
-use Rattle.rules.specs.declared.Evaluated.the-variants as evaluated
-use Rattle.rules.specs.declared.Cell.the-variants as cell
-use Rattle.rules.specs.declared.Temporary.the-variants as temporary
+use Rattle.rules.specs.Types.{Evaluated, Cell, Temporary}
 
 -- the variables in scope have blocks whose names were given
 abbrev pub VariablesGiven : Scope → Variables → Memory → Type 0
@@ -101,10 +98,10 @@ module _ (σ : Scope) (ρ : Variables) (x : WatchedState) (i : GivenState σ ρ 
   τ = x .temporaries
 
   held-given : (n : ℕ) → EvaluatedHas (GivenValue m) (heldIn τ n)
-  held-given n = held-has (GivenValue m) (temporaryOf τ n) (all-getD (i .temporaries) n temporary.Empty tt)
+  held-given n = held-has (GivenValue m) (temporaryOf τ n) (all-getD (i .temporaries) n Temporary.Empty tt)
 
   cell-given : (j : ℕ) → CellHas (GivenValue m) (cellOf m j)
-  cell-given j = all-getD (i .cells) j cell.Free tt
+  cell-given j = all-getD (i .cells) j Cell.Free tt
 
   evaluate-given : (e : Expression ℕ) → SoundExpression e Named σ
       → EvaluatedHas (GivenValue m) (evaluate e (temporaryOf τ) ρ m)
@@ -154,21 +151,21 @@ module _ (σ : Scope) (ρ : Variables) (x : WatchedState) (i : GivenState σ ρ 
       taken-keeps (GivenState σ ρ) AnyNumber (GivenValue m) x n e i h (λ w g. record {
         invariant = i .invariant;
         cells = i .cells;
-        temporaries = all-set (i .temporaries) n {x = temporary.Holds w} g;
+        temporaries = all-set (i .temporaries) n {x = Temporary.Holds w} g;
         variables = i .variables;
       })
 
   query-given : (q : Query) (n : ℕ)
-      → EvaluatedHas (GivenValue m) (onValue (heldIn τ n) evaluated.Stopped (queryObservation q (x .observation)))
+      → EvaluatedHas (GivenValue m) (onValue (heldIn τ n) Evaluated.Stopped (queryObservation q (x .observation)))
   query-given q n =
-      on-value (EvaluatedHas (GivenValue m)) AnyNumber evaluated.Stopped (λ c y. tt) (heldIn τ n) _ (held-given n)
+      on-value (EvaluatedHas (GivenValue m)) AnyNumber Evaluated.Stopped (λ c y. tt) (heldIn τ n) _ (held-given n)
       (λ v g.
-      on-pointer (EvaluatedHas (GivenValue m)) AnyNumber evaluated.Stopped (λ c y. tt) (GivenValue m) v _ tt g (λ p h.
+      on-pointer (EvaluatedHas (GivenValue m)) AnyNumber Evaluated.Stopped (λ c y. tt) (GivenValue m) v _ tt g (λ p h.
       queried-given m q (recordOf (x .observation) (p .name)) (λ j. isMarked (x .observation) j) p h))
 
-  not-given : (n : ℕ) → EvaluatedHas (GivenValue m) (onValue (heldIn τ n) evaluated.Stopped opposite)
+  not-given : (n : ℕ) → EvaluatedHas (GivenValue m) (onValue (heldIn τ n) Evaluated.Stopped opposite)
   not-given n =
-      on-value (EvaluatedHas (GivenValue m)) AnyNumber evaluated.Stopped (λ c y. tt) (heldIn τ n) _ (held-given n)
+      on-value (EvaluatedHas (GivenValue m)) AnyNumber Evaluated.Stopped (λ c y. tt) (heldIn τ n) _ (held-given n)
       (λ v g. opposite-given m v)
 
   observed-given : (r : Noted) → ChangeKeeps (GivenState σ ρ) AnyNumber (observed x r)

@@ -16,7 +16,7 @@ use Rattle.rules.proofs.memory.BlockChanges.{onward-end}
 use Rattle.rules.proofs.memory.Changes.{change-kept, Given, onward-assigned, onward-made, onward-allocated}
 use Rattle.rules.proofs.memory.Changes.{onward-freed}
 use Rattle.rules.proofs.memory.PlainKept.{WasUnused}
-use Rattle.rules.specs.declared.Evaluated.{Evaluated}
+use Rattle.rules.specs.Types.{Evaluated}
 
 -- of the execution memory alone
 abbrev Sound : WatchedState → Type 0

@@ -13,7 +13,7 @@ use Rattle.rules.specs.Checker.{check}
 use Rattle.rules.specs.Nodes.{operatorOf, SourceNode, nodeSort, asTerm, asPredicate, sourceStatement, nodeAt}
 use Rattle.rules.specs.Nodes.{sourceProgram}
 use Rattle.rules.specs.Emission.{operatorNumber}
-use Rattle.rules.specs.declared.Checked.the-variants as checked
+use Rattle.rules.specs.Types.{Checked}
 use Rattle.rules.proofs.acceptance.Acceptance.{accepted-says}
 use Rattle.rules.proofs.acceptance.AcceptedTrees.{accepted-last}
 use Rattle.rules.proofs.acceptance.KindViews.{formAt, found-at, and-split, SourceKind, literal, read, address}
@@ -115,7 +115,7 @@ writable-below t (suc m) s n d e =
     (writable-arm t n (λ r x c. writable-below t m r x (omega arith)) (w .kind)
     (subst (FormHolds source t n) (found-at source (kindOf t n) (w .form) (w .found)) (w .holds)))
 
-pub accepted-writable : (t : List ℕ) → check source t ≡ checked.Accepted → Writable (sourceProgram t)
+pub accepted-writable : (t : List ℕ) → check source t ≡ Checked.Accepted → Writable (sourceProgram t)
 accepted-writable t h =
     writable-below t (suc (recordCount t)) statement (recordCount t) (omega arith)
     (accepted-last source t (accepted-says source t h))

@@ -17,8 +17,7 @@ use Rattle.rules.specs.Relabelling.{relabel, relabelTarget, relabelOutco
 use Rattle.rules.proofs.runs.TargetRuns.{assigning, allocating, freeing, operating, querying, negating, storing}
 use Rattle.rules.proofs.runs.TargetRuns.{deleting, initialising, making, closing}
 use Rattle.rules.proofs.rewriting.Relabelled.{relabel-translate, numbered-only}
-use Rattle.rules.specs.declared.Test.{Test}
-use Rattle.rules.specs.declared.Test.the-variants as test
+use Rattle.rules.specs.Types.{Test}
 
 module _ {S : Type 0} (g : ℕ → ℕ) where
   -- how two parts of a run come out, one the other relabelled
@@ -48,9 +47,9 @@ module _ {S : Type 0} (g : ℕ → ℕ) where
   decide-relabelled : (s : ℕ) (ρ : Variables) (t : Test) (x : S) (f : ℕ) (a b c d : Outcome S)
       → a ≡ relabelOutcome g c → b ≡ relabelOutcome g d
       → decide (g s) ρ t x f a b ≡ relabelOutcome g (decide s ρ t x f c d)
-  decide-relabelled s ρ test.Yes x f a b c d p q = p
-  decide-relabelled s ρ test.No x f a b c d p q = q
-  decide-relabelled s ρ (test.Stopped k) x f a b c d p q = refl
+  decide-relabelled s ρ Test.Yes x f a b c d p q = p
+  decide-relabelled s ρ Test.No x f a b c d p q = q
+  decide-relabelled s ρ (Test.Stopped k) x f a b c d p q = refl
 
   turns-relabelled : (n s : ℕ) (ρ : Variables) (holds : S → Test) (x u : S → ℕ → Outcome S) → Same x u
       → Same (turns n (g s) ρ holds x) (turns n s ρ holds u)

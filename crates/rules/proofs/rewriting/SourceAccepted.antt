@@ -14,7 +14,7 @@ use Rattle.rules.specs.Trees.{assign, new, free, sequence, branch, while
 use Rattle.rules.specs.Emission.{expressionTree, treeSize, emit}
 use Rattle.rules.specs.Translation.{embed}
 use Rattle.rules.specs.SourceRecords.{sourceExpression, sourcePlace, termTree, predicateTree, sourceTree}
-use Rattle.rules.specs.declared.Checked.the-variants as checked
+use Rattle.rules.specs.Types.{Checked}
 use Rattle.rules.proofs.acceptance.Sound.{Scope, startScope, adding, SoundTerm, SoundPredicate, SoundStatement}
 use Rattle.rules.proofs.translation.FittingTrees.{Fitting}
 use Rattle.rules.proofs.translation.EmittedBytes.{emitted, emitted-count}
@@ -95,7 +95,7 @@ statement-levels (letIn s x b) ρ (d, hx, out, hb) w =
 statement-levels (assert s p) ρ (d, hp) w = (no-level, predicate-levels p ρ 0 hp w, tt, tt)
 
 pub source-accepted : (a : Statement) → SoundStatement a startScope → Writable a → treeSize (sourceTree a) ≤ 256
-    → check source (tableBytes (emit (sourceTree a) 0)) ≡ checked.Accepted
+    → check source (tableBytes (emit (sourceTree a) 0)) ≡ Checked.Accepted
 source-accepted a h w s =
     let t : List ℕ = tableBytes (emit (sourceTree a) 0) in
     let fitting : Fitting source (sourceTree a) startScope = statement-fits a startScope h w in

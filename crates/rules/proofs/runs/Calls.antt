@@ -11,31 +11,23 @@ use Rattle.rules.specs.Observation.{markAt, initialise}
 use Rattle.rules.specs.Watched.{calledOn, calledOnTwo}
 use Rattle.rules.proofs.runs.Keeping.{AnyValue, Gives, on-value, on-integer, on-pointer}
 use Rattle.rules.proofs.runs.TargetRuns.{NotedKeeps}
-use Rattle.rules.specs.declared.Pointer.{Pointer}
-use Rattle.rules.specs.declared.Value.{Value}
-use Rattle.rules.specs.declared.Evaluated.{Evaluated}
-use Rattle.rules.specs.declared.Located.{Located}
-use Rattle.rules.specs.declared.Located.the-variants as located
-use Rattle.rules.specs.declared.Search.{Search}
-use Rattle.rules.specs.declared.Search.the-variants as search
-use Rattle.rules.specs.declared.Recorded.{Recorded}
-use Rattle.rules.specs.declared.Recorded.the-variants as recorded
+use Rattle.rules.specs.Types.{Pointer, Value, Evaluated, Located, Search, Recorded}
 
 -- O is kept by the three calls that change the observation memory: a block is stored under an unused name in the lowest
 -- run of free marks, a live block is deleted, a mark of a live block is set
 pub record CallsKeep (O : Observation → Type 0) : Type 0 where
-  pub storing : (o : Observation) (k first n : ℕ) → O o → recordOf o k ≡ recorded.Unused
-      → markRun o n ≡ search.At first → O (withMarks o k (recorded.Live first n) first n)
-  pub deleting : (o : Observation) (k first n : ℕ) → O o → recordOf o k ≡ recorded.Live first n
-      → O (withMarks o k recorded.Dead first n)
-  pub marking : (o : Observation) (p : Pointer) (i : ℕ) → O o → locateMark o p ≡ located.At i
+  pub storing : (o : Observation) (k first n : ℕ) → O o → recordOf o k ≡ Recorded.Unused
+      → markRun o n ≡ Search.At first → O (withMarks o k (Recorded.Live first n) first n)
+  pub deleting : (o : Observation) (k first n : ℕ) → O o → recordOf o k ≡ Recorded.Live first n
+      → O (withMarks o k Recorded.Dead first n)
+  pub marking : (o : Observation) (p : Pointer) (i : ℕ) → O o → locateMark o p ≡ Located.At i
       → O (record { blocks = o .blocks; marks = set (o .marks) i true })
 
 -- O of the observation memory, E of the number of a refusal
 module _ (O : Observation → Type 0) (E : ℕ → Type 0) (wrong : E 40) (misused : E 48) where
   pub storeBlock-keeps : (o : Observation) (v w : Value)
-      → ((k n first : ℕ) → recordOf o k ≡ recorded.Unused → markRun o (suc n) ≡ search.At first
-      → O (withMarks o k (recorded.Live first (suc n)) first (suc n)))
+      → ((k n first : ℕ) → recordOf o k ≡ Recorded.Unused → markRun o (suc n) ≡ Search.At first
+      → O (withMarks o k (Recorded.Live first (suc n)) first (suc n)))
       → NotedKeeps O E (storeBlock o v w)
   storeBlock-keeps o v w g =
       on-pointer (NotedKeeps O E) E refused (λ c x. x) AnyValue v _ wrong tt (λ p u.
@@ -43,10 +35,10 @@ module _ (O : Observation → Type 0) (E : ℕ → Type 0) (wrong : E 40) (misus
     where
       found : (k n : ℕ) (b : Recorded) (r : Search) → recordOf o k ≡ b → markRun o (suc n) ≡ r
           → NotedKeeps O E (storeAt o k (suc n) b r)
-      found k n recorded.Unused search.Nothing d e = misused
-      found k n recorded.Unused (search.At first) d e = g k n first d e
-      found k n (recorded.Live first l) r d e = misused
-      found k n recorded.Dead r d e = misused
+      found k n Recorded.Unused Search.Nothing d e = misused
+      found k n Recorded.Unused (Search.At first) d e = g k n first d e
+      found k n (Recorded.Live first l) r d e = misused
+      found k n Recorded.Dead r d e = misused
 
       sized : (k : ℕ) (y z : ℤ) → NotedKeeps O E (storeSized o k y z)
       sized k (pos zero) (pos (suc n)) = found k n (recordOf o k) (markRun o (suc n)) refl refl
@@ -56,15 +48,15 @@ module _ (O : Observation → Type 0) (E : ℕ → Type 0) (wrong : E 40) (misus
       sized k (negsuc i) z = misused
 
   pub deleteBlock-keeps : (o : Observation) (v : Value)
-      → ((k first n : ℕ) → recordOf o k ≡ recorded.Live first n → O (withMarks o k recorded.Dead first n))
+      → ((k first n : ℕ) → recordOf o k ≡ Recorded.Live first n → O (withMarks o k Recorded.Dead first n))
       → NotedKeeps O E (deleteBlock o v)
   deleteBlock-keeps o v g =
       on-pointer (NotedKeeps O E) E refused (λ c x. x) AnyValue v _ wrong tt (λ p u. from (p .name) (p .offset))
     where
       found : (k : ℕ) (b : Recorded) → recordOf o k ≡ b → NotedKeeps O E (deleteAt o k b)
-      found k recorded.Unused e = misused
-      found k (recorded.Live first n) e = g k first n e
-      found k recorded.Dead e = misused
+      found k Recorded.Unused e = misused
+      found k (Recorded.Live first n) e = g k first n e
+      found k Recorded.Dead e = misused
 
       from : (k : ℕ) (z : ℤ) → NotedKeeps O E (deleteFrom o k z)
       from k (pos zero) = found k (recordOf o k) refl
@@ -72,15 +64,15 @@ module _ (O : Observation → Type 0) (E : ℕ → Type 0) (wrong : E 40) (misus
       from k (negsuc i) = misused
 
   pub initialise-keeps : (o : Observation) (v : Value)
-      → ((p : Pointer) (i : ℕ) → locateMark o p ≡ located.At i
+      → ((p : Pointer) (i : ℕ) → locateMark o p ≡ Located.At i
       → O (record { blocks = o .blocks; marks = set (o .marks) i true })) → NotedKeeps O E (initialise o v)
   initialise-keeps o v g =
       on-pointer (NotedKeeps O E) E refused (λ c x. x) AnyValue v _ wrong tt (λ p u. found p (locateMark o p) refl)
     where
       found : (p : Pointer) (l : Located) → locateMark o p ≡ l → NotedKeeps O E (markAt o l)
-      found p (located.At i) e = g p i e
-      found p located.Dead e = misused
-      found p located.Outside e = misused
+      found p (Located.At i) e = g p i e
+      found p Located.Dead e = misused
+      found p Located.Outside e = misused
 
   called : (e : Evaluated) (call : Value → Noted) → Gives AnyValue E e
       → ((v : Value) → NotedKeeps O E (call v)) → NotedKeeps O E (calledOn e call)
@@ -88,20 +80,20 @@ module _ (O : Observation → Type 0) (E : ℕ → Type 0) (wrong : E 40) (misus
 
   -- with what temporaries hold
   pub store-called : (o : Observation) (a b : Evaluated) → Gives AnyValue E a → Gives AnyValue E b
-      → ((k n first : ℕ) → recordOf o k ≡ recorded.Unused → markRun o (suc n) ≡ search.At first
-      → O (withMarks o k (recorded.Live first (suc n)) first (suc n)))
+      → ((k n first : ℕ) → recordOf o k ≡ Recorded.Unused → markRun o (suc n) ≡ Search.At first
+      → O (withMarks o k (Recorded.Live first (suc n)) first (suc n)))
       → NotedKeeps O E (calledOnTwo a b (storeBlock o))
   store-called o a b h k g =
       called a (λ v. onValue b refused (λ w. storeBlock o v w)) h (λ v.
       called b (λ w. storeBlock o v w) k (λ w. storeBlock-keeps o v w g))
 
   pub delete-called : (o : Observation) (e : Evaluated) → Gives AnyValue E e
-      → ((k first n : ℕ) → recordOf o k ≡ recorded.Live first n → O (withMarks o k recorded.Dead first n))
+      → ((k first n : ℕ) → recordOf o k ≡ Recorded.Live first n → O (withMarks o k Recorded.Dead first n))
       → NotedKeeps O E (calledOn e (deleteBlock o))
   delete-called o e h g = called e (deleteBlock o) h (λ v. deleteBlock-keeps o v g)
 
   pub initialise-called : (o : Observation) (e : Evaluated) → Gives AnyValue E e
-      → ((p : Pointer) (i : ℕ) → locateMark o p ≡ located.At i
+      → ((p : Pointer) (i : ℕ) → locateMark o p ≡ Located.At i
       → O (record { blocks = o .blocks; marks = set (o .marks) i true }))
       → NotedKeeps O E (calledOn e (initialise o))
   initialise-called o e h g = called e (initialise o) h (λ v. initialise-keeps o v g)

@@ -9,11 +9,7 @@ use Rattle.rules.proofs.lists.Among.{Among, among-more}
 use Rattle.rules.proofs.runs.Keeping.{AnyValue, AnyPlace, AnyMemory, AnyMade, Gives, TestStops, ChangeKeeps}
 use Rattle.rules.proofs.runs.Keeping.{MadeKeeps, assigned-keeps, makeAt-keeps, allocated-keeps, freed-keeps}
 use Rattle.rules.proofs.runs.EvaluationEndings.{EvaluatedAmong, FoundAmong, condition-among}
-use Rattle.rules.specs.declared.Evaluated.{Evaluated}
-use Rattle.rules.specs.declared.Evaluated.the-variants as evaluated
-use Rattle.rules.specs.declared.Found.{Found}
-use Rattle.rules.specs.declared.Test.{Test}
-use Rattle.rules.specs.declared.Test.the-variants as test
+use Rattle.rules.specs.Types.{Evaluated, Found, Test}
 
 -- the numbers that evaluating stops with, and those that a run ends with
 pub record Numbers (stopping ending : List ℕ) : Type 0 where
@@ -38,13 +34,13 @@ watchedly = record {
 -- a statement's change of the memory
 module _ {stopping ending : List ℕ} (w : Numbers stopping ending) where
   ends-test : (t : Test) → TestStops (Among stopping) t → TestStops (Among ending) t
-  ends-test test.Yes h = tt
-  ends-test test.No h = tt
-  ends-test (test.Stopped c) h = w .widen c h
+  ends-test Test.Yes h = tt
+  ends-test Test.No h = tt
+  ends-test (Test.Stopped c) h = w .widen c h
 
   pub ends-evaluated : (e : Evaluated) → EvaluatedAmong AnyValue stopping e → Gives AnyValue (Among ending) e
-  ends-evaluated (evaluated.Value v) h = tt
-  ends-evaluated (evaluated.Stopped c) h = w .widen c h
+  ends-evaluated (Evaluated.Value v) h = tt
+  ends-evaluated (Evaluated.Stopped c) h = w .widen c h
 
   pub ends-condition : (e : Evaluated) → EvaluatedAmong AnyValue stopping e → TestStops (Among ending) (condition e)
   ends-condition e h =

@@ -4,14 +4,12 @@ use Rattle.rules.specs.Memory.{Memory}
 use Rattle.rules.specs.Evaluation.{Variables, noTemporaries, evaluateSource}
 use Rattle.rules.specs.Answers.{evaluationEndings}
 use Rattle.rules.proofs.runs.EvaluationEndings.{EvaluatedAmong, evaluate-among}
-use Rattle.rules.specs.declared.Value.{Value}
-use Rattle.rules.specs.declared.Value.the-variants as values
-use Rattle.rules.specs.declared.Evaluated.{Evaluated}
+use Rattle.rules.specs.Types.{Value, Evaluated}
 
 abbrev pub Defined : Value → Type 0
-Defined values.Undefined = ⊥
-Defined (values.Integer z) = Unit {0}
-Defined (values.Pointer p) = Unit {0}
+Defined Value.Undefined = ⊥
+Defined (Value.Integer z) = Unit {0}
+Defined (Value.Pointer p) = Unit {0}
 
 abbrev pub FairEvaluated : Evaluated → Type 0
 FairEvaluated e = EvaluatedAmong Defined evaluationEndings e

@@ -30,11 +30,7 @@ use Rattle.rules.proofs.runs.SourceRuns.{MeaningKeeps, run-reaches}
 use Rattle.rules.proofs.runs.TargetRuns.{NotedKeeps, WatchKeeps, watch-reaches, taken-keeps, observed-keeps}
 use Rattle.rules.proofs.runs.TargetRuns.{operating, querying, negating, storing, deleting, initialising}
 use Rattle.rules.proofs.runs.Calls.{store-called, delete-called, initialise-called}
-use Rattle.rules.specs.declared.Value.{Value}
-use Rattle.rules.specs.declared.Evaluated.{Evaluated}
-use Rattle.rules.specs.declared.Evaluated.the-variants as evaluated
-use Rattle.rules.specs.declared.Temporary.{Temporary}
-use Rattle.rules.specs.declared.Temporary.the-variants as temporary
+use Rattle.rules.specs.Types.{Value, Evaluated, Temporary}
 
 -- what a run may end with
 abbrev pub EndsAmong : {S : Type 0} → List ℕ → Outcome S → Type 0
@@ -82,8 +78,8 @@ run-endings a ρ m f = reached-among plainEndings m f (run a ρ m f) (run-reache
 
 -- the watched run
 held-among : (t : Temporary) → EvaluatedAmong AnyValue temporaryEndings (held t)
-held-among temporary.Empty = refl
-held-among (temporary.Holds v) = tt
+held-among Temporary.Empty = refl
+held-among (Temporary.Holds v) = tt
 
 target-among : (e : Expression ℕ) (τ : Temporaries) (ρ : Variables) (m : Memory)
     → EvaluatedAmong AnyValue temporaryEndings (evaluate e (temporaryOf τ) ρ m)
@@ -103,7 +99,7 @@ held-ends x n = ends-evaluated watchedly (holding x n) (held-among (temporaryOf 
 query-among : (q : tree.Query) (o : Observation) (v : Value)
     → EvaluatedAmong AnyValue temporaryEndings (queryObservation q o v)
 query-among q o v =
-    on-pointer (EvaluatedAmong AnyValue temporaryEndings) (Among temporaryEndings) evaluated.Stopped (λ c x. x) AnyValue
+    on-pointer (EvaluatedAmong AnyValue temporaryEndings) (Among temporaryEndings) Evaluated.Stopped (λ c x. x) AnyValue
     v _ refl tt (λ p u.
     queried-among AnyValue (λ z. tt) (λ p. tt) temporaryEndings (watchedly .enough) q (recordOf o (p .name))
     (λ i. isMarked o i) p)
@@ -147,12 +143,12 @@ watch-ends = record {
       (held-among (temporaryOf (x .temporaries) (suc (suc n)))));
   takes-query = λ n q x v.
       taken-ends x n (querying q n x)
-      (on-value (EvaluatedAmong AnyValue temporaryEndings) (Among temporaryEndings) evaluated.Stopped (λ c y. y)
+      (on-value (EvaluatedAmong AnyValue temporaryEndings) (Among temporaryEndings) Evaluated.Stopped (λ c y. y)
       (holding x (suc n)) _ (held-among (temporaryOf (x .temporaries) (suc n)))
       (λ w u. query-among q (x .observation) w));
   takes-not = λ n x v.
       taken-ends x n (negating n x)
-      (on-value (EvaluatedAmong AnyValue temporaryEndings) (Among temporaryEndings) evaluated.Stopped (λ c y. y)
+      (on-value (EvaluatedAmong AnyValue temporaryEndings) (Among temporaryEndings) Evaluated.Stopped (λ c y. y)
       (holding x (suc n)) _ (held-among (temporaryOf (x .temporaries) (suc n)))
       (λ w u. opposite-among AnyValue (λ z. tt) (λ p. tt) temporaryEndings (watchedly .enough) w));
   stores = λ n x v.

@@ -19,17 +19,7 @@ use Rattle.rules.proofs.runs.Operations.{opposite-gives}
 use Rattle.rules.proofs.runs.Keeping.{AnyValue, AnyPlace, Gives, Finds, TestStops, on-value, on-place}
 use Rattle.rules.proofs.runs.Keeping.{on-pointer}
 use Rattle.rules.proofs.runs.Keeping.{on-test, at-cell}
-use Rattle.rules.specs.declared.Pointer.{Pointer}
-use Rattle.rules.specs.declared.Value.{Value}
-use Rattle.rules.specs.declared.Value.the-variants as values
-use Rattle.rules.specs.declared.Evaluated.{Evaluated}
-use Rattle.rules.specs.declared.Evaluated.the-variants as evaluated
-use Rattle.rules.specs.declared.Found.{Found}
-use Rattle.rules.specs.declared.Found.the-variants as found
-use Rattle.rules.specs.declared.Recorded.{Recorded}
-use Rattle.rules.specs.declared.Recorded.the-variants as recorded
-use Rattle.rules.specs.declared.Cell.{Cell}
-use Rattle.rules.specs.declared.Cell.the-variants as cell
+use Rattle.rules.specs.Types.{Pointer, Value, Evaluated, Found, Recorded, Cell}
 
 -- G of the value; the numbers of stops
 abbrev pub EvaluatedAmong : (Value → Type 0) → List ℕ → Evaluated → Type 0
@@ -39,16 +29,16 @@ abbrev pub FoundAmong : List ℕ → Found → Type 0
 FoundAmong numbers f = Finds AnyPlace (Among numbers) f
 
 -- G holds of every defined value; those that evaluating without temporaries has are among the numbers
-module _ (G : Value → Type 0) (integers : (z : ℤ) → G (values.Integer z))
-    (pointers : (p : Pointer) → G (values.Pointer p)) (numbers : List ℕ)
+module _ (G : Value → Type 0) (integers : (z : ℤ) → G (Value.Integer z))
+    (pointers : (p : Pointer) → G (Value.Pointer p)) (numbers : List ℕ)
     (enough : (c : ℕ) → Among evaluationEndings c → Among numbers c) where
   truth-among : (b : Bool) → EvaluatedAmong G numbers (truthValue b)
   truth-among b = truth-gives G (Among numbers) (λ z e. integers z) (λ p z g e. pointers _) enough b
 
   ofLive-among : (b : Recorded) (f : ℕ → Value) → ((n : ℕ) → G (f n)) → EvaluatedAmong G numbers (ofLive b f)
-  ofLive-among recorded.Unused f g = enough 47 refl
-  ofLive-among (recorded.Live first n) f g = g n
-  ofLive-among recorded.Dead f g = enough 47 refl
+  ofLive-among Recorded.Unused f g = enough 47 refl
+  ofLive-among (Recorded.Live first n) f g = g n
+  ofLive-among Recorded.Dead f g = enough 47 refl
 
   pub queried-among : (q : Query) (b : Recorded) (marked : ℕ → Bool) (p : Pointer)
       → EvaluatedAmong G numbers (queried q b marked p)
@@ -64,8 +54,8 @@ module _ (G : Value → Type 0) (integers : (z : ℤ) → G (values.Integer z))
 
   among-value : (e : Evaluated) (next : Value → Evaluated) → EvaluatedAmong G numbers e
       → ((v : Value) → G v → EvaluatedAmong G numbers (next v))
-      → EvaluatedAmong G numbers (onValue e evaluated.Stopped next)
-  among-value e next h g = on-value (EvaluatedAmong G numbers) (Among numbers) evaluated.Stopped (λ c x. x) e next h g
+      → EvaluatedAmong G numbers (onValue e Evaluated.Stopped next)
+  among-value e next h g = on-value (EvaluatedAmong G numbers) (Among numbers) Evaluated.Stopped (λ c x. x) e next h g
 
   pub condition-among : (e : Evaluated) → EvaluatedAmong G numbers e → TestStops (Among numbers) (condition e)
   condition-among e h = condition-stops G (Among numbers) (λ z e. integers z) (λ p z g e. pointers _) enough e h
@@ -76,23 +66,23 @@ module _ (G : Value → Type 0) (integers : (z : ℤ) → G (values.Integer z))
       operated-gives G (Among numbers) (λ z e. integers z) (λ p z g e. pointers _) enough o a b g h
 
   defined-among : (c : Cell) → EvaluatedAmong G numbers (defined c)
-  defined-among cell.Free = enough 41 refl
-  defined-among (cell.Holds o values.Undefined) = enough 41 refl
-  defined-among (cell.Holds o (values.Integer z)) = integers z
-  defined-among (cell.Holds o (values.Pointer p)) = pointers p
+  defined-among Cell.Free = enough 41 refl
+  defined-among (Cell.Holds o Value.Undefined) = enough 41 refl
+  defined-among (Cell.Holds o (Value.Integer z)) = integers z
+  defined-among (Cell.Holds o (Value.Pointer p)) = pointers p
 
   readCell-among : (m : Memory) (p : Pointer) → EvaluatedAmong G numbers (readCell m p)
-  readCell-among m p = at-cell (EvaluatedAmong G numbers) (Among numbers) evaluated.Stopped (λ c x. x) (locate m p) _
+  readCell-among m p = at-cell (EvaluatedAmong G numbers) (Among numbers) Evaluated.Stopped (λ c x. x) (locate m p) _
       (enough 42 refl) (λ i. defined-among (cellOf m i))
 
   pub addressOf-among : (f : Found) → FoundAmong numbers f → EvaluatedAmong G numbers (addressOf f)
-  addressOf-among f h = on-place (EvaluatedAmong G numbers) (Among numbers) evaluated.Stopped (λ c x. x) f _ h
+  addressOf-among f h = on-place (EvaluatedAmong G numbers) (Among numbers) Evaluated.Stopped (λ c x. x) f _ h
       (λ p u. pointers p)
 
   pointedBy-among : (e : Evaluated) → EvaluatedAmong G numbers e → FoundAmong numbers (pointedBy e)
   pointedBy-among e h =
-      on-value (FoundAmong numbers) (Among numbers) found.Stopped (λ c x. x) e _ h (λ v u.
-      on-pointer (FoundAmong numbers) (Among numbers) found.Stopped (λ c x. x) G v found.Place (enough 40 refl) u
+      on-value (FoundAmong numbers) (Among numbers) Found.Stopped (λ c x. x) e _ h (λ v u.
+      on-pointer (FoundAmong numbers) (Among numbers) Found.Stopped (λ c x. x) G v Found.Place (enough 40 refl) u
       (λ p w. tt))
 
   pub opposite-among : (v : Value) → EvaluatedAmong G numbers (opposite v)
@@ -106,7 +96,7 @@ module _ (G : Value → Type 0) (integers : (z : ℤ) → G (values.Integer z))
         → EvaluatedAmong G numbers (evaluate e τ ρ m)
     evaluate-among (literal z) τ h ρ m = integers z
     evaluate-among (read p) τ h ρ m =
-        on-place (EvaluatedAmong G numbers) (Among numbers) evaluated.Stopped (λ c x. x) (findPlace p τ ρ m)
+        on-place (EvaluatedAmong G numbers) (Among numbers) Evaluated.Stopped (λ c x. x) (findPlace p τ ρ m)
         (readCell m)
         (findPlace-among p τ h ρ m) (λ l u. readCell-among m l)
     evaluate-among (address p) τ h ρ m = addressOf-among (findPlace p τ ρ m) (findPlace-among p τ h ρ m)
@@ -123,7 +113,7 @@ module _ (G : Value → Type 0) (integers : (z : ℤ) → G (values.Integer z))
 
   queryMemory-among : (q : Query) (m : Memory) (v : Value) → EvaluatedAmong G numbers (queryMemory q m v)
   queryMemory-among q m v =
-      on-pointer (EvaluatedAmong G numbers) (Among numbers) evaluated.Stopped (λ c x. x) AnyValue v _
+      on-pointer (EvaluatedAmong G numbers) (Among numbers) Evaluated.Stopped (λ c x. x) AnyValue v _
       (enough 40 refl) tt
       (λ p u. queried-among q (recordedOf (blockOf m (p .name))) (λ i. isInitialised (cellOf m i)) p)
 
@@ -136,9 +126,9 @@ module _ (G : Value → Type 0) (integers : (z : ℤ) → G (values.Integer z))
       operated-among o (evaluateTerm a ρ m) (evaluateTerm b ρ m) (evaluateTerm-among a ρ m) (evaluateTerm-among b ρ m)
 
   tested-then : (v : Value) (x y : Evaluated) → EvaluatedAmong G numbers x → EvaluatedAmong G numbers y
-      → EvaluatedAmong G numbers (onTest (tested v) evaluated.Stopped x y)
+      → EvaluatedAmong G numbers (onTest (tested v) Evaluated.Stopped x y)
   tested-then v x y p q =
-      on-test (EvaluatedAmong G numbers) (Among numbers) evaluated.Stopped (λ c h. h) (tested v) x y
+      on-test (EvaluatedAmong G numbers) (Among numbers) Evaluated.Stopped (λ c h. h) (tested v) x y
       (tested-among v) p q
 
   pub evaluatePredicate-among : (p : Predicate) (ρ : Variables) (m : Memory)
@@ -152,7 +142,7 @@ module _ (G : Value → Type 0) (integers : (z : ℤ) → G (values.Integer z))
       among-value (evaluatePredicate a ρ m) _ (evaluatePredicate-among a ρ m) (λ v u. opposite-among v)
   evaluatePredicate-among (both a b) ρ m =
       among-value (evaluatePredicate a ρ m) _ (evaluatePredicate-among a ρ m) (λ v u.
-      tested-then v (evaluatePredicate b ρ m) (evaluated.Value v) (evaluatePredicate-among b ρ m) u)
+      tested-then v (evaluatePredicate b ρ m) (Evaluated.Value v) (evaluatePredicate-among b ρ m) u)
   evaluatePredicate-among (either a b) ρ m =
       among-value (evaluatePredicate a ρ m) _ (evaluatePredicate-among a ρ m) (λ v u.
-      tested-then v (evaluated.Value v) (evaluatePredicate b ρ m) u (evaluatePredicate-among b ρ m))
+      tested-then v (Evaluated.Value v) (evaluatePredicate b ρ m) u (evaluatePredicate-among b ρ m))

@@ -10,22 +10,7 @@ use Rattle.rules.specs.Evaluation.{onTest}
 use Rattle.rules.specs.Observation.{Observation}
 use Rattle.rules.specs.Answers.{plainEndings}
 use Rattle.rules.proofs.lists.Among.{Among}
-use Rattle.rules.specs.declared.Pointer.{Pointer}
-use Rattle.rules.specs.declared.Value.{Value}
-use Rattle.rules.specs.declared.Value.the-variants as values
-use Rattle.rules.specs.declared.Evaluated.{Evaluated}
-use Rattle.rules.specs.declared.Evaluated.the-variants as evaluated
-use Rattle.rules.specs.declared.Found.{Found}
-use Rattle.rules.specs.declared.Found.the-variants as found
-use Rattle.rules.specs.declared.Test.{Test}
-use Rattle.rules.specs.declared.Test.the-variants as test
-use Rattle.rules.specs.declared.Located.{Located}
-use Rattle.rules.specs.declared.Located.the-variants as located
-use Rattle.rules.specs.declared.Search.{Search}
-use Rattle.rules.specs.declared.Search.the-variants as search
-use Rattle.rules.specs.declared.Block.{Block}
-use Rattle.rules.specs.declared.Block.the-variants as block
-use Rattle.rules.specs.declared.Cell.the-variants as cell
+use Rattle.rules.specs.Types.{Pointer, Value, Evaluated, Found, Test, Located, Search, Block, Cell}
 
 -- nothing asked
 abbrev pub AnyNumber : ℕ → Type 0
@@ -45,60 +30,60 @@ AnyObservation o = Unit {0}
 
 -- G of the value that evaluating gives, C of the number it stops with
 abbrev pub Gives : (Value → Type 0) → (ℕ → Type 0) → Evaluated → Type 0
-Gives G C (evaluated.Value v) = G v
-Gives G C (evaluated.Stopped c) = C c
+Gives G C (Evaluated.Value v) = G v
+Gives G C (Evaluated.Stopped c) = C c
 
 abbrev pub Finds : (Pointer → Type 0) → (ℕ → Type 0) → Found → Type 0
-Finds G C (found.Place p) = G p
-Finds G C (found.Stopped c) = C c
+Finds G C (Found.Place p) = G p
+Finds G C (Found.Stopped c) = C c
 
 abbrev pub TestStops : (ℕ → Type 0) → Test → Type 0
-TestStops C test.Yes = Unit {0}
-TestStops C test.No = Unit {0}
-TestStops C (test.Stopped c) = C c
+TestStops C Test.Yes = Unit {0}
+TestStops C Test.No = Unit {0}
+TestStops C (Test.Stopped c) = C c
 
 pub any-test : (t : Test) → TestStops AnyNumber t
-any-test test.Yes = tt
-any-test test.No = tt
-any-test (test.Stopped c) = tt
+any-test Test.Yes = tt
+any-test Test.No = tt
+any-test (Test.Stopped c) = tt
 
 pub any-evaluated : (e : Evaluated) → Gives AnyValue AnyNumber e
-any-evaluated (evaluated.Value v) = tt
-any-evaluated (evaluated.Stopped c) = tt
+any-evaluated (Evaluated.Value v) = tt
+any-evaluated (Evaluated.Stopped c) = tt
 
 -- what holds by what evaluating gave, by a place, by the sort of a value, by a test
 module _ {A : Type 0} (P : A → Type 0) (C : ℕ → Type 0) (stop : ℕ → A) (stops : (c : ℕ) → C c → P (stop c)) where
   pub on-value : {G : Value → Type 0} (e : Evaluated) (next : Value → A) → Gives G C e
       → ((v : Value) → G v → P (next v)) → P (onValue e stop next)
-  on-value (evaluated.Value v) next h g = g v h
-  on-value (evaluated.Stopped c) next h g = stops c h
+  on-value (Evaluated.Value v) next h g = g v h
+  on-value (Evaluated.Stopped c) next h g = stops c h
 
   pub on-place : {G : Pointer → Type 0} (f : Found) (next : Pointer → A) → Finds G C f
       → ((p : Pointer) → G p → P (next p)) → P (onPlace f stop next)
-  on-place (found.Place p) next h g = g p h
-  on-place (found.Stopped c) next h g = stops c h
+  on-place (Found.Place p) next h g = g p h
+  on-place (Found.Stopped c) next h g = stops c h
 
   pub on-integer : (G : Value → Type 0) (v : Value) (next : ℤ → A) → C 40 → G v
-      → ((z : ℤ) → G (values.Integer z) → P (next z)) → P (onInteger v stop next)
-  on-integer G values.Undefined next c h g = stops 40 c
-  on-integer G (values.Integer z) next c h g = g z h
-  on-integer G (values.Pointer p) next c h g = stops 40 c
+      → ((z : ℤ) → G (Value.Integer z) → P (next z)) → P (onInteger v stop next)
+  on-integer G Value.Undefined next c h g = stops 40 c
+  on-integer G (Value.Integer z) next c h g = g z h
+  on-integer G (Value.Pointer p) next c h g = stops 40 c
 
   pub on-pointer : (G : Value → Type 0) (v : Value) (next : Pointer → A) → C 40 → G v
-      → ((p : Pointer) → G (values.Pointer p) → P (next p)) → P (onPointer v stop next)
-  on-pointer G values.Undefined next c h g = stops 40 c
-  on-pointer G (values.Integer z) next c h g = stops 40 c
-  on-pointer G (values.Pointer p) next c h g = g p h
+      → ((p : Pointer) → G (Value.Pointer p) → P (next p)) → P (onPointer v stop next)
+  on-pointer G Value.Undefined next c h g = stops 40 c
+  on-pointer G (Value.Integer z) next c h g = stops 40 c
+  on-pointer G (Value.Pointer p) next c h g = g p h
 
   pub on-test : (t : Test) (x y : A) → TestStops C t → P x → P y → P (onTest t stop x y)
-  on-test test.Yes x y h p q = p
-  on-test test.No x y h p q = q
-  on-test (test.Stopped c) x y h p q = stops c h
+  on-test Test.Yes x y h p q = p
+  on-test Test.No x y h p q = q
+  on-test (Test.Stopped c) x y h p q = stops c h
 
   pub at-cell : (l : Located) (at : ℕ → A) → C 42 → ((i : ℕ) → P (at i)) → P (atCell at stop l)
-  at-cell (located.At i) at c g = g i
-  at-cell located.Dead at c g = stops 42 c
-  at-cell located.Outside at c g = stops 42 c
+  at-cell (Located.At i) at c g = g i
+  at-cell Located.Dead at c g = stops 42 c
+  at-cell Located.Outside at c g = stops 42 c
 
 -- J of the state after a change, E of the number of a stop; K of a new block's name and state
 abbrev pub ChangeKeeps : {S : Type 0} → (S → Type 0) → (ℕ → Type 0) → Change S → Type 0
@@ -129,12 +114,12 @@ module _ (J : Memory → Type 0) (D E : ℕ → Type 0) (known : (c : ℕ) → A
     (widen : (c : ℕ) → D c → E c)
     (G : Value → Type 0) (H : Pointer → Type 0) where
   pub storeCell-keeps : (m : Memory) (p : Pointer) (v : Value) → J m
-      → ((i : ℕ) → J (setCell m i (cell.Holds (p .name) v))) → ChangeKeeps J E (storeCell m p v)
+      → ((i : ℕ) → J (setCell m i (Cell.Holds (p .name) v))) → ChangeKeeps J E (storeCell m p v)
   storeCell-keeps m p v j g =
       at-cell (ChangeKeeps J E) E (λ k. stopped k m) (λ c x. (x, j)) (locate m p) _ (known 42 refl) g
 
   pub assigned-keeps : (m : Memory) (f : Found) (e : Evaluated) → J m → Finds H D f → Gives G D e
-      → ((p : Pointer) (v : Value) → H p → G v → (i : ℕ) → J (setCell m i (cell.Holds (p .name) v)))
+      → ((p : Pointer) (v : Value) → H p → G v → (i : ℕ) → J (setCell m i (Cell.Holds (p .name) v)))
       → ChangeKeeps J E (assigned m f e)
   assigned-keeps m f e j hf he g =
       on-place (ChangeKeeps J E) D (λ k. stopped k m) (λ c x. (widen c x, j)) f _ hf (λ p hp.
@@ -142,16 +127,16 @@ module _ (J : Memory → Type 0) (D E : ℕ → Type 0) (known : (c : ℕ) → A
       storeCell-keeps m p v j (λ i. g p v hp hv i)))
 
   pub makeAt-keeps : (K : ℕ → Memory → Type 0) (m : Memory) (u : Use) (n : ℕ) (r s : Search)
-      → ((k first : ℕ) → r ≡ search.At k → s ≡ search.At first → K k (withBlock m u k first n))
+      → ((k first : ℕ) → r ≡ Search.At k → s ≡ Search.At first → K k (withBlock m u k first n))
       → MadeKeeps K E (makeAt m u n r s)
-  makeAt-keeps K m u n search.Nothing s g = known 31 refl
-  makeAt-keeps K m u n (search.At k) search.Nothing g = known 30 refl
-  makeAt-keeps K m u n (search.At k) (search.At first) g = g k first refl refl
+  makeAt-keeps K m u n Search.Nothing s g = known 31 refl
+  makeAt-keeps K m u n (Search.At k) Search.Nothing g = known 30 refl
+  makeAt-keeps K m u n (Search.At k) (Search.At first) g = g k first refl refl
 
   storeNew-keeps : {K : ℕ → Memory → Type 0} (m : Memory) (p : Pointer) (x : Made Memory) → J m → MadeKeeps K E x
       → ((k : ℕ) (m₁ : Memory) → K k m₁ → J m₁)
       → ((k : ℕ) (m₁ : Memory) → K k m₁ → (i : ℕ)
-      → J (setCell m₁ i (cell.Holds (p .name) (values.Pointer (record { name = k; offset = pos 0 })))))
+      → J (setCell m₁ i (Cell.Holds (p .name) (Value.Pointer (record { name = k; offset = pos 0 })))))
       → ChangeKeeps J E (storeNew m p x)
   storeNew-keeps m p (made k m₁) j h g₁ g₂ = storeCell-keeps m₁ p _ (g₁ k m₁ h) (g₂ k m₁ h)
   storeNew-keeps m p (unmade c) j h g₁ g₂ = (h, j)
@@ -161,7 +146,7 @@ module _ (J : Memory → Type 0) (D E : ℕ → Type 0) (known : (c : ℕ) → A
       → ((n : ℕ) → MadeKeeps K E (makeBlock m freeable (suc n)))
       → ((k : ℕ) (m₁ : Memory) → K k m₁ → J m₁)
       → ((p : Pointer) → H p → (k : ℕ) (m₁ : Memory) → K k m₁ → (i : ℕ)
-      → J (setCell m₁ i (cell.Holds (p .name) (values.Pointer (record { name = k; offset = pos 0 })))))
+      → J (setCell m₁ i (Cell.Holds (p .name) (Value.Pointer (record { name = k; offset = pos 0 })))))
       → ChangeKeeps J E (allocated m f e)
   allocated-keeps m f e j hf he d makes g₁ g₂ =
       on-place (ChangeKeeps J E) D (λ k. stopped k m) (λ c x. (widen c x, j)) f _ hf (λ p hp.
@@ -177,10 +162,10 @@ module _ (J : Memory → Type 0) (D E : ℕ → Type 0) (known : (c : ℕ) → A
   freeAt-keeps m k (pos zero) j g = by-block (blockOf m k)
     where
       by-block : (b : Block) → ChangeKeeps J E (freeOf m k b)
-      by-block block.Unused = (known 46 refl, j)
-      by-block (block.Fixed first n) = (known 46 refl, j)
-      by-block (block.Freeable first n) = g
-      by-block block.Dead = (known 46 refl, j)
+      by-block Block.Unused = (known 46 refl, j)
+      by-block (Block.Fixed first n) = (known 46 refl, j)
+      by-block (Block.Freeable first n) = g
+      by-block Block.Dead = (known 46 refl, j)
   freeAt-keeps m k (pos (suc o)) j g = (known 46 refl, j)
   freeAt-keeps m k (negsuc o) j g = (known 46 refl, j)
 

@@ -13,25 +13,18 @@ use Rattle.rules.specs.Evaluation.{operated, opposite, condition}
 use Rattle.rules.specs.Answers.{evaluationEndings}
 use Rattle.rules.proofs.lists.Among.{Among}
 use Rattle.rules.proofs.runs.Keeping.{Gives, TestStops, on-value, on-test}
-use Rattle.rules.specs.declared.Pointer.{Pointer}
-use Rattle.rules.specs.declared.Value.{Value}
-use Rattle.rules.specs.declared.Value.the-variants as values
-use Rattle.rules.specs.declared.Evaluated.{Evaluated}
-use Rattle.rules.specs.declared.Evaluated.the-variants as evaluated
-use Rattle.rules.specs.declared.Test.the-variants as test
-use Rattle.rules.specs.declared.Number.{Number}
-use Rattle.rules.specs.declared.Number.the-variants as number
+use Rattle.rules.specs.Types.{Pointer, Value, Evaluated, Test, Number}
 
 -- a number that was worked out is in range
 abbrev FitsNumber : Number → Type 0
-FitsNumber (number.Is z) = inRange z ≡ true
-FitsNumber number.Overflow = Unit {0}
-FitsNumber number.ZeroDivisor = Unit {0}
+FitsNumber (Number.Is z) = inRange z ≡ true
+FitsNumber Number.Overflow = Unit {0}
+FitsNumber Number.ZeroDivisor = Unit {0}
 
 ranged-fits : (z : ℤ) → FitsNumber (ranged z)
 ranged-fits z = pick (inRange z) refl
   where
-    pick : (b : Bool) → inRange z ≡ b → FitsNumber (cond b (number.Is z) number.Overflow)
+    pick : (b : Bool) → inRange z ≡ b → FitsNumber (cond b (Number.Is z) Number.Overflow)
     pick true e = e
     pick false e = tt
 
@@ -41,19 +34,19 @@ divided-fits rounded x y = pick (eqb (natAbs y) 0)
     quotient : ℤ
     quotient = signed (signsDiffer x y) (rounded (natAbs x) (natAbs y))
 
-    pick : (b : Bool) → FitsNumber (cond b number.ZeroDivisor (ranged quotient))
+    pick : (b : Bool) → FitsNumber (cond b Number.ZeroDivisor (ranged quotient))
     pick true = tt
     pick false = ranged-fits quotient
 
-module _ (G : Value → Type 0) (C : ℕ → Type 0) (numbers : (z : ℤ) → inRange z ≡ true → G (values.Integer z))
-    (moves : (p : Pointer) (z : ℤ) → G (values.Pointer p) → inRange z ≡ true
-    → G (values.Pointer (record { name = p .name; offset = z })))
+module _ (G : Value → Type 0) (C : ℕ → Type 0) (numbers : (z : ℤ) → inRange z ≡ true → G (Value.Integer z))
+    (moves : (p : Pointer) (z : ℤ) → G (Value.Pointer p) → inRange z ≡ true
+    → G (Value.Pointer (record { name = p .name; offset = z })))
     (stops : (c : ℕ) → Among evaluationEndings c → C c) where
   stopNumber-gives : (is : ℤ → Evaluated) (n : Number) → FitsNumber n
-      → ((z : ℤ) → inRange z ≡ true → Gives G C (is z)) → Gives G C (stopNumber is evaluated.Stopped n)
-  stopNumber-gives is (number.Is z) h g = g z h
-  stopNumber-gives is number.Overflow h g = stops _ refl
-  stopNumber-gives is number.ZeroDivisor h g = stops _ refl
+      → ((z : ℤ) → inRange z ≡ true → Gives G C (is z)) → Gives G C (stopNumber is Evaluated.Stopped n)
+  stopNumber-gives is (Number.Is z) h g = g z h
+  stopNumber-gives is Number.Overflow h g = stops _ refl
+  stopNumber-gives is Number.ZeroDivisor h g = stops _ refl
 
   numbered-gives : (n : Number) → FitsNumber n → Gives G C (numbered n)
   numbered-gives n h = stopNumber-gives _ n h numbers
@@ -73,7 +66,7 @@ module _ (G : Value → Type 0) (C : ℕ → Type 0) (numbers : (z : ℤ) → in
   onIntegers-gives equal x y = truth-gives (sameInteger x y)
   onIntegers-gives shift x y = stops _ refl
 
-  onPointerAndInteger-gives : (o : Operator) (p : Pointer) (y : ℤ) → G (values.Pointer p)
+  onPointerAndInteger-gives : (o : Operator) (p : Pointer) (y : ℤ) → G (Value.Pointer p)
       → Gives G C (onPointerAndInteger o p y)
   unfolding onPointerAndInteger
   onPointerAndInteger-gives shift p y h =
@@ -99,32 +92,32 @@ module _ (G : Value → Type 0) (C : ℕ → Type 0) (numbers : (z : ℤ) → in
 
   operate-gives : (o : Operator) (x y : Value) → G x → Gives G C (operate o x y)
   unfolding operate
-  operate-gives o values.Undefined y h = stops _ refl
-  operate-gives o (values.Integer x) values.Undefined h = stops _ refl
-  operate-gives o (values.Integer x) (values.Integer y) h = onIntegers-gives o x y
-  operate-gives o (values.Integer x) (values.Pointer q) h = stops _ refl
-  operate-gives o (values.Pointer p) values.Undefined h = stops _ refl
-  operate-gives o (values.Pointer p) (values.Integer y) h = onPointerAndInteger-gives o p y h
-  operate-gives o (values.Pointer p) (values.Pointer q) h = onPointers-gives o p q
+  operate-gives o Value.Undefined y h = stops _ refl
+  operate-gives o (Value.Integer x) Value.Undefined h = stops _ refl
+  operate-gives o (Value.Integer x) (Value.Integer y) h = onIntegers-gives o x y
+  operate-gives o (Value.Integer x) (Value.Pointer q) h = stops _ refl
+  operate-gives o (Value.Pointer p) Value.Undefined h = stops _ refl
+  operate-gives o (Value.Pointer p) (Value.Integer y) h = onPointerAndInteger-gives o p y h
+  operate-gives o (Value.Pointer p) (Value.Pointer q) h = onPointers-gives o p q
 
   pub operated-gives : (o : Operator) (a b : Evaluated) → Gives G C a → Gives G C b → Gives G C (operated o a b)
   operated-gives o a b g h =
-      on-value (Gives G C) C evaluated.Stopped (λ c x. x) a _ g (λ x u.
-      on-value (Gives G C) C evaluated.Stopped (λ c x. x) b _ h (λ y w. operate-gives o x y u))
+      on-value (Gives G C) C Evaluated.Stopped (λ c x. x) a _ g (λ x u.
+      on-value (Gives G C) C Evaluated.Stopped (λ c x. x) b _ h (λ y w. operate-gives o x y u))
 
   pub tested-stops : (v : Value) → TestStops C (tested v)
-  tested-stops values.Undefined = stops _ refl
-  tested-stops (values.Integer z) = pick (sameInteger z (pos 0))
+  tested-stops Value.Undefined = stops _ refl
+  tested-stops (Value.Integer z) = pick (sameInteger z (pos 0))
     where
-      pick : (b : Bool) → TestStops C (cond b test.No test.Yes)
+      pick : (b : Bool) → TestStops C (cond b Test.No Test.Yes)
       pick true = tt
       pick false = tt
-  tested-stops (values.Pointer p) = stops _ refl
+  tested-stops (Value.Pointer p) = stops _ refl
 
   pub condition-stops : (e : Evaluated) → Gives G C e → TestStops C (condition e)
-  condition-stops e h = on-value (TestStops C) C test.Stopped (λ c x. x) e tested h (λ v u. tested-stops v)
+  condition-stops e h = on-value (TestStops C) C Test.Stopped (λ c x. x) e tested h (λ v u. tested-stops v)
 
   pub opposite-gives : (v : Value) → Gives G C (opposite v)
   opposite-gives v =
-      on-test (Gives G C) C evaluated.Stopped (λ c x. x) (tested v) _ _ (tested-stops v)
+      on-test (Gives G C) C Evaluated.Stopped (λ c x. x) (tested v) _ _ (tested-stops v)
       (truth-gives false) (truth-gives true)

@@ -16,8 +16,7 @@ use Rattle.rules.proofs.runs.Keeping.{AnyNumber, AnyState, any-change, 
 use Rattle.rules.proofs.runs.Outcomes.{AnyBlock, Onwards, Reaches, reach-turns, reach-into, outcomes-state}
 use Rattle.rules.proofs.runs.Outcomes.{change-in, made-in}
 use Rattle.rules.proofs.runs.SourceRuns.{MeaningKeeps, run-reaches}
-use Rattle.rules.specs.declared.Test.{Test}
-use Rattle.rules.specs.declared.Test.the-variants as test
+use Rattle.rules.specs.Types.{Test}
 
 -- of the assertions reached one is false, whose ending is e; or none is
 abbrev Decided : List Reached → Ending Memory → Type 0
@@ -47,9 +46,9 @@ later-reached : (x : PastState) (r : Reached) (e : Ending Memory) → Decided (x
 later-reached x r e h d = upTo-append (x .assertions) (r ∷ []) d ∙ h (upTo (r ∷ []) d)
 
 later-asserted : (s : ℕ) (x : PastState) (f : ℕ) (t : Test) → ChangeKeeps (Later x) AnyNumber (assertedPast s x f t)
-later-asserted s x f test.Yes = later-reached x (reached holds s (x .memory) f)
-later-asserted s x f test.No = later-reached x (reached fails s (x .memory) f)
-later-asserted s x f (test.Stopped c) = (tt, later-reached x (reached undecided s (x .memory) f))
+later-asserted s x f Test.Yes = later-reached x (reached holds s (x .memory) f)
+later-asserted s x f Test.No = later-reached x (reached fails s (x .memory) f)
+later-asserted s x f (Test.Stopped c) = (tt, later-reached x (reached undecided s (x .memory) f))
 
 past-keeps : MeaningKeeps pastMeaning AnyState Later AnyBlock AnyNumber
 past-keeps = record {
@@ -116,16 +115,16 @@ follows-after s ρ x f (stopped c m) h = alike-end {x = withMemory x m} h
 
 follows-assert : (s : ℕ) (ρ : Variables) (x : PastState) (f : ℕ) (t : Test) → Passed (x .assertions)
     → Follows (after s ρ f (asserted (x .memory) t)) (after s ρ f (assertedPast s x f t))
-follows-assert s ρ x f test.Yes h = alike-finish (λ d. upTo-append (x .assertions) _ d ∙ h d)
-follows-assert s ρ x f test.No h = failed (λ d. upTo-append (x .assertions) _ d ∙ h _)
-follows-assert s ρ x f (test.Stopped c) h = alike-end (λ d. upTo-append (x .assertions) _ d ∙ h d)
+follows-assert s ρ x f Test.Yes h = alike-finish (λ d. upTo-append (x .assertions) _ d ∙ h d)
+follows-assert s ρ x f Test.No h = failed (λ d. upTo-append (x .assertions) _ d ∙ h _)
+follows-assert s ρ x f (Test.Stopped c) h = alike-end (λ d. upTo-append (x .assertions) _ d ∙ h d)
 
 follows-decide : (s : ℕ) (ρ : Variables) (t : Test) (x : PastState) (f : ℕ) (a b : Outcome Memory)
     (u v : Outcome PastState) → Passed (x .assertions) → Follows a u → Follows b v
     → Follows (decide s ρ t (x .memory) f a b) (decide s ρ t x f u v)
-follows-decide s ρ test.Yes x f a b u v h p q = p
-follows-decide s ρ test.No x f a b u v h p q = q
-follows-decide s ρ (test.Stopped c) x f a b u v h p q = alike-end h
+follows-decide s ρ Test.Yes x f a b u v h p q = p
+follows-decide s ρ Test.No x f a b u v h p q = q
+follows-decide s ρ (Test.Stopped c) x f a b u v h p q = alike-end h
 
 follows-turns : (g s : ℕ) (ρ : Variables) (test : Memory → Test) (k : Memory → ℕ → Outcome Memory) (kp : Going)
     → Stays kp → ((x : PastState) (f : ℕ) → Passed (x .assertions) → Follows (k (x .memory) f) (kp x f))

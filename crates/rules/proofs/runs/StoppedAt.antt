@@ -16,8 +16,7 @@ use Rattle.rules.specs.Plain.{asserted}
 use Rattle.rules.specs.Watched.{targetParts, WatchedState, valueIn, placeIn, holding, taken, observed, watch}
 use Rattle.rules.proofs.runs.TargetRuns.{assigning, allocating, freeing, operating, querying, negating, storing}
 use Rattle.rules.proofs.runs.TargetRuns.{deleting, initialising, making, closing}
-use Rattle.rules.specs.declared.Test.{Test}
-use Rattle.rules.specs.declared.Test.the-variants as test
+use Rattle.rules.specs.Types.{Test}
 
 -- A are the statements of a language
 module _ {A : Type 0} (children : A → List (Option A)) (number : A → ℕ) where
@@ -50,9 +49,9 @@ module _ {A : Type 0} (children : A → List (Option A)) (number : A → ℕ) wh
     stops-decide : (ρ : Variables) (t : Test) (x : S) (f : ℕ) (o p : Outcome S) → StopsAt a o → StopsAt a p
         → StopsAt a (decide (number a) ρ t x f o p)
     unfolding statementOn
-    stops-decide ρ test.Yes x f o p h g = h
-    stops-decide ρ test.No x f o p h g = g
-    stops-decide ρ (test.Stopped c) x f o p h g = refl
+    stops-decide ρ Test.Yes x f o p h g = h
+    stops-decide ρ Test.No x f o p h g = g
+    stops-decide ρ (Test.Stopped c) x f o p h g = refl
 
     stops-turns : (ρ : Variables) (holds : S → Test) (body : S → ℕ → Outcome S)
         → ((x : S) (f : ℕ) → StopsAt a (body x f)) → (g : ℕ) (x : S) (f : ℕ)

@@ -19,10 +19,7 @@ use Rattle.rules.specs.Watched.{calledOn, calledOnTwo, watch}
 use Rattle.rules.proofs.runs.Keeping.{Gives, TestStops, ChangeKeeps, MadeKeeps}
 use Rattle.rules.proofs.runs.Outcomes.{Onwards, Reaches, reach-itself, reach-into, reach-next, reach-after}
 use Rattle.rules.proofs.runs.Outcomes.{reach-decide, reach-turns, reach-let, asserted-keeps}
-use Rattle.rules.specs.declared.Value.{Value}
-use Rattle.rules.specs.declared.Evaluated.{Evaluated}
-use Rattle.rules.specs.declared.Evaluated.the-variants as evaluated
-use Rattle.rules.specs.declared.Temporary.the-variants as temporary
+use Rattle.rules.specs.Types.{Value, Evaluated, Temporary}
 
 -- O of the observation memory after a call, E of the number of a refusal
 abbrev pub NotedKeeps : (Observation → Type 0) → (ℕ → Type 0) → Noted → Type 0
@@ -31,10 +28,10 @@ NotedKeeps O E (refused c) = E c
 
 pub taken-keeps : (J : WatchedState → Type 0) (E : ℕ → Type 0) (T : Value → Type 0) (x : WatchedState) (n : ℕ)
     (e : Evaluated) → J x → Gives T E e
-    → ((v : Value) → T v → J (watching (x .memory) (x .observation) (set (x .temporaries) n (temporary.Holds v))))
+    → ((v : Value) → T v → J (watching (x .memory) (x .observation) (set (x .temporaries) n (Temporary.Holds v))))
     → ChangeKeeps J E (taken x n e)
-taken-keeps J E T x n (evaluated.Value v) j h g = g v h
-taken-keeps J E T x n (evaluated.Stopped c) j h g = (h, j)
+taken-keeps J E T x n (Evaluated.Value v) j h g = g v h
+taken-keeps J E T x n (Evaluated.Stopped c) j h g = (h, j)
 
 pub observed-keeps : (J : WatchedState → Type 0) (E : ℕ → Type 0) (O : Observation → Type 0) (x : WatchedState)
     (r : Noted) → J x → NotedKeeps O E r → ((o : Observation) → O o → J (watching (x .memory) o (x .temporaries)))
@@ -56,10 +53,10 @@ abbrev pub operating : Operator → ℕ → WatchedState → Evaluated
 operating q n x = operated q (holding x (suc n)) (holding x (suc (suc n)))
 
 abbrev pub querying : Query → ℕ → WatchedState → Evaluated
-querying q n x = onValue (holding x (suc n)) evaluated.Stopped (queryObservation q (x .observation))
+querying q n x = onValue (holding x (suc n)) Evaluated.Stopped (queryObservation q (x .observation))
 
 abbrev pub negating : ℕ → WatchedState → Evaluated
-negating n x = onValue (holding x (suc n)) evaluated.Stopped opposite
+negating n x = onValue (holding x (suc n)) Evaluated.Stopped opposite
 
 abbrev pub storing : ℕ → WatchedState → Noted
 storing n x = calledOnTwo (holding x n) (holding x (suc n)) (storeBlock (x .observation))

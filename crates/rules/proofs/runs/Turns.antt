@@ -11,7 +11,7 @@ use Rattle.rules.specs.Evaluation.{Variables, condition}
 use Rattle.rules.specs.Flow.{Outcome, finished, ended, ending, into, next, decide, turns, Meaning, runBy}
 use Rattle.rules.specs.Watched.{WatchedState, valueIn, watch}
 use Rattle.rules.proofs.runs.Fuel.{run-fuel, watch-fuel}
-use Rattle.rules.specs.declared.Test.{Test}
+use Rattle.rules.specs.Types.{Test}
 
 into-fuel : {S : Type 0} (n f : ℕ) (o : Outcome S) → ending o .fuel ≤ f → ending (into n o) .fuel ≤ f
 into-fuel n f (finished x g) h = h

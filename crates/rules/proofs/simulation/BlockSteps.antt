@@ -24,32 +24,18 @@ use Rattle.rules.proofs.simulation.StatementSteps.{Watching, Running, A
 use Rattle.rules.proofs.simulation.StatementSteps.{agree-within}
 use Rattle.rules.proofs.simulation.StatementSteps.{stored}
 use Rattle.rules.proofs.simulation.StatementSteps.{changing}
-use Rattle.rules.specs.declared.Pointer.{Pointer}
-use Rattle.rules.specs.declared.Value.{Value}
-use Rattle.rules.specs.declared.Value.the-variants as value
-use Rattle.rules.specs.declared.Evaluated.{Evaluated}
-use Rattle.rules.specs.declared.Evaluated.the-variants as evaluated
-use Rattle.rules.specs.declared.Found.{Found}
-use Rattle.rules.specs.declared.Found.the-variants as found
-use Rattle.rules.specs.declared.Located.{Located}
-use Rattle.rules.specs.declared.Located.the-variants as located
-use Rattle.rules.specs.declared.Search.{Search}
-use Rattle.rules.specs.declared.Search.the-variants as search
-use Rattle.rules.specs.declared.Block.the-variants as block
-use Rattle.rules.specs.declared.Cell.{Cell}
-use Rattle.rules.specs.declared.Cell.the-variants as cell
-use Rattle.rules.specs.declared.Temporary.the-variants as temporary
+use Rattle.rules.specs.Types.{Pointer, Value, Evaluated, Found, Located, Search, Block, Cell, Temporary}
 
 -- a new block: made, its pointer stored and read back, the block recorded, the pointer's cell marked
 abbrev recordAfter : ℕ → Variables → Watching
 recordAfter s ρ x f =
     into 1 (next (into 0 (after s ρ f (taken x 1
-    (onPlace (pointedBy (heldIn (x .temporaries) 0)) evaluated.Stopped (readCell (x .memory)))))) (λ y g.
+    (onPlace (pointedBy (heldIn (x .temporaries) 0)) Evaluated.Stopped (readCell (x .memory)))))) (λ y g.
     into 1 (next (into 0 (after s ρ g (observed y (storing 1 y)))) (λ z h.
     into 1 (after s ρ h (observed z (initialising 0 z)))))))
 
 recordAfter-is : (s : ℕ) (ρ : Variables) (m : Memory) (o o₁ o₂ : Observation) (τ : Temporaries) (f : ℕ) (v : Value)
-    → onPlace (pointedBy (heldIn τ 0)) evaluated.Stopped (readCell m) ≡ evaluated.Value v
+    → onPlace (pointedBy (heldIn τ 0)) Evaluated.Stopped (readCell m) ≡ Evaluated.Value v
     → calledOnTwo (heldIn (put τ 1 v) 1) (heldIn (put τ 1 v) 2) (storeBlock o) ≡ noted o₁
     → calledOn (heldIn (put τ 1 v) 0) (initialise o₁) ≡ noted o₂
     → recordAfter s ρ (watching m o τ) f ≡ finished (watching m o₂ (put τ 1 v)) f
@@ -60,38 +46,38 @@ unfolding locate
 locate-set m i c p = refl
 
 -- the cell that a pointer leads to, after a store
-read-back : (m : Memory) (p q : Pointer) (i : ℕ) → locate m p ≡ located.At i → Invariant m
-    → readCell (setCell m i (cell.Holds (p .name) (value.Pointer q))) p ≡ evaluated.Value (value.Pointer q)
+read-back : (m : Memory) (p q : Pointer) (i : ℕ) → locate m p ≡ Located.At i → Invariant m
+    → readCell (setCell m i (Cell.Holds (p .name) (Value.Pointer q))) p ≡ Evaluated.Value (Value.Pointer q)
 read-back m p q i e y =
-    let c : Cell = cell.Holds (p .name) (value.Pointer q) in
-    let at : Leads m (p .name) (located.At i) = rw e at (leads m p y) in
-    rw (locate-set m i c p ∙ e, getD-set-same (m .cells) i c cell.Free (omega (arith, y .size, at .1))) refl
+    let c : Cell = Cell.Holds (p .name) (Value.Pointer q) in
+    let at : Leads m (p .name) (Located.At i) = rw e at (leads m p y) in
+    rw (locate-set m i c p ∙ e, getD-set-same (m .cells) i c Cell.Free (omega (arith, y .size, at .1))) refl
 
 agree-stored : (s : ℕ) (ρ : Variables) (m : Memory) (τ : Temporaries) (f : ℕ) (p : Pointer) (n k first : ℕ) (r : Located)
-    → Room m (suc n) k first → freeRun m (suc n) ≡ search.At first → Invariant m
+    → Room m (suc n) k first → freeRun m (suc n) ≡ Search.At first → Invariant m
     → locate (withBlock m freeable k first (suc n)) p ≡ r
-    → temporaryOf τ 0 ≡ temporary.Holds (value.Pointer p)
-    → temporaryOf τ 2 ≡ temporary.Holds (value.Integer (pos (suc n)))
+    → temporaryOf τ 0 ≡ Temporary.Holds (Value.Pointer p)
+    → temporaryOf τ 2 ≡ Temporary.Holds (Value.Integer (pos (suc n)))
     → Full τ
     → let c = stored (withBlock m freeable k first (suc n)) p (pointerTo k 0) r in
     Agree (after s ρ f c) (next (changing s ρ (watching m (mirror m) τ) f c) (recordAfter s ρ))
-agree-stored s ρ m τ f p n k first located.Dead h g y e t₀ t₂ l =
+agree-stored s ρ m τ f p n k first Located.Dead h g y e t₀ t₂ l =
     both-end (λ (d : _≢_ {A = ℕ} 42 42). absurd (d refl))
-agree-stored s ρ m τ f p n k first located.Outside h g y e t₀ t₂ l =
+agree-stored s ρ m τ f p n k first Located.Outside h g y e t₀ t₂ l =
     both-end (λ (d : _≢_ {A = ℕ} 42 42). absurd (d refl))
-agree-stored s ρ m τ f p n k first (located.At i) h g y e t₀ t₂ l =
-    rw (recordAfter-is s ρ (setCell m₁ i (cell.Holds (p .name) (pointerTo k 0))) (mirror m) (mirror m₁) o₂ τ f
+agree-stored s ρ m τ f p n k first (Located.At i) h g y e t₀ t₂ l =
+    rw (recordAfter-is s ρ (setCell m₁ i (Cell.Holds (p .name) (pointerTo k 0))) (mirror m) (mirror m₁) o₂ τ f
     (pointerTo k 0) back record-block mark) (both-finish refl (full-put τ 1 (pointerTo k 0) l))
   where
     m₁ : Memory
     m₁ = withBlock m freeable k first (suc n)
 
     o₂ : Observation
-    o₂ = mirror (setCell m₁ i (cell.Holds (p .name) (pointerTo k 0)))
+    o₂ = mirror (setCell m₁ i (Cell.Holds (p .name) (pointerTo k 0)))
 
-    back : onPlace (pointedBy (heldIn τ 0)) evaluated.Stopped
-        (readCell (setCell m₁ i (cell.Holds (p .name) (pointerTo k 0))))
-        ≡ evaluated.Value (pointerTo k 0)
+    back : onPlace (pointedBy (heldIn τ 0)) Evaluated.Stopped
+        (readCell (setCell m₁ i (Cell.Holds (p .name) (pointerTo k 0))))
+        ≡ Evaluated.Value (pointerTo k 0)
     back =
         rw t₀ (read-back m₁ p (record { name = k; offset = pos 0 }) i e
         (onward-make m freeable (suc n) k first h y .invariant))
@@ -110,14 +96,14 @@ agree-stored s ρ m τ f p n k first (located.At i) h g y e t₀ t₂ l =
 agree-new : (s : ℕ) (ρ : Variables) (m : Memory) (τ : Temporaries) (f : ℕ) (p : Pointer) (n : ℕ) (r₁ r₂ : Search)
     → HasRoom m (suc n) r₁ r₂
     → freeRun m (suc n) ≡ r₂ → Invariant m
-    → temporaryOf τ 0 ≡ temporary.Holds (value.Pointer p)
-    → temporaryOf τ 2 ≡ temporary.Holds (value.Integer (pos (suc n)))
+    → temporaryOf τ 0 ≡ Temporary.Holds (Value.Pointer p)
+    → temporaryOf τ 2 ≡ Temporary.Holds (Value.Integer (pos (suc n)))
     → Full τ
     → let c = storeNew m p (makeAt m freeable (suc n) r₁ r₂) in
     Agree (after s ρ f c) (next (changing s ρ (watching m (mirror m) τ) f c) (recordAfter s ρ))
-agree-new s ρ m τ f p n search.Nothing r₂ h g y t₀ t₂ l = both-end (λ z. refl)
-agree-new s ρ m τ f p n (search.At k) search.Nothing h g y t₀ t₂ l = both-end (λ z. refl)
-agree-new s ρ m τ f p n (search.At k) (search.At first) h g y t₀ t₂ l =
+agree-new s ρ m τ f p n Search.Nothing r₂ h g y t₀ t₂ l = both-end (λ z. refl)
+agree-new s ρ m τ f p n (Search.At k) Search.Nothing h g y t₀ t₂ l = both-end (λ z. refl)
+agree-new s ρ m τ f p n (Search.At k) (Search.At first) h g y t₀ t₂ l =
     agree-stored s ρ m τ f p n k first (locate (withBlock m freeable k first (suc n)) p) h g y refl t₀ t₂ l
 
 pub agree-allocated : (s : ℕ) (ρ : Variables) (m : Memory) (τ : Temporaries) (f : ℕ) (x : Found) (r : Evaluated)
@@ -127,53 +113,53 @@ pub agree-allocated : (s : ℕ) (ρ : Variables) (m : Memory) (τ : Temporaries)
     (next (into 0 (after s ρ f (taken (watching m (mirror m) τ) 0 (addressOf (x₁ (watching m (mirror m) τ)))))) (λ y g.
     into 1 (next (into 0 (after s ρ g (taken y 2 (r₁ y)))) (λ z h.
     into 1 (next (changing s ρ z h (allocated (z .memory) (x₁ z) (r₁ z))) (recordAfter s ρ))))))
-agree-allocated s ρ m τ f (found.Stopped c) r x₁ r₁ y l h g = rw (h τ) (both-end (λ z. refl))
-agree-allocated s ρ m τ f (found.Place p) (evaluated.Stopped c) x₁ r₁ y l h g =
-    rw (h τ, g (put τ 0 (value.Pointer p))) (both-end (λ z. refl))
-agree-allocated s ρ m τ f (found.Place p) (evaluated.Value v) x₁ r₁ y l h g =
+agree-allocated s ρ m τ f (Found.Stopped c) r x₁ r₁ y l h g = rw (h τ) (both-end (λ z. refl))
+agree-allocated s ρ m τ f (Found.Place p) (Evaluated.Stopped c) x₁ r₁ y l h g =
+    rw (h τ, g (put τ 0 (Value.Pointer p))) (both-end (λ z. refl))
+agree-allocated s ρ m τ f (Found.Place p) (Evaluated.Value v) x₁ r₁ y l h g =
     rw (
       h τ,
-      g (put τ 0 (value.Pointer p)),
-      h (put (put τ 0 (value.Pointer p)) 2 v),
-      g (put (put τ 0 (value.Pointer p)) 2 v),
+      g (put τ 0 (Value.Pointer p)),
+      h (put (put τ 0 (Value.Pointer p)) 2 v),
+      g (put (put τ 0 (Value.Pointer p)) 2 v),
     ) (agree-within 1 (agree-within 1 (go v)))
   where
     go : (v : Value)
-        → let c = allocated m (found.Place p) (evaluated.Value v) in
+        → let c = allocated m (Found.Place p) (Evaluated.Value v) in
         Agree (after s ρ f c)
-        (next (changing s ρ (watching m (mirror m) (put (put τ 0 (value.Pointer p)) 2 v)) f c) (recordAfter s ρ))
-    go value.Undefined = both-end (λ z. refl)
-    go (value.Integer (pos zero)) = both-end (λ z. refl)
-    go (value.Integer (pos (suc n))) =
-        agree-new s ρ m (put (put τ 0 (value.Pointer p)) 2 (value.Integer (pos (suc n)))) f p n (nextName m)
+        (next (changing s ρ (watching m (mirror m) (put (put τ 0 (Value.Pointer p)) 2 v)) f c) (recordAfter s ρ))
+    go Value.Undefined = both-end (λ z. refl)
+    go (Value.Integer (pos zero)) = both-end (λ z. refl)
+    go (Value.Integer (pos (suc n))) =
+        agree-new s ρ m (put (put τ 0 (Value.Pointer p)) 2 (Value.Integer (pos (suc n)))) f p n (nextName m)
         (freeRun m (suc n)) (room m (suc n)) refl y
-        (put-other (put τ 0 (value.Pointer p)) 2 0 (value.Integer (pos (suc n))) (omega arith)
-        ∙ put-same τ 0 (value.Pointer p) l (omega arith))
-        (put-same (put τ 0 (value.Pointer p)) 2 (value.Integer (pos (suc n))) (full-put τ 0 (value.Pointer p) l)
+        (put-other (put τ 0 (Value.Pointer p)) 2 0 (Value.Integer (pos (suc n))) (omega arith)
+        ∙ put-same τ 0 (Value.Pointer p) l (omega arith))
+        (put-same (put τ 0 (Value.Pointer p)) 2 (Value.Integer (pos (suc n))) (full-put τ 0 (Value.Pointer p) l)
         (omega arith))
-        (full-put (put τ 0 (value.Pointer p)) 2 (value.Integer (pos (suc n))) (full-put τ 0 (value.Pointer p) l))
-    go (value.Integer (negsuc n)) = both-end (λ z. refl)
-    go (value.Pointer q) = both-end (λ z. refl)
+        (full-put (put τ 0 (Value.Pointer p)) 2 (Value.Integer (pos (suc n))) (full-put τ 0 (Value.Pointer p) l))
+    go (Value.Integer (negsuc n)) = both-end (λ z. refl)
+    go (Value.Pointer q) = both-end (λ z. refl)
 
 -- a let: its block is recorded before the body and deleted after it
 abbrev removeAfter : ℕ → Variables → ℕ → Watching
 removeAfter s ρ j x f =
-    into 1 (next (into 0 (after s ρ f (taken x 0 (evaluated.Value (pointerTo j 0))))) (λ y g.
+    into 1 (next (into 0 (after s ρ f (taken x 0 (Evaluated.Value (pointerTo j 0))))) (λ y g.
     into 1 (after s ρ g (observed y (deleting 0 y)))))
 
 removeAfter-is : (s : ℕ) (ρ : Variables) (k first n : ℕ) (m : Memory) (τ : Temporaries) (f : ℕ)
-    → blockOf m k ≡ block.Fixed first n → Full τ
+    → blockOf m k ≡ Block.Fixed first n → Full τ
     → removeAfter s ρ k (watching m (mirror m) τ) f
     ≡ finished (watching m (mirror (endBlock m k)) (put τ 0 (pointerTo k 0))) f
 removeAfter-is s ρ k first n m τ f e l =
     rw (put-same τ 0 (pointerTo k 0) l (omega arith), mirror-delete m k first n (ap recordedOf e)) refl
 
 let-end : (s : ℕ) (ρ : Variables) (m : Memory) (k first : ℕ) {p : Outcome Memory} {w : Outcome WatchedState} → Agree p w
-    → Onward m (ending p .state) → blockOf m k ≡ block.Fixed first 1
+    → Onward m (ending p .state) → blockOf m k ≡ Block.Fixed first 1
     → Agree (next (into 0 p) (λ m₂ f₂. finished (endBlock m₂ k) f₂))
     (next (into 0 (into 1 (into 1 (into 1 (next (into 0 w) (removeAfter s ρ k)))))) (λ x g. finished (closing x k) g))
 let-end s ρ m k first (both-finish {m = m₂} {o} {τ} {f} e l) h g =
-    let there : blockOf m₂ k ≡ block.Fixed first 1 = rw g at (h .becomes k) in
+    let there : blockOf m₂ k ≡ Block.Fixed first 1 = rw g at (h .becomes k) in
     rw (e, removeAfter-is s ρ k first 1 m₂ τ f there l) (both-finish refl (full-put τ 0 (pointerTo k 0) l))
 let-end s ρ m k first (both-end h) y g = both-end h
 
@@ -185,26 +171,26 @@ pub agree-let : (s : ℕ) (ρ : Variables) (m : Memory) (τ : Temporaries) (f : 
     → Agree (inLet s ρ m f (makeAt m fixed 1 r₁ r₂) endBlock (λ k m₁ f₁. into 0 (b k m₁ f₁)))
     (inLet s ρ (watching m (mirror m) τ) f (madeIn (withMemory (watching m (mirror m) τ)) (makeAt m fixed 1 r₁ r₂)) closing
     (λ k x g. into 0
-    (next (into 0 (after s (inner k) g (taken x 0 (evaluated.Value (pointerTo (at k) 0))))) (λ x₁ g₁.
-    into 1 (next (into 0 (after s (inner k) g₁ (taken x₁ 1 (evaluated.Value (value.Integer (pos 1)))))) (λ x₂ g₂.
+    (next (into 0 (after s (inner k) g (taken x 0 (Evaluated.Value (pointerTo (at k) 0))))) (λ x₁ g₁.
+    into 1 (next (into 0 (after s (inner k) g₁ (taken x₁ 1 (Evaluated.Value (Value.Integer (pos 1)))))) (λ x₂ g₂.
     into 1 (next (into 0 (after s (inner k) g₂ (observed x₂ (storing 0 x₂)))) (λ x₃ g₃.
     into 1 (next (into 0 (bw k x₃ g₃)) (removeAfter s (inner k) (at k)))))))))))
-agree-let s ρ m τ f inner at b bw search.Nothing r₂ h g y l e i v = both-end (λ z. refl)
-agree-let s ρ m τ f inner at b bw (search.At k) search.Nothing h g y l e i v = both-end (λ z. refl)
-agree-let s ρ m τ f inner at b bw (search.At k) (search.At first) h g y l e i v =
+agree-let s ρ m τ f inner at b bw Search.Nothing r₂ h g y l e i v = both-end (λ z. refl)
+agree-let s ρ m τ f inner at b bw (Search.At k) Search.Nothing h g y l e i v = both-end (λ z. refl)
+agree-let s ρ m τ f inner at b bw (Search.At k) (Search.At first) h g y l e i v =
     rw (
       e k,
-      put-other (put τ 0 (pointerTo k 0)) 1 0 (value.Integer (pos 1)) (omega arith)
+      put-other (put τ 0 (pointerTo k 0)) 1 0 (Value.Integer (pos 1)) (omega arith)
           ∙ put-same τ 0 (pointerTo k 0) l (omega arith),
-      put-same (put τ 0 (pointerTo k 0)) 1 (value.Integer (pos 1)) (full-put τ 0 (pointerTo k 0) l) (omega arith),
+      put-same (put τ 0 (pointerTo k 0)) 1 (Value.Integer (pos 1)) (full-put τ 0 (pointerTo k 0) l) (omega arith),
       mirror-store m fixed 0 k first y (h .unused) g,
     )
     (let-end s (inner k) m₁ k first
-    (i k m₁ (put (put τ 0 (pointerTo k 0)) 1 (value.Integer (pos 1))) f
+    (i k m₁ (put (put τ 0 (pointerTo k 0)) 1 (Value.Integer (pos 1))) f
     (onward-make m fixed 1 k first h y .invariant)
-    (full-put (put τ 0 (pointerTo k 0)) 1 (value.Integer (pos 1)) (full-put τ 0 (pointerTo k 0) l)))
+    (full-put (put τ 0 (pointerTo k 0)) 1 (Value.Integer (pos 1)) (full-put τ 0 (pointerTo k 0) l)))
     (v k m₁ f (onward-make m fixed 1 k first h y .invariant))
-    (named-setNamed-same (m .blocks) k (block.Fixed first 1) block.Dead (h .from) (omega (arith, h .to, y .names))))
+    (named-setNamed-same (m .blocks) k (Block.Fixed first 1) Block.Dead (h .from) (omega (arith, h .to, y .names))))
   where
     m₁ : Memory
     m₁ = withBlock m fixed k first 1

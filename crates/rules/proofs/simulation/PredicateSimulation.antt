@@ -22,12 +22,7 @@ use Rattle.rules.specs.Translation.{embed, embedPlace, translateTerm, tr
 use Rattle.rules.proofs.acceptance.Sound.{Scope, SoundTerm, SoundPredicate}
 use Rattle.rules.proofs.runs.TargetRuns.{operating, querying, negating}
 use Rattle.rules.proofs.simulation.Mirror.{mirror-query}
-use Rattle.rules.specs.declared.Value.{Value}
-use Rattle.rules.specs.declared.Evaluated.{Evaluated}
-use Rattle.rules.specs.declared.Evaluated.the-variants as evaluated
-use Rattle.rules.specs.declared.Test.{Test}
-use Rattle.rules.specs.declared.Test.the-variants as test
-use Rattle.rules.specs.declared.Temporary.the-variants as temporaries
+use Rattle.rules.specs.Types.{Value, Evaluated, Test, Temporary}
 
 -- a source expression gives the same in the target, whatever the temporaries hold
 mutual
@@ -36,7 +31,7 @@ mutual
   pub embed-is : (e : Expression ⊥) (τ : Temporaries) (ρ : Variables) (m : Memory)
       → evaluate (embed e) (temporaryOf τ) ρ m ≡ evaluateSource e ρ m
   embed-is (literal z) τ ρ m = refl
-  embed-is (read p) τ ρ m = ap (λ r. onPlace r evaluated.Stopped (readCell m)) (embedPlace-is p τ ρ m)
+  embed-is (read p) τ ρ m = ap (λ r. onPlace r Evaluated.Stopped (readCell m)) (embedPlace-is p τ ρ m)
   embed-is (address p) τ ρ m = ap addressOf (embedPlace-is p τ ρ m)
   embed-is (operation o a b) τ ρ m = λ i. operated o (embed-is a τ ρ m i) (embed-is b τ ρ m i)
   embed-is (shifted a b) τ ρ m = λ i. operated shift (embed-is a τ ρ m i) (embed-is b τ ρ m i)
@@ -52,17 +47,17 @@ abbrev pub Full : Temporaries → Type 0
 Full τ = length τ ≡ temporaryCount
 
 abbrev pub put : Temporaries → ℕ → Value → Temporaries
-put τ n v = set τ n (temporaries.Holds v)
+put τ n v = set τ n (Temporary.Holds v)
 
 pub full-put : (τ : Temporaries) (n : ℕ) (v : Value) → Full τ → Full (put τ n v)
-full-put τ n v h = length-set τ n (temporaries.Holds v) ∙ h
+full-put τ n v h = length-set τ n (Temporary.Holds v) ∙ h
 
 pub put-same : (τ : Temporaries) (n : ℕ) (v : Value) → Full τ → n < 64
-    → temporaryOf (put τ n v) n ≡ temporaries.Holds v
-put-same τ n v h l = getD-set-same τ n (temporaries.Holds v) temporaries.Empty (omega arith)
+    → temporaryOf (put τ n v) n ≡ Temporary.Holds v
+put-same τ n v h l = getD-set-same τ n (Temporary.Holds v) Temporary.Empty (omega arith)
 
 pub put-other : (τ : Temporaries) (n k : ℕ) (v : Value) → k ≢ n → temporaryOf (put τ n v) k ≡ temporaryOf τ k
-put-other τ n k v d = getD-set-other τ n k (temporaries.Holds v) temporaries.Empty d
+put-other τ n k v d = getD-set-other τ n k (Temporary.Holds v) Temporary.Empty d
 
 -- temporaries that are alike below n
 abbrev Alike : ℕ → Temporaries → Temporaries → Type 0
@@ -71,10 +66,10 @@ Alike n τ₁ τ = (k : ℕ) → k < n → temporaryOf τ₁ k ≡ temporaryOf �
 -- the result is in temporary n, those below n are as before, nothing else has changed
 pub data Gives (n s : ℕ) (ρ : Variables) (τ : Temporaries) (m : Memory) (o : Observation) (f : ℕ)
     : Evaluated → Outcome WatchedState → Type 0 where
-  gives : {v : Value} {τ₁ : Temporaries} → temporaryOf τ₁ n ≡ temporaries.Holds v → Full τ₁ → Alike n τ₁ τ
-      → Gives n s ρ τ m o f (evaluated.Value v) (finished (watching m o τ₁) f)
+  gives : {v : Value} {τ₁ : Temporaries} → temporaryOf τ₁ n ≡ Temporary.Holds v → Full τ₁ → Alike n τ₁ τ
+      → Gives n s ρ τ m o f (Evaluated.Value v) (finished (watching m o τ₁) f)
   stops : {c : ℕ} {w : TreePath} {τ₁ : Temporaries}
-      → Gives n s ρ τ m o f (evaluated.Stopped c) (ended c s ρ w (watching m o τ₁) f)
+      → Gives n s ρ τ m o f (Evaluated.Stopped c) (ended c s ρ w (watching m o τ₁) f)
 
 module _ (s : ℕ) (ρ : Variables) (m : Memory) (o : Observation) (f : ℕ) where
   gives-from : {n : ℕ} {τ τ₁ : Temporaries} {r : Evaluated} {w : Outcome WatchedState} → Alike n τ₁ τ
@@ -90,51 +85,51 @@ module _ (s : ℕ) (ρ : Variables) (m : Memory) (o : Observation) (f : ℕ) whe
 
   gives-taken : (n : ℕ) (τ τ₁ : Temporaries) (r : Evaluated) → n < 64 → Full τ₁ → Alike n τ₁ τ
       → Gives n s ρ τ m o f r (after s ρ f (taken (watching m o τ₁) n r))
-  gives-taken n τ τ₁ (evaluated.Value v) l h p =
+  gives-taken n τ τ₁ (Evaluated.Value v) l h p =
       gives (put-same τ₁ n v h l) (full-put τ₁ n v h) (λ k b. put-other τ₁ n k v (omega arith) ∙ p k b)
-  gives-taken n τ τ₁ (evaluated.Stopped c) l h p = stops
+  gives-taken n τ τ₁ (Evaluated.Stopped c) l h p = stops
 
   gives-next : {n n₁ : ℕ} {τ : Temporaries} {r : Evaluated} {w : Outcome WatchedState} (kr : Value → Evaluated)
       (kw : WatchedState → ℕ → Outcome WatchedState)
       → Gives n₁ s ρ τ m o f r w
-      → ((v : Value) (τ₁ : Temporaries) → temporaryOf τ₁ n₁ ≡ temporaries.Holds v → Full τ₁ → Alike n₁ τ₁ τ
+      → ((v : Value) (τ₁ : Temporaries) → temporaryOf τ₁ n₁ ≡ Temporary.Holds v → Full τ₁ → Alike n₁ τ₁ τ
       → Gives n s ρ τ m o f (kr v) (kw (watching m o τ₁) f))
-      → Gives n s ρ τ m o f (onValue r evaluated.Stopped kr) (next (into 0 w) (λ x g. into 1 (kw x g)))
+      → Gives n s ρ τ m o f (onValue r Evaluated.Stopped kr) (next (into 0 w) (λ x g. into 1 (kw x g)))
   gives-next kr kw (gives {v} {τ₁} h l p) g = gives-into 1 (g v τ₁ h l p)
   gives-next kr kw stops g = stops
 
   gives-test : (n : ℕ) (τ : Temporaries) (t : Test) (x y : Evaluated) (u v : Outcome WatchedState)
       → Gives n s ρ τ m o f x u → Gives n s ρ τ m o f y v
-      → Gives n s ρ τ m o f (onTest t evaluated.Stopped x y) (decide s ρ t (watching m o τ) f u v)
-  gives-test n τ test.Yes x y u v p q = p
-  gives-test n τ test.No x y u v p q = q
-  gives-test n τ (test.Stopped c) x y u v p q = stops
+      → Gives n s ρ τ m o f (onTest t Evaluated.Stopped x y) (decide s ρ t (watching m o τ) f u v)
+  gives-test n τ Test.Yes x y u v p q = p
+  gives-test n τ Test.No x y u v p q = q
+  gives-test n τ (Test.Stopped c) x y u v p q = stops
 
   -- 'and' and 'or'
   gives-both : (n : ℕ) (τ : Temporaries) (v : Value) (r : Evaluated) (w : Outcome WatchedState)
-      → temporaryOf τ n ≡ temporaries.Holds v → Full τ → Gives n s ρ τ m o f r w
+      → temporaryOf τ n ≡ Temporary.Holds v → Full τ → Gives n s ρ τ m o f r w
       → Gives n s ρ τ m o f (andThen v r)
       (decide s ρ (condition (heldIn τ n)) (watching m o τ) f (into 1 w) (finished (watching m o τ) f))
   gives-both n τ v r w h l g =
-      rw h (gives-test n τ (tested v) r (evaluated.Value v) (into 1 w) (finished (watching m o τ) f) (gives-into 1 g)
+      rw h (gives-test n τ (tested v) r (Evaluated.Value v) (into 1 w) (finished (watching m o τ) f) (gives-into 1 g)
       (gives h l (λ k b. refl)))
 
   gives-either : (n : ℕ) (τ : Temporaries) (v : Value) (r : Evaluated) (w : Outcome WatchedState)
-      → temporaryOf τ n ≡ temporaries.Holds v → Full τ → Gives n s ρ τ m o f r w
+      → temporaryOf τ n ≡ Temporary.Holds v → Full τ → Gives n s ρ τ m o f r w
       → Gives n s ρ τ m o f (orElse v r)
       (decide s ρ (condition (heldIn τ n)) (watching m o τ) f (finished (watching m o τ) f) (into 2 w))
   gives-either n τ v r w h l g =
-      rw h (gives-test n τ (tested v) (evaluated.Value v) r (finished (watching m o τ) f) (into 2 w)
+      rw h (gives-test n τ (tested v) (Evaluated.Value v) r (finished (watching m o τ) f) (into 2 w)
       (gives h l (λ k b. refl)) (gives-into 2 g))
 
-  gives-not : (n : ℕ) (v : Value) (τ τ₁ : Temporaries) → n < 64 → temporaryOf τ₁ (suc n) ≡ temporaries.Holds v
+  gives-not : (n : ℕ) (v : Value) (τ τ₁ : Temporaries) → n < 64 → temporaryOf τ₁ (suc n) ≡ Temporary.Holds v
       → Full τ₁
       → Alike (suc n) τ₁ τ
       → Gives n s ρ τ m o f (opposite v) (after s ρ f (taken (watching m o τ₁) n (negating n (watching m o τ₁))))
   gives-not n v τ τ₁ b h l p = rw h (gives-taken n τ τ₁ (opposite v) b l (λ k c. p k (omega arith)))
 
   gives-operation : (q : Operator) (n : ℕ) (v u : Value) (τ₁ τ₂ : Temporaries) → n < 64
-      → temporaryOf τ₁ (suc n) ≡ temporaries.Holds v → temporaryOf τ₂ (suc (suc n)) ≡ temporaries.Holds u → Full τ₂
+      → temporaryOf τ₁ (suc n) ≡ Temporary.Holds v → temporaryOf τ₂ (suc (suc n)) ≡ Temporary.Holds u → Full τ₂
       → Alike (suc (suc n)) τ₂ τ₁
       → Gives n s ρ τ₁ m o f (operate q v u)
       (after s ρ f (taken (watching m o τ₂) n (operating q n (watching m o τ₂))))
@@ -143,7 +138,7 @@ module _ (s : ℕ) (ρ : Variables) (m : Memory) (o : Observation) (f : ℕ) whe
 
 -- a query of the mirror is a query of the execution memory
 gives-query : (q : Query) (s : ℕ) (ρ : Variables) (n : ℕ) (m : Memory) (f : ℕ) (v : Value) (τ τ₁ : Temporaries)
-    → n < 64 → temporaryOf τ₁ (suc n) ≡ temporaries.Holds v → Full τ₁ → Alike (suc n) τ₁ τ
+    → n < 64 → temporaryOf τ₁ (suc n) ≡ Temporary.Holds v → Full τ₁ → Alike (suc n) τ₁ τ
     → Gives n s ρ τ m (mirror m) f (queryMemory q m v)
     (after s ρ f (taken (watching m (mirror m) τ₁) n (querying q n (watching m (mirror m) τ₁))))
 gives-query q s ρ n m f v τ τ₁ b h l p =

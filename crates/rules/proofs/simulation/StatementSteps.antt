@@ -18,21 +18,7 @@ use Rattle.rules.proofs.memory.Invariant.{Invariant}
 use Rattle.rules.proofs.runs.DefinedValues.{Defined, FairEvaluated}
 use Rattle.rules.proofs.simulation.Mirror.{mirror-initialise, mirror-delete}
 use Rattle.rules.proofs.simulation.PredicateSimulation.{Full, put, full-put, put-same, Gives, gives, stops}
-use Rattle.rules.specs.declared.Pointer.{Pointer}
-use Rattle.rules.specs.declared.Value.{Value}
-use Rattle.rules.specs.declared.Value.the-variants as value
-use Rattle.rules.specs.declared.Evaluated.{Evaluated}
-use Rattle.rules.specs.declared.Evaluated.the-variants as evaluated
-use Rattle.rules.specs.declared.Found.{Found}
-use Rattle.rules.specs.declared.Found.the-variants as found
-use Rattle.rules.specs.declared.Test.{Test}
-use Rattle.rules.specs.declared.Test.the-variants as test
-use Rattle.rules.specs.declared.Located.{Located}
-use Rattle.rules.specs.declared.Located.the-variants as located
-use Rattle.rules.specs.declared.Block.{Block}
-use Rattle.rules.specs.declared.Block.the-variants as block
-use Rattle.rules.specs.declared.Cell.the-variants as cell
-use Rattle.rules.specs.declared.Temporary.the-variants as temporary
+use Rattle.rules.specs.Types.{Pointer, Value, Evaluated, Found, Test, Located, Block, Cell, Temporary}
 
 -- a watched run from a state and fuel, and a plain one
 abbrev pub Watching : Type 0
@@ -70,9 +56,9 @@ agree-next k kw (both-end h) y g = both-end h
 pub agree-decide : (s : ℕ) (ρ : Variables) (t t₁ : Test) (m : Memory) (τ : Temporaries) (f : ℕ) (x y : Outcome Memory)
     (u v : Outcome WatchedState) → t₁ ≡ t → Agree x u → Agree y v
     → Agree (decide s ρ t m f x y) (decide s ρ t₁ (watching m (mirror m) τ) f u v)
-agree-decide s ρ test.Yes t₁ m τ f x y u v e p q = rw e p
-agree-decide s ρ test.No t₁ m τ f x y u v e p q = rw e q
-agree-decide s ρ (test.Stopped c) t₁ m τ f x y u v e p q = rw e (both-end (λ z. refl))
+agree-decide s ρ Test.Yes t₁ m τ f x y u v e p q = rw e p
+agree-decide s ρ Test.No t₁ m τ f x y u v e p q = rw e q
+agree-decide s ρ (Test.Stopped c) t₁ m τ f x y u v e p q = rw e (both-end (λ z. refl))
 
 pub agree-turns : (g s : ℕ) (ρ : Variables) (holds : Memory → Test) (holds₁ : WatchedState → Test) (k : Running)
     (kw : Watching)
@@ -91,9 +77,9 @@ agree-turns (suc g) s ρ holds holds₁ k kw e h v m τ (suc f) i l =
 -- a change that both make
 agree-after : (s : ℕ) (ρ : Variables) (m : Memory) (τ : Temporaries) (f : ℕ) (t : Test) → Full τ
     → Agree (after s ρ f (asserted m t)) (after s ρ f (asserted (watching m (mirror m) τ) t))
-agree-after s ρ m τ f test.Yes l = both-finish refl l
-agree-after s ρ m τ f test.No l = both-end (λ z. refl)
-agree-after s ρ m τ f (test.Stopped c) l = both-end (λ z. refl)
+agree-after s ρ m τ f Test.Yes l = both-finish refl l
+agree-after s ρ m τ f Test.No l = both-end (λ z. refl)
+agree-after s ρ m τ f (Test.Stopped c) l = both-end (λ z. refl)
 
 -- the assertion
 pub agree-assert : {s : ℕ} {ρ : Variables} {m : Memory} {τ : Temporaries} {f : ℕ} {r : Evaluated}
@@ -108,19 +94,19 @@ abbrev markAfter : ℕ → Variables → Watching
 markAfter s ρ x f = into 1 (after s ρ f (observed x (initialising 0 x)))
 
 abbrev pub stored : Memory → Pointer → Value → Located → Change Memory
-stored m p v r = atCell (λ i. changed (setCell m i (cell.Holds (p .name) v))) (λ k. stopped k m) r
+stored m p v r = atCell (λ i. changed (setCell m i (Cell.Holds (p .name) v))) (λ k. stopped k m) r
 
 -- a change of the execution memory, in the watched run
 abbrev pub changing : ℕ → Variables → WatchedState → ℕ → Change Memory → Outcome WatchedState
 changing s ρ x f c = into 0 (after s ρ f (changeIn (withMemory x) c))
 
 agree-stored : (s : ℕ) (ρ : Variables) (m : Memory) (τ : Temporaries) (f : ℕ) (p : Pointer) (v : Value) (r : Located)
-    → Defined v → locate m p ≡ r → temporaryOf τ 0 ≡ temporary.Holds (value.Pointer p) → Full τ
+    → Defined v → locate m p ≡ r → temporaryOf τ 0 ≡ Temporary.Holds (Value.Pointer p) → Full τ
     → Agree (after s ρ f (stored m p v r))
     (next (changing s ρ (watching m (mirror m) τ) f (stored m p v r)) (markAfter s ρ))
-agree-stored s ρ m τ f p v (located.At i) d e t l = rw (t, mirror-initialise m p i v d e) (both-finish refl l)
-agree-stored s ρ m τ f p v located.Dead d e t l = both-end (λ z. refl)
-agree-stored s ρ m τ f p v located.Outside d e t l = both-end (λ z. refl)
+agree-stored s ρ m τ f p v (Located.At i) d e t l = rw (t, mirror-initialise m p i v d e) (both-finish refl l)
+agree-stored s ρ m τ f p v Located.Dead d e t l = both-end (λ z. refl)
+agree-stored s ρ m τ f p v Located.Outside d e t l = both-end (λ z. refl)
 
 pub agree-assigned : (s : ℕ) (ρ : Variables) (m : Memory) (τ : Temporaries) (f : ℕ) (x : Found) (r : Evaluated)
     (x₁ : WatchedState → Found) (r₁ : WatchedState → Evaluated) → FairEvaluated r → Full τ
@@ -128,31 +114,31 @@ pub agree-assigned : (s : ℕ) (ρ : Variables) (m : Memory) (τ : Temporaries) 
     → Agree (after s ρ f (assigned m x r))
     (next (into 0 (after s ρ f (taken (watching m (mirror m) τ) 0 (addressOf (x₁ (watching m (mirror m) τ))))))
     (λ y g. into 1 (next (changing s ρ y g (assigned (y .memory) (x₁ y) (r₁ y))) (markAfter s ρ))))
-agree-assigned s ρ m τ f (found.Stopped c) r x₁ r₁ d l h g = rw (h τ) (both-end (λ z. refl))
-agree-assigned s ρ m τ f (found.Place p) (evaluated.Stopped c) x₁ r₁ d l h g =
-    rw (h τ, h (put τ 0 (value.Pointer p)), g (put τ 0 (value.Pointer p))) (both-end (λ z. refl))
-agree-assigned s ρ m τ f (found.Place p) (evaluated.Value v) x₁ r₁ d l h g =
-    rw (h τ, h (put τ 0 (value.Pointer p)), g (put τ 0 (value.Pointer p)))
-    (agree-within 1 (agree-stored s ρ m (put τ 0 (value.Pointer p)) f p v (locate m p) d refl
-    (put-same τ 0 (value.Pointer p) l (omega arith)) (full-put τ 0 (value.Pointer p) l)))
+agree-assigned s ρ m τ f (Found.Stopped c) r x₁ r₁ d l h g = rw (h τ) (both-end (λ z. refl))
+agree-assigned s ρ m τ f (Found.Place p) (Evaluated.Stopped c) x₁ r₁ d l h g =
+    rw (h τ, h (put τ 0 (Value.Pointer p)), g (put τ 0 (Value.Pointer p))) (both-end (λ z. refl))
+agree-assigned s ρ m τ f (Found.Place p) (Evaluated.Value v) x₁ r₁ d l h g =
+    rw (h τ, h (put τ 0 (Value.Pointer p)), g (put τ 0 (Value.Pointer p)))
+    (agree-within 1 (agree-stored s ρ m (put τ 0 (Value.Pointer p)) f p v (locate m p) d refl
+    (put-same τ 0 (Value.Pointer p) l (omega arith)) (full-put τ 0 (Value.Pointer p) l)))
 
 -- a free: its block is deleted after it
 abbrev deleteAfter : ℕ → Variables → Watching
 deleteAfter s ρ x f = into 1 (after s ρ f (observed x (deleting 0 x)))
 
 agree-freeOf : (s : ℕ) (ρ : Variables) (m : Memory) (τ : Temporaries) (f k : ℕ) (b : Block) → blockOf m k ≡ b
-    → temporaryOf τ 0 ≡ temporary.Holds (pointerTo k 0) → Full τ
+    → temporaryOf τ 0 ≡ Temporary.Holds (pointerTo k 0) → Full τ
     → Agree (after s ρ f (freeOf m k b))
     (next (changing s ρ (watching m (mirror m) τ) f (freeOf m k b)) (deleteAfter s ρ))
-agree-freeOf s ρ m τ f k block.Unused e t l = both-end (λ z. refl)
-agree-freeOf s ρ m τ f k (block.Fixed first n) e t l = both-end (λ z. refl)
-agree-freeOf s ρ m τ f k (block.Freeable first n) e t l =
+agree-freeOf s ρ m τ f k Block.Unused e t l = both-end (λ z. refl)
+agree-freeOf s ρ m τ f k (Block.Fixed first n) e t l = both-end (λ z. refl)
+agree-freeOf s ρ m τ f k (Block.Freeable first n) e t l =
     rw (t, mirror-delete m k first n (ap recordedOf e)) (both-finish refl l)
-agree-freeOf s ρ m τ f k block.Dead e t l = both-end (λ z. refl)
+agree-freeOf s ρ m τ f k Block.Dead e t l = both-end (λ z. refl)
 
 agree-freeAt : (s : ℕ) (ρ : Variables) (m : Memory) (τ : Temporaries) (f k : ℕ) (z : ℤ)
-    → temporaryOf τ 0 ≡ temporary.Holds (value.Pointer (record { name = k; offset = z })) → Full τ
-    → let c = freed m (evaluated.Value (value.Pointer (record { name = k; offset = z }))) in
+    → temporaryOf τ 0 ≡ Temporary.Holds (Value.Pointer (record { name = k; offset = z })) → Full τ
+    → let c = freed m (Evaluated.Value (Value.Pointer (record { name = k; offset = z }))) in
     Agree (after s ρ f c) (next (changing s ρ (watching m (mirror m) τ) f c) (deleteAfter s ρ))
 agree-freeAt s ρ m τ f k (pos zero) t l = agree-freeOf s ρ m τ f k (blockOf m k) refl t l
 agree-freeAt s ρ m τ f k (pos (suc i)) t l = both-end (λ z. refl)
@@ -164,14 +150,14 @@ pub agree-freed : (s : ℕ) (ρ : Variables) (m : Memory) (τ : Temporaries) (f 
     → Agree (after s ρ f (freed m r))
     (next (into 0 (after s ρ f (taken (watching m (mirror m) τ) 0 (r₁ (watching m (mirror m) τ)))))
     (λ y g. into 1 (next (changing s ρ y g (freed (y .memory) (r₁ y))) (deleteAfter s ρ))))
-agree-freed s ρ m τ f (evaluated.Stopped c) r₁ l g = rw (g τ) (both-end (λ z. refl))
-agree-freed s ρ m τ f (evaluated.Value v) r₁ l g = rw (g τ, g (put τ 0 v)) (agree-within 1 (go v))
+agree-freed s ρ m τ f (Evaluated.Stopped c) r₁ l g = rw (g τ) (both-end (λ z. refl))
+agree-freed s ρ m τ f (Evaluated.Value v) r₁ l g = rw (g τ, g (put τ 0 v)) (agree-within 1 (go v))
   where
     go : (v : Value)
-        → Agree (after s ρ f (freed m (evaluated.Value v)))
-        (next (changing s ρ (watching m (mirror m) (put τ 0 v)) f (freed m (evaluated.Value v))) (deleteAfter s ρ))
-    go value.Undefined = both-end (λ z. refl)
-    go (value.Integer z) = both-end (λ z. refl)
-    go (value.Pointer p) =
-        agree-freeAt s ρ m (put τ 0 (value.Pointer p)) f (p .name) (p .offset)
-        (put-same τ 0 (value.Pointer p) l (omega arith)) (full-put τ 0 (value.Pointer p) l)
+        → Agree (after s ρ f (freed m (Evaluated.Value v)))
+        (next (changing s ρ (watching m (mirror m) (put τ 0 v)) f (freed m (Evaluated.Value v))) (deleteAfter s ρ))
+    go Value.Undefined = both-end (λ z. refl)
+    go (Value.Integer z) = both-end (λ z. refl)
+    go (Value.Pointer p) =
+        agree-freeAt s ρ m (put τ 0 (Value.Pointer p)) f (p .name) (p .offset)
+        (put-same τ 0 (Value.Pointer p) l (omega arith)) (full-put τ 0 (Value.Pointer p) l)

@@ -14,8 +14,7 @@ use Rattle.rules.specs.Kinds.{source, sortNumber, Field, unnamed, child,
 use Rattle.rules.specs.Checker.{timesIn, timesChildOf}
 use Rattle.rules.specs.Nodes.{nodeSort, nodeAt}
 use Rattle.rules.specs.Origins.{ownRecords, copiesOfChild, copiesIn, copiesOf, targetRecords, sum}
-use Rattle.rules.specs.declared.Search.{Search}
-use Rattle.rules.specs.declared.Search.the-variants as search
+use Rattle.rules.specs.Types.{Search}
 use Rattle.rules.proofs.lists.BooleanLaws.{three-pass}
 use Rattle.rules.proofs.acceptance.KindViews.{every, found-passes, found-kind}
 use Rattle.rules.proofs.acceptance.ParentLaws.{IsParent, times-by-fields, same, times-least, parent-above}
@@ -97,8 +96,8 @@ one-field r x y most false true true e f g h = absurd (omega arith)
 one-field r x y most false false false e f g h = absurd (omega arith)
 
 abbrev parentNumber : Search → ℕ
-parentNumber (search.At m) = m
-parentNumber search.Nothing = 0
+parentNumber (Search.At m) = m
+parentNumber Search.Nothing = 0
 
 module _ (t : List ℕ) (a : Accepted source t) where
   times-are : (m : ℕ) → 1 ≤ m → m ≤ recordCount t → (j : ℕ) → 1 ≤ j

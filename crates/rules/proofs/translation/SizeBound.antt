@@ -17,7 +17,7 @@ use Rattle.rules.specs.Emission.{statementTree, treeSize}
 use Rattle.rules.specs.Translation.{translate}
 use Rattle.rules.specs.Origins.{ownRecords, copiesOfChild, copiesIn, copiesOf, targetRecords, sum}
 use Rattle.rules.specs.Cases.{of, ofAll}
-use Rattle.rules.specs.declared.Checked.the-variants as checked
+use Rattle.rules.specs.Types.{Checked}
 use Rattle.rules.proofs.acceptance.Acceptance.{Accepted, accepted-says, passed-of}
 use Rattle.rules.proofs.acceptance.AcceptedTrees.{accepted-record, accepted-last}
 use Rattle.rules.proofs.acceptance.ScopeLaws.{copies-last}
@@ -74,7 +74,7 @@ module _ (t : List ℕ) (a : Accepted source t) where
       (copies-handed t a) (last-in-none t a) (a .not-empty) in
       omega (arith, whole, ap (λ (c : ℕ). c * sizeOf t N) (copies-last t (passed-of source t a)), last-size)
 
-pub size-bound : (t : List ℕ) → check source t ≡ checked.Accepted
+pub size-bound : (t : List ℕ) → check source t ≡ Checked.Accepted
     → treeSize (statementTree (translate (sourceProgram t))) ≤ 14 * recordCount t
 size-bound t h =
     let a = accepted-says source t h in
@@ -88,7 +88,7 @@ size-bound t h =
 abbrev pub skipInLet : List ℕ
 skipInLet = tableBytes (of 40 0 0 ∷ ofAll 47 1 1 0 0 (pos 0) ∷ [])
 
-pub let-reaches-14 : (check source skipInLet ≡ checked.Accepted) × (targetRecords skipInLet 2 ≡ 14)
+pub let-reaches-14 : (check source skipInLet ≡ Checked.Accepted) × (targetRecords skipInLet 2 ≡ 14)
 unfolding little digits wordAt flat lookUp formOf lowest recordFault timesChildOf timesChild shapeFault parentOf inScope
     scopeFault levelOf levelFault check copiesOf
 let-reaches-14 = (refl, refl)

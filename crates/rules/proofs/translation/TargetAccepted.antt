@@ -12,7 +12,7 @@ use Rattle.rules.specs.Kinds.{Language, source, target, statement, sortN
 use Rattle.rules.specs.Checker.{sortOf, lengthFault, check}
 use Rattle.rules.specs.TargetTrees.{TargetStatement}
 use Rattle.rules.specs.Emission.{RecordTree, none, node, statementTree, treeSize, emit}
-use Rattle.rules.specs.declared.Checked.the-variants as checked
+use Rattle.rules.specs.Types.{Checked}
 use Rattle.rules.proofs.acceptance.Sound.{startScope, SoundTarget}
 use Rattle.rules.proofs.translation.RecordBytes.{table-length}
 use Rattle.rules.proofs.translation.EmissionLaws.{length-emit}
@@ -64,5 +64,5 @@ pub keeps-rules : (w : TargetStatement) → SoundTarget w startScope → treeSiz
 keeps-rules w h s = tree-keeps target (statementTree w) (statement-fits w startScope h) (statement-sort w) s
 
 pub target-accepted : (w : TargetStatement) → SoundTarget w startScope → treeSize (statementTree w) ≤ 4096
-    → check target (tableBytes (emit (statementTree w) 0)) ≡ checked.Accepted
+    → check target (tableBytes (emit (statementTree w) 0)) ≡ Checked.Accepted
 target-accepted w h s = check-kept target (tableBytes (emit (statementTree w) 0)) (keeps-rules w h s)

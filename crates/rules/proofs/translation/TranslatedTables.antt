@@ -8,7 +8,7 @@ use Rattle.rules.specs.Checker.{check}
 use Rattle.rules.specs.Nodes.{sourceProgram, targetProgram}
 use Rattle.rules.specs.Emission.{statementTree, treeSize}
 use Rattle.rules.specs.Translation.{translate, translatedRecords, translation}
-use Rattle.rules.specs.declared.Checked.the-variants as checked
+use Rattle.rules.specs.Types.{Checked}
 use Rattle.rules.proofs.acceptance.Sound.{startScope, SoundStatement}
 use Rattle.rules.proofs.translation.SoundTranslation.{sound-translation}
 use Rattle.rules.proofs.translation.RecordBytes.{AllBytes}
@@ -25,7 +25,7 @@ unfolding translatedRecords
 translation-count t = emitted-count (statementTree (translate (sourceProgram t)))
 
 module _ (t : List ℕ) (sound : SoundStatement (sourceProgram t) startScope) (small : translatedSize t ≤ 4096) where
-  pub translation-accepted : check target (translation t) ≡ checked.Accepted
+  pub translation-accepted : check target (translation t) ≡ Checked.Accepted
   unfolding translatedRecords
   translation-accepted =
       target-accepted (translate (sourceProgram t)) (sound-translation (sourceProgram t) startScope sound) small

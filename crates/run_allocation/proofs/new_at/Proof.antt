@@ -4,8 +4,7 @@ use mir.Val.{SFits}
 use mathlib.Core.Path.{ap, ap₂, _∙_}
 use Rattle.rules.specs.Memory.{allocated}
 use Rattle.rules.specs.Layout.{memoryOf}
-use Rattle.rules.specs.declared.Found.{Found}
-use Rattle.rules.specs.declared.Evaluated.the-variants as evaluated
+use Rattle.rules.specs.declared.{Evaluated.Evaluated, Found.Found}
 use Rattle.run_changes.proofs.ChangeLaws.{does-is, does-stop}
 use borrow.Author.Needs.{needs}
 use Rattle.run_allocation.proofs.new_at.Statement.{statement}
@@ -39,7 +38,7 @@ returns : tie.Need-returns
 returns c =
     let l = c .before .before .before .before .before .before .before .before .args .mem .now in
     does-is (ap₂ (allocated (memoryOf l)) (c .before .before .before .before .before .before .f .given .1)
-    (c .before .before .before .e .given .1 ∙ ap evaluated.Value (c .enum-told .given .1)))
+    (c .before .before .before .e .given .1 ∙ ap Evaluated.Value (c .enum-told .given .1)))
     (does-stop 40 l)
 
 returns-2 : tie.Need-returns-2
@@ -50,7 +49,7 @@ returns-2 c =
     does-is {r = c .new-of-size .result} {a = l} {b = c .new-of-size .last .0}
     (ap₂ (allocated (memoryOf l))
     (c .before .before .before .before .before .before .before .before .before .f .given .1)
-    (c .before .before .before .before .before .before .e .given .1 ∙ ap evaluated.Value
+    (c .before .before .before .before .before .before .e .given .1 ∙ ap Evaluated.Value
     (c .before .before .before .v .given .1)))
     (rw (toZ-ofZ f) at (c .new-of-size .ensures))
 
@@ -58,7 +57,7 @@ returns-3 : tie.Need-returns-3
 returns-3 c =
     let l = c .before .before .before .before .before .before .before .before .args .mem .now in
     does-is (ap₂ (allocated (memoryOf l)) (c .before .before .before .before .before .before .f .given .1)
-    (c .before .before .before .e .given .1 ∙ ap evaluated.Value (c .enum-told2 .given .1)))
+    (c .before .before .before .e .given .1 ∙ ap Evaluated.Value (c .enum-told2 .given .1)))
     (does-stop 40 l)
 
 returns-4 : tie.Need-returns-4

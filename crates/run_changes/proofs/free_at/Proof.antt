@@ -1,7 +1,7 @@
 use mathlib.Core.Path.{ap, _∙_}
 use Rattle.rules.specs.Memory.{freed}
 use Rattle.rules.specs.Layout.{memoryOf}
-use Rattle.rules.specs.declared.Evaluated.the-variants as evaluated
+use Rattle.rules.specs.declared.{Evaluated.Evaluated}
 use Rattle.run_changes.proofs.ChangeLaws.{does-is, does-stop}
 use borrow.Author.Needs.{needs}
 use Rattle.run_changes.proofs.free_at.Statement.{statement}
@@ -29,19 +29,19 @@ returns : tie.Need-returns
 returns c =
     let l = c .before .before .before .before .before .args .mem .now in
     does-is (ap (freed (memoryOf l))
-    (c .before .before .before .e .given .1 ∙ ap evaluated.Value (c .enum-told .given .1))) (does-stop 40 l)
+    (c .before .before .before .e .given .1 ∙ ap Evaluated.Value (c .enum-told .given .1))) (does-stop 40 l)
 
 returns-2 : tie.Need-returns-2
 returns-2 c =
     let l = c .before .before .before .before .before .args .mem .now in
     does-is (ap (freed (memoryOf l))
-    (c .before .before .before .e .given .1 ∙ ap evaluated.Value (c .enum-told2 .given .1))) (does-stop 40 l)
+    (c .before .before .before .e .given .1 ∙ ap Evaluated.Value (c .enum-told2 .given .1))) (does-stop 40 l)
 
 returns-3 : tie.Need-returns-3
 returns-3 c =
     let l = c .before .before .before .before .before .before .before .before .args .mem .now in
     does-is (ap (freed (memoryOf l))
-    (c .before .before .before .before .before .before .e .given .1 ∙ ap evaluated.Value
+    (c .before .before .before .before .before .before .e .given .1 ∙ ap Evaluated.Value
     (c .before .before .before .v .given .1)))
     (record { number = c .free .ensures .0; memory = c .free .ensures .1 })
 

@@ -1,7 +1,7 @@
 use mathlib.Core.Path.{ap, ap₂, subst}
 use Rattle.rules.specs.Memory.{assigned}
 use Rattle.rules.specs.Layout.{memoryOf}
-use Rattle.rules.specs.declared.Found.{Found}
+use Rattle.rules.specs.declared.{Found.Found}
 use Rattle.memory_cells.specs.Changes.{EvaluatedFits}
 use Rattle.run_changes.proofs.ChangeLaws.{does-is, does-stop}
 use borrow.Author.Needs.{needs}

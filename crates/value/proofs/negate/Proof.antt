@@ -2,16 +2,14 @@
 use mathlib.Core.Path.{_≡_, sym, ap, _∙_}
 use Rattle.rules.specs.Numbers.{truthValue, tested}
 use Rattle.rules.specs.Evaluation.{onTest}
-use Rattle.rules.specs.declared.Test.{Test}
-use Rattle.rules.specs.declared.Evaluated.{Evaluated}
-use Rattle.rules.specs.declared.Evaluated.the-variants as evaluated
+use Rattle.rules.specs.declared.{Evaluated.Evaluated, Test.Test}
 use mathlib.Core.Bool.{true, false}
 use borrow.Author.Needs.{needs}
 use Rattle.value.proofs.negate.Statement.{statement}
 use Rattle.value.proofs.negate.Tie as tie
 
 abbrev told : Test → Evaluated
-told t = onTest t evaluated.Stopped (truthValue false) (truthValue true)
+told t = onTest t Evaluated.Stopped (truthValue false) (truthValue true)
 
 test-value-requires : tie.Need-test-value-requires
 test-value-requires c κs = search needs

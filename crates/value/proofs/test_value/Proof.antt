@@ -6,7 +6,7 @@ use mir.Syntax.{w64}
 use mir.Val.{SFits}
 use Rattle.number.proofs.Integers.{zero-test}
 use Rattle.rules.specs.Numbers.{tested}
-use Rattle.rules.specs.declared.Test.the-variants as test
+use Rattle.rules.specs.declared.{Test.Test}
 use borrow.Author.Needs.{needs}
 use Rattle.value.proofs.test_value.Statement.{statement}
 use Rattle.value.proofs.test_value.Tie as tie
@@ -27,14 +27,14 @@ returns-2 : tie.Need-returns-2
 returns-2 c =
     let k = c .before .before .v .given in
     let f : SFits w64 (k .0 .0) = record { sfits = c .before .known-told .given .0 .1 } in
-    ap (λ (b : Bool). cond b test.No test.Yes) (sym (eq-eqb _ _ (c .if1 .taken)) ∙ zero-test (k .0 .0) f)
+    ap (λ (b : Bool). cond b Test.No Test.Yes) (sym (eq-eqb _ _ (c .if1 .taken)) ∙ zero-test (k .0 .0) f)
     ∙ sym (ap tested (k .1))
 
 returns-3 : tie.Need-returns-3
 returns-3 c =
     let k = c .before .before .v .given in
     let f : SFits w64 (k .0 .0) = record { sfits = c .before .known-told .given .0 .1 } in
-    ap (λ (b : Bool). cond b test.No test.Yes) (sym (ne-eqb _ _ (c .if1 .left)) ∙ zero-test (k .0 .0) f)
+    ap (λ (b : Bool). cond b Test.No Test.Yes) (sym (ne-eqb _ _ (c .if1 .left)) ∙ zero-test (k .0 .0) f)
     ∙ sym (ap tested (k .1))
 
 returns-4 : tie.Need-returns-4

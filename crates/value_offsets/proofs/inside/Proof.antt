@@ -10,25 +10,23 @@ use lib.Signed.{ltZ}
 use mir.Facts.{toZ-ofZ}
 use Rattle.number.proofs.Integers.{not-negative, magnitude-fits, ltZ-true}
 use Rattle.rules.specs.Memory.{locatedIn}
-use Rattle.rules.specs.declared.Located.{Located}
-use Rattle.rules.specs.declared.Located.the-variants as located
-use Rattle.rules.specs.declared.Recorded.the-variants as recorded
+use Rattle.rules.specs.declared.{Located.Located, Recorded.Recorded}
 use borrow.Author.Needs.{needs}
 use Rattle.value_offsets.proofs.inside.Statement.{statement}
 use Rattle.value_offsets.proofs.inside.Tie as tie
 use Rattle.value_offsets.proofs.inside.Reads as reads
 use Rattle.value_offsets.proofs.inside.Lts as lts
 
-below : (f n : ℕ) (z : ℤ) → ltZ z (pos 0) ≡ true → located.Outside ≡ locatedIn (recorded.Live f n) z
+below : (f n : ℕ) (z : ℤ) → ltZ z (pos 0) ≡ true → Located.Outside ≡ locatedIn (Recorded.Live f n) z
 below f n (pos k) t = absurd (omega (arith, ltZ-true (pos k) (pos 0) t))
 below f n (negsuc k) t = refl
 
 here : (f n : ℕ) (z : ℤ) → ltZ z (pos 0) ≡ false → natAbs z < n
-    → located.At (f + natAbs z) ≡ locatedIn (recorded.Live f n) z
+    → Located.At (f + natAbs z) ≡ locatedIn (Recorded.Live f n) z
 here f n (pos k) t h = rw (lt-ltb k n h) refl
 here f n (negsuc k) t h = absurd (subst T t tt)
 
-past : (f n : ℕ) (z : ℤ) → ltZ z (pos 0) ≡ false → n ≤ natAbs z → located.Outside ≡ locatedIn (recorded.Live f n) z
+past : (f n : ℕ) (z : ℤ) → ltZ z (pos 0) ≡ false → n ≤ natAbs z → Located.Outside ≡ locatedIn (Recorded.Live f n) z
 past f n (pos k) t h = rw (le-ltb k n h) refl
 past f n (negsuc k) t h = absurd (subst T t tt)
 

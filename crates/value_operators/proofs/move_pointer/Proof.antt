@@ -6,8 +6,7 @@ use mir.Syntax.{w64}
 use mir.Val.{SFits}
 use mir.Facts.{toZ-ofZ}
 use Rattle.rules.specs.Numbers.{moved}
-use Rattle.rules.specs.declared.Value.the-variants as value
-use Rattle.rules.specs.declared.Evaluated.the-variants as evaluated
+use Rattle.rules.specs.declared.{Value.Value, Evaluated.Evaluated}
 use Rattle.value_operators.proofs.move_pointer.Statement.{statement}
 use Rattle.value_operators.proofs.move_pointer.Tie as tie
 
@@ -25,7 +24,7 @@ returns c =
     let p = c .before .before .before .args .p in
     let k = c .before .n .given in
     let f : SFits w64 (k .0 .0) = record { sfits = c .known-told .given .0 .1 } in
-    ap (λ (z : ℤ). evaluated.Value (value.Pointer (record { name = p .name; offset = z }))) (toZ-ofZ f)
+    ap (λ (z : ℤ). Evaluated.Value (Value.Pointer (record { name = p .name; offset = z }))) (toZ-ofZ f)
     ∙ sym (ap (moved p) (k .1))
 
 returns-2 : tie.Need-returns-2

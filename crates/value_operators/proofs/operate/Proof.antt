@@ -6,7 +6,7 @@ use mir.Syntax.{w64}
 use mir.Val.{SFits}
 use Rattle.rules.specs.Nodes.{operatorOf}
 use Rattle.rules.specs.Numbers.{operate}
-use Rattle.rules.specs.declared.Value.{Value}
+use Rattle.rules.specs.declared.{Value.Value}
 use Rattle.value_operators.proofs.operate.Statement.{statement}
 use Rattle.value_operators.proofs.operate.Tie as tie
 

@@ -6,7 +6,7 @@ use denote.Ref.{now}
 use Rattle.rules.specs.Observation.{storeBlock}
 use Rattle.rules.specs.Watched.{heldIn, calledOnTwo}
 use Rattle.rules.specs.Layout.{observationOf}
-use Rattle.rules.specs.declared.Evaluated.{Evaluated}
+use Rattle.rules.specs.declared.{Evaluated.Evaluated}
 use Rattle.evaluation_temporaries.specs.Bytes.{temporariesOf}
 use Rattle.evaluation_temporaries.proofs.Reading.{holds-at}
 use Rattle.watched_noting.proofs.CallLaws.{observes-stop, observes-call}

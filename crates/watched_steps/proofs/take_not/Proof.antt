@@ -3,8 +3,7 @@ use Prim.Native.Nat.{suc, _+_}
 use native.Mathlib.Omega.{arith}
 use mathlib.Core.Path.{sym, ap, _∙_}
 use denote.Ref.{now}
-use Rattle.rules.specs.declared.Evaluated.{Evaluated}
-use Rattle.rules.specs.declared.Evaluated.the-variants as evaluated
+use Rattle.rules.specs.declared.{Evaluated.Evaluated}
 use Rattle.rules.specs.Memory.{onValue}
 use Rattle.rules.specs.Evaluation.{opposite}
 use Rattle.evaluation_temporaries.specs.Bytes.{temporariesOf}
@@ -39,7 +38,7 @@ returns c =
     let n = s .args .n in
     let τ = temporariesOf (now (s .args .temporaries)) in
     takes-is
-    (ap (λ (x : Evaluated). onValue x evaluated.Stopped opposite)
+    (ap (λ (x : Evaluated). onValue x Evaluated.Stopped opposite)
     (holds-at τ (n + 1) (suc n) (omega arith) (v .before .before .read-temporary .ensures) (v .truth .given .1))
     ∙ sym (c .before .negate .ensures)) (c .take-evaluated .ensures)
 
@@ -50,7 +49,7 @@ returns-2 c =
     let n = s .args .n in
     let τ = temporariesOf (now (s .args .temporaries)) in
     takes-stop (now (s .args .temporaries)) _ n
-    (ap (λ (x : Evaluated). onValue x evaluated.Stopped opposite)
+    (ap (λ (x : Evaluated). onValue x Evaluated.Stopped opposite)
     (holds-at τ (n + 1) (suc n) (omega arith) (k .before .before .read-temporary .ensures) (k .truth2 .given .1)))
 
 pub take-not-spec : {M : Type 1} → statement M

@@ -3,7 +3,7 @@ use Prim.Native.Nat.{suc, _+_}
 use native.Mathlib.Omega.{arith}
 use mathlib.Core.Path.{sym, ap, ap₂, _∙_}
 use denote.Ref.{now}
-use Rattle.rules.specs.declared.Evaluated.{Evaluated}
+use Rattle.rules.specs.declared.{Evaluated.Evaluated}
 use Rattle.rules.specs.Nodes.{operatorOf}
 use Rattle.rules.specs.Evaluation.{operated}
 use Rattle.rules.specs.Watched.{heldIn}

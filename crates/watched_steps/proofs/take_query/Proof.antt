@@ -3,8 +3,7 @@ use Prim.Native.Nat.{suc, _+_}
 use native.Mathlib.Omega.{arith}
 use mathlib.Core.Path.{sym, ap, _∙_}
 use denote.Ref.{now}
-use Rattle.rules.specs.declared.Evaluated.{Evaluated}
-use Rattle.rules.specs.declared.Evaluated.the-variants as evaluated
+use Rattle.rules.specs.declared.{Evaluated.Evaluated}
 use Rattle.rules.specs.Memory.{onValue}
 use Rattle.rules.specs.Nodes.{queryOf}
 use Rattle.rules.specs.Observation.{queryObservation}
@@ -42,7 +41,7 @@ returns c =
     let τ = temporariesOf (now (s .args .temporaries)) in
     let q = queryObservation (queryOf (s .args .k)) (observationOf (now (s .args .obs))) in
     takes-is
-    (ap (λ (x : Evaluated). onValue x evaluated.Stopped q)
+    (ap (λ (x : Evaluated). onValue x Evaluated.Stopped q)
     (holds-at τ (n + 1) (suc n) (omega arith) (v .before .before .read-temporary .ensures) (v .pointer .given .1))
     ∙ sym (c .before .query .ensures)) (c .take-evaluated .ensures)
 
@@ -54,7 +53,7 @@ returns-2 c =
     let τ = temporariesOf (now (s .args .temporaries)) in
     let q = queryObservation (queryOf (s .args .k)) (observationOf (now (s .args .obs))) in
     takes-stop (now (s .args .temporaries)) _ n
-    (ap (λ (x : Evaluated). onValue x evaluated.Stopped q)
+    (ap (λ (x : Evaluated). onValue x Evaluated.Stopped q)
     (holds-at τ (n + 1) (suc n) (omega arith) (k .before .before .read-temporary .ensures) (k .pointer2 .given .1)))
 
 pub take-query-spec : {M : Type 1} → statement M

@@ -16,7 +16,7 @@ use Rattle.rules.specs.Memory.{Memory}
 use Rattle.rules.specs.Layout.{memoryOf}
 use Rattle.rules.specs.Evaluation.{Variables, Holding, operated}
 use Rattle.rules.specs.Watched.{temporaryOf}
-use Rattle.rules.specs.declared.Evaluated.{Evaluated}
+use Rattle.rules.specs.declared.{Evaluated.Evaluated}
 use Rattle.table.specs.Within.{Within}
 use Rattle.evaluation.specs.State.{variablesOf}
 use Rattle.evaluation_temporaries.specs.Bytes.{temporariesOf}

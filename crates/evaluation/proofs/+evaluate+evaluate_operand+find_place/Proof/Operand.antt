@@ -9,7 +9,7 @@ use denote.Ref.{now}
 use Rattle.rules.specs.Layout.{memoryOf}
 use Rattle.rules.specs.Evaluation.{Holding}
 use Rattle.rules.specs.Watched.{temporaryOf}
-use Rattle.rules.specs.declared.Evaluated.{Evaluated}
+use Rattle.rules.specs.declared.{Evaluated.Evaluated}
 use Rattle.evaluation.specs.State.{variablesOf}
 use Rattle.evaluation_temporaries.specs.Bytes.{temporariesOf}
 use Rattle.evaluation.proofs.Arms.{valueAt, settled-as}

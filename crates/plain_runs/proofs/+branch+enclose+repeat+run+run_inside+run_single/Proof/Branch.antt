@@ -3,7 +3,7 @@ use Prim.Native.Nat.{ℕ}
 use native.Mathlib.Omega.{arith}
 use mathlib.Core.Path.{sym, _∙_}
 use borrow.Author.Needs.{needs}
-use Rattle.rules.specs.declared.Test.the-variants as test
+use Rattle.rules.specs.declared.{Test.Test}
 use Rattle.plain_runs.proofs.Laws.{ran-is}
 use Rattle.plain_runs.proofs.ReadyLaws.{ready-within, ready-number, branch-parts, ready-then, ready-else}
 use Rattle.plain_runs.proofs.MemberLaws.{ran-ended, branch-by}
@@ -57,7 +57,7 @@ module _ (t : ℕ) where
       let after-test-a = after-enum-told .before .before in
       let s = after-test-a .before .before in
       ran-is
-      (branch-by (s .pre .1 .0) (s .pre .1 .1) (s .args .fuel) test.Yes
+      (branch-by (s .pre .1 .0) (s .pre .1 .1) (s .args .fuel) Test.Yes
       (sym (after-test-a .test-a .ensures) ∙ after-enum-told .enum-told .given .1))
       (rw (after-child-b .child-b .ensures) at (c .run .ensures))
 
@@ -68,7 +68,7 @@ module _ (t : ℕ) where
       let after-test-a = after-enum-told2 .before .before in
       let s = after-test-a .before .before in
       ran-is
-      (branch-by (s .pre .1 .0) (s .pre .1 .1) (s .args .fuel) test.No
+      (branch-by (s .pre .1 .0) (s .pre .1 .1) (s .args .fuel) Test.No
       (sym (after-test-a .test-a .ensures) ∙ after-enum-told2 .enum-told2 .given .1))
       (rw (after-child-c .child-c .ensures) at (c .run2 .ensures))
 
@@ -79,7 +79,7 @@ module _ (t : ℕ) where
       let s = after-test-a .before .before in
       let k = after-k .k .given .0 .0 in
       ran-is
-      (branch-by (s .pre .1 .0) (s .pre .1 .1) (s .args .fuel) (test.Stopped k)
+      (branch-by (s .pre .1 .0) (s .pre .1 .1) (s .args .fuel) (Test.Stopped k)
       (sym (after-test-a .test-a .ensures) ∙ after-k .k .given .1))
       (ran-ended (s .args .mem .now) k (s .args .n) (s .args .fuel))
 

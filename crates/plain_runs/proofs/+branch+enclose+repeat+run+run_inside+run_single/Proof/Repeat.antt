@@ -5,7 +5,7 @@ use mathlib.Core.Path.{refl, sym, _∙_}
 use borrow.Author.Needs.{needs}
 use Rattle.rules.specs.Records.{childB}
 use Rattle.rules.specs.Layout.{memoryOf}
-use Rattle.rules.specs.declared.Test.the-variants as test
+use Rattle.rules.specs.declared.{Test.Test}
 use Rattle.evaluation.specs.State.{variablesOf}
 use Rattle.run_changes.proofs.ChangeLaws.{becomes-same}
 use Rattle.plain_runs.proofs.Laws.{ran-is}
@@ -73,7 +73,7 @@ module _ (t : ℕ) where
         ran = rw (after-child-b .child-b .ensures) at (c .run .ensures);
         leads =
             turn-by (h .0) (h .1) (memoryOf (after-loop .loop .mem)) (after-loop .loop .left)
-            (after-loop-test .loop-test .taken) test.Yes
+            (after-loop-test .loop-test .taken) Test.Yes
             (sym (after-test-a .test-a .ensures) ∙ after-enum-told .enum-told .given .1);
       }
 
@@ -103,7 +103,7 @@ module _ (t : ℕ) where
       let h = after-loop-test .before .before .before .before .pre .1 in
       ran-is
       (loop .inv .rest
-      ∙ turn-by (h .0) (h .1) (memoryOf (loop .mem)) (loop .left) (after-loop-test .loop-test .taken) test.No
+      ∙ turn-by (h .0) (h .1) (memoryOf (loop .mem)) (loop .left) (after-loop-test .loop-test .taken) Test.No
       (sym (after-test-a .test-a .ensures) ∙ c .enum-told2 .given .1))
       (ran-from (loop .inv .bytes) (ran-finished (loop .mem) (loop .left - 1)))
 
@@ -124,7 +124,7 @@ module _ (t : ℕ) where
       ran-is
       (loop .inv .rest
       ∙ turn-by (s .pre .1 .0) (s .pre .1 .1) (memoryOf (loop .mem)) (loop .left) (after-loop-test .loop-test .taken)
-      (test.Stopped k) (sym (after-test-a .test-a .ensures) ∙ after-k .k .given .1))
+      (Test.Stopped k) (sym (after-test-a .test-a .ensures) ∙ after-k .k .given .1))
       (ran-from (loop .inv .bytes) (ran-ended (loop .mem) k (s .args .n) (loop .left - 1)))
 
   cast-t19 : repeat-lts.Need-cast-t19 (repeat-claims t) (repeat-at t) repeat.Post Inv-loop μ-loop

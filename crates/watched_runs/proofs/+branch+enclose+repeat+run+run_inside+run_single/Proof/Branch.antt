@@ -4,7 +4,7 @@ use native.Mathlib.Omega.{arith}
 use mathlib.Core.Path.{sym, _∙_}
 use borrow.Author.Needs.{needs}
 use Rattle.rules.specs.Nodes.{numberAt}
-use Rattle.rules.specs.declared.Test.the-variants as test
+use Rattle.rules.specs.declared.{Test.Test}
 use Rattle.watched_statements.specs.Watching.{lent}
 use Rattle.watched_statements.proofs.Laws.{ran-is, ran-ended}
 use Rattle.watched_statements.proofs.ReadyLaws.{ready-within, branch-parts, ready-then, ready-else}
@@ -62,7 +62,7 @@ module _ (t : ℕ) where
       let after-child-b = after-test .before .before .before .before .before in
       let s = after-child-b .before .before in
       ran-is
-      (branch-by (s .pre .1 .0) (s .pre .1 .1) (s .args .fuel) test.Yes
+      (branch-by (s .pre .1 .0) (s .pre .1 .1) (s .args .fuel) Test.Yes
       (sym (after-test .test .ensures) ∙ after-enum-told .enum-told .given .1))
       (rw (after-child-b .child-b .ensures) at (c .run .ensures))
 
@@ -73,7 +73,7 @@ module _ (t : ℕ) where
       let after-child-c = after-test .before .before .before in
       let s = after-child-c .before .before .before .before in
       ran-is
-      (branch-by (s .pre .1 .0) (s .pre .1 .1) (s .args .fuel) test.No
+      (branch-by (s .pre .1 .0) (s .pre .1 .1) (s .args .fuel) Test.No
       (sym (after-test .test .ensures) ∙ after-enum-told2 .enum-told2 .given .1))
       (rw (after-child-c .child-c .ensures) at (c .run2 .ensures))
 
@@ -86,7 +86,7 @@ module _ (t : ℕ) where
       let k = after-k .k .given .0 .0 in
       rw (c .statement-of .ensures)
       (ran-is
-      (branch-by (s .pre .1 .0) (s .pre .1 .1) (s .args .fuel) (test.Stopped k)
+      (branch-by (s .pre .1 .0) (s .pre .1 .1) (s .args .fuel) (Test.Stopped k)
       (sym (after-test .test .ensures) ∙ after-k .k .given .1))
       (ran-ended x k (numberAt (s .args .table .now) (s .args .n)) (s .args .fuel)))
 

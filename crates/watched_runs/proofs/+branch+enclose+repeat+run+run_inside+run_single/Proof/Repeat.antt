@@ -5,7 +5,7 @@ use mathlib.Core.Path.{refl, sym, _∙_}
 use borrow.Author.Needs.{needs}
 use Rattle.rules.specs.Records.{childB}
 use Rattle.rules.specs.Nodes.{numberAt}
-use Rattle.rules.specs.declared.Test.the-variants as test
+use Rattle.rules.specs.declared.{Test.Test}
 use Rattle.evaluation.specs.State.{variablesOf}
 use Rattle.watched_statements.specs.Watching.{lent}
 use Rattle.watched_statements.proofs.Laws.{kept-same, ran-is, ran-from, ran-finished, ran-ended}
@@ -76,7 +76,7 @@ module _ (t : ℕ) where
         ran = rw (after-child-b .child-b .ensures) at (c .run .ensures);
         leads =
             turn-by (h .0) (h .1) (lent (loop .mem) (loop .obs) (loop .temporaries)) (loop .left)
-            (after-loop-test .loop-test .taken) test.Yes
+            (after-loop-test .loop-test .taken) Test.Yes
             (sym (after-test-a .test-a .ensures) ∙ after-enum-told .enum-told .given .1);
       }
 
@@ -109,7 +109,7 @@ module _ (t : ℕ) where
       let y = lent (loop .mem) (loop .obs) (loop .temporaries) in
       ran-is
       (loop .inv .rest
-      ∙ turn-by (h .0) (h .1) y (loop .left) (after-loop-test .loop-test .taken) test.No
+      ∙ turn-by (h .0) (h .1) y (loop .left) (after-loop-test .loop-test .taken) Test.No
       (sym (after-test-a .test-a .ensures) ∙ c .enum-told2 .given .1))
       (ran-from (loop .inv .bytes) (ran-finished y (loop .left - 1)))
 
@@ -133,7 +133,7 @@ module _ (t : ℕ) where
       rw (c .statement-of .ensures)
       (ran-is
       (loop .inv .rest
-      ∙ turn-by (s .pre .1 .0) (s .pre .1 .1) y (loop .left) (after-loop-test .loop-test .taken) (test.Stopped k)
+      ∙ turn-by (s .pre .1 .0) (s .pre .1 .1) y (loop .left) (after-loop-test .loop-test .taken) (Test.Stopped k)
       (sym (after-test-a .test-a .ensures) ∙ after-k .k .given .1))
       (ran-from (loop .inv .bytes)
       (ran-ended y k (numberAt (s .args .table .now) (s .args .n)) (loop .left - 1))))
