@@ -10,7 +10,7 @@ use Rattle.rules.specs.Memory.{Memory, fixed, Made, made, unmade, madeIn, makeB
 use Rattle.rules.specs.Flow.{Outcome, finished, ended, Ending, ending, into, next, decide, inLet}
 use Rattle.rules.specs.TargetTrees.{TargetStatement}
 use Rattle.rules.specs.Evaluation.{Variables, condition, extend}
-use Rattle.rules.specs.Watched.{Temporaries, WatchedState, watching, withMemory, valueIn, watch}
+use Rattle.rules.specs.Watched.{Temporaries, WatchedState, withMemory, valueIn, holding, watch}
 use Rattle.rules.specs.Layout.{memoryOf}
 use Rattle.rules.specs.Nodes.{targetExpressionAt, targetStatementAt, numberAt}
 use Rattle.rules.specs.declared.{Test.Test}
@@ -70,11 +70,11 @@ module _ {t : List ℕ} {n : ℕ} {ρ : Variables} {x : Lent} (h : Ready t n ρ 
       → ending (watchFrom (targetStatementAt t n) ρ x f) ≡ ending (deciding (choice t n temporaries ρ memory) f)
   chosen (inl e) f =
       ap ending (watch-branch t n (h .is) ρ (stateOf x) f e)
-      ∙ decided _ f
+      ∙ decided (condition (valueIn (targetExpressionAt t (childA t n)) ρ (stateOf x))) f
       ∙ ap (λ (y : Test). ending (deciding y f)) (choice-of t n temporaries ρ memory (λ d. omega (arith, e, d)))
   chosen (inr e) f =
       ap ending (watch-branch-on t n (h .is) ρ (stateOf x) f e)
-      ∙ decided _ f
+      ∙ decided (condition (holding (stateOf x) (markOf t n))) f
       ∙ ap (λ (y : Test). ending (deciding y f)) (choice-on t n temporaries ρ memory e)
 
   pub branch-by : IsBranch (kindOf t n) → (f : ℕ) (y : Test) → choice t n temporaries ρ memory ≡ y
