@@ -17,7 +17,8 @@ use Rattle.checker_forms.specs.Codes.{languageOf}
 use Rattle.checker.specs.Searches.{searchOf}
 use Rattle.checker.specs.Order.{orNext, fromScopes, fromShapes, fromRecords}
 
-pub next-none : (rule : ℕ → ℕ) (s : Search) (r : ℕ) (next : Checked) → s ≡ searchOf r → r ≡ 0 → next ≡ orNext rule s next
+pub next-none : (rule : ℕ → ℕ) (s : Search) (r : ℕ) (next : Checked) → s ≡ searchOf r → r ≡ 0
+    → next ≡ orNext rule s next
 next-none rule s r next e h = sym (ap (λ (x : Search). orNext rule x next) (e ∙ ap searchOf h))
 
 pub next-at : (rule : ℕ → ℕ) (s : Search) (r : ℕ) (next : Checked) → s ≡ searchOf r → (r ≡ 0 → ⊥)

@@ -72,7 +72,8 @@ there-as x a b c = all-asked fieldFits x a b c
 
 pub children-as : (l : Language) (t : List ℕ) (n x : ℕ) → childrenFit l t n (entry 0 x) (recordAt t n)
     ≡ (childFits l t n (fieldFrom (x / 4096 % 16)) (childA t n)
-    && childFits l t n (fieldFrom (x / 256 % 16)) (childB t n) && childFits l t n (fieldFrom (x / 16 % 16)) (childC t n))
+    && childFits l t n (fieldFrom (x / 256 % 16)) (childB t n)
+    && childFits l t n (fieldFrom (x / 16 % 16)) (childC t n))
 children-as l t n x = all-asked (childFits l t n) x (childA t n) (childB t n) (childC t n)
 
 pub fields-as : (x : ℕ) (t : List ℕ) (n : ℕ) → fieldsFit (entry 0 x) (recordAt t n)

@@ -98,5 +98,6 @@ module _ (l : List ℕ) (n k w : ℕ) (z : ℤ) (room : length l ≡ temporaries
       q ∙ (λ i. put (p i) (r i) (integerBytes z))
       ∙ put-put l (digits 8 (head k w)) (integerBytes z) at e in
       ap temporariesOf g
-      ∙ tabulate-set temporaryCount n (temporaryAt l) (temporaryAt written) (temporaryIn (cellFrom k 0 w z)) h (same a b f)
+      ∙ tabulate-set temporaryCount n (temporaryAt l) (temporaryAt written) (temporaryIn (cellFrom k 0 w z)) h
+      (same a b f)
       (λ j x y. other j y)

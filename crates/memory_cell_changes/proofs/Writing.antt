@@ -159,7 +159,8 @@ module _ (l : List ℕ) (e : length l ≡ memoryLength) (k : ℕ) (b : Block) (h
   view-block f = λ t. record {
     blocks = tabulate-set nameCount k (blockAt l) (blockAt (put l (blockPlace k) (blockBytes b))) b h (block-put-same f)
         (λ j x d. block-put-other j d) t;
-    cells = tabulate-same cellCount (cellAt l) (cellAt (put l (blockPlace k) (blockBytes b))) (λ j x. cell-put-block j) t;
+    cells =
+        tabulate-same cellCount (cellAt l) (cellAt (put l (blockPlace k) (blockBytes b))) (λ j x. cell-put-block j) t;
   }
 
 -- ---- changes

@@ -10,7 +10,8 @@ use Rattle.observation_answers.specs.declared.Noting.the-variants as not
 use Rattle.observation_answers.specs.Calls.{Answers}
 
 pub answers-refused : (l : List ℕ) (k : ℕ) {n : Noted} → n ≡ refused k → Answers l l (noting.Refused k) n
-answers-refused l k e = subst (Answers l l (noting.Refused k)) (sym e) (record { answer = refl; memory = becomes-same l })
+answers-refused l k e =
+    subst (Answers l l (noting.Refused k)) (sym e) (record { answer = refl; memory = becomes-same l })
 
 pub answers-noted : (l l′ : List ℕ) {n : Noted} {o : Observation} → n ≡ noted o → ObservationBecomes l l′ o
     → Answers l l′ noting.Noted n

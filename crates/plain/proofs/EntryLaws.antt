@@ -67,7 +67,8 @@ module _ (i : List ℕ) (e : inputsFault i ≡ false) (l : List ℕ) (s : l ≡ 
       → Ran (run (sourceProgram t) startVariables (memoryOf l) f) r l l₁ → length l₁ ≡ memoryLength
   exit-length t f r l₁ h w =
       let o = plainOutcome t i f in
-      let v : Ran o r l l₁ = ran-is (ap (λ (m : Memory). ending (run (sourceProgram t) startVariables m f)) (sym start-view)) w in
+      let v : Ran o r l l₁ = ran-is
+      (ap (λ (m : Memory). ending (run (sourceProgram t) startVariables m f)) (sym start-view)) w in
       ap length (v .memory .exact (s ∙ ap memoryImage (sym start-view)) ∙ ap memoryImage (v .memory .view))
       ∙ plain-round-trip t i f (accepted-program source t h .last .sound) e .image-length
 
@@ -77,7 +78,8 @@ module _ (i : List ℕ) (e : inputsFault i ≡ false) (l : List ℕ) (s : l ≡ 
       → AnsweredBy (plainEnded (ending (plainOutcome t i f))) (answer (r .number) (r .statement) (r .fuel) k) exit
   entry-ends t f r l₁ k exit w g x =
       let o = plainOutcome t i f in
-      let v : Ran o r l l₁ = ran-is (ap (λ (m : Memory). ending (run (sourceProgram t) startVariables m f)) (sym start-view)) w in
+      let v : Ran o r l l₁ = ran-is
+      (ap (λ (m : Memory). ending (run (sourceProgram t) startVariables m f)) (sym start-view)) w in
       record {
         answer =
             λ j. answer (v .answer j .number) (v .answer j .statement) (v .answer j .fuel)
@@ -105,7 +107,8 @@ module _ (t i : List ℕ) (f : ℕ) (m : List ℕ) where
       (record { answer = e; memory = refl })
 
   pub run-both : (r : Answer) (exit : List ℕ) → inputsFault i ≡ false → memoryFault m ≡ false
-      → AnsweredBy (plainEnded (ending (plainOutcome t i f))) r exit → AnsweredBy (plainBy Checked.Accepted t i f m) r exit
+      → AnsweredBy (plainEnded (ending (plainOutcome t i f))) r exit
+      → AnsweredBy (plainBy Checked.Accepted t i f m) r exit
   run-both r exit p q h = subst (λ (x : PlainRun). AnsweredBy x r exit) (sym (by-faults false false p q)) h
 
 -- ---- the checker's answer

@@ -61,7 +61,8 @@ outcome-finished (finished m f) r a b h w e =
 outcome-finished (ended c s ρ v m f) r a b h w e =
     absurd (ends-above c h (sym (ap (λ (q : Ended). q .number) (w .answer)) ∙ e))
 
-outcome-ended : (x : Outcome Memory) (k : Memory → ℕ → Outcome Memory) (r : Ended) (a b : List ℕ) → Ran x r a b → r .number ≢ 0
+outcome-ended : (x : Outcome Memory) (k : Memory → ℕ → Outcome Memory) (r : Ended) (a b : List ℕ) → Ran x r a b
+    → r .number ≢ 0
     → Ran (next x k) r a b
 outcome-ended (finished m f) k r a b w e = absurd (e (ap (λ (q : Ended). q .number) (w .answer)))
 outcome-ended (ended c s ρ v m f) k r a b w e = w

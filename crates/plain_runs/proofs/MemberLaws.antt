@@ -168,7 +168,13 @@ module _ {t : List ℕ} {n : ℕ} {ρ : Variables} {entry : List ℕ} {fuel m : 
       }
 
   pub part-spends : r .number ≡ 0 → f < left → r .fuel < left
-  part-spends d z = omega (arith, ap (λ (o : Outcome Memory). ending o .fuel) (finish d), run-fuel plainMeaning (statementAt t x) ρ (memoryOf l) f)
+  part-spends d z =
+      omega (
+        arith,
+        ap (λ (o : Outcome Memory). ending o .fuel) (finish d),
+        run-fuel plainMeaning (statementAt t x) ρ
+            (memoryOf l) f,
+      )
 
 -- a let's child ran: where it finished, the block ends
 module _ {t : List ℕ} {n : ℕ} {ρ : Variables} {k : ℕ} {r : Ended} {a b : List ℕ} (i : Inside t n ρ (memoryOf a) k)

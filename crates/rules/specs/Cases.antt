@@ -34,7 +34,8 @@ unfoldable pub plain : List Record → PlainRun
 plain rs = runPlain (tableBytes rs) inputs 0 (replicate memoryLength 0)
 
 unfoldable pub watched : List Record → WatchedRun
-watched rs = runWatched (translation (tableBytes rs)) inputs 0 (replicate memoryLength 0) (replicate observationLength 0)
+watched rs =
+    runWatched (translation (tableBytes rs)) inputs 0 (replicate memoryLength 0) (replicate observationLength 0)
 
 -- number and statement of an answer, of a program's plain run, and of its plain and its watched run
 abbrev pub stop : Answer → List ℕ

@@ -139,7 +139,8 @@ temporaryStatements l =
 abbrev pub forms : Language → List Form
 forms source = expressions ++ places ++ terms ++ predicates ++ statements zeroLiteral ++ (assertion ∷ [])
 forms target =
-    expressions ++ places ++ (temporaryPlace ∷ []) ++ statements statementLiteral ++ temporaryStatements statementLiteral
+    expressions ++ places ++ (temporaryPlace ∷ []) ++ statements statementLiteral
+    ++ temporaryStatements statementLiteral
 
 unfoldable pub lookUp : ℕ → List Form → Option Form
 lookUp k [] = none

@@ -32,7 +32,8 @@ line w (v ∷ vs) = w ++ (32 ∷ line v vs)
 abbrev pub recordLine : ℕ → Record → List ℕ
 recordLine n r =
     line (natural n)
-    (natural (r .kind) ∷ natural (r .mark) ∷ natural (r .a) ∷ natural (r .b) ∷ natural (r .c) ∷ integer (r .literal) ∷ [])
+    (natural (r .kind) ∷ natural (r .mark) ∷ natural (r .a) ∷ natural (r .b) ∷ natural (r .c) ∷ integer (r .literal)
+    ∷ [])
 
 -- the records from number n on
 unfoldable pub recordLines : ℕ → List Record → List ℕ

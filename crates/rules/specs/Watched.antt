@@ -78,7 +78,8 @@ holding x n = heldIn (x .temporaries) n
 
 -- temporary n takes what evaluating gave
 abbrev pub taken : WatchedState → ℕ → Evaluated → Change WatchedState
-taken x n (Evaluated.Value v) = changed (watching (x .memory) (x .observation) (set (x .temporaries) n (Temporary.Holds v)))
+taken x n (Evaluated.Value v) =
+    changed (watching (x .memory) (x .observation) (set (x .temporaries) n (Temporary.Holds v)))
 taken x n (Evaluated.Stopped c) = stopped c x
 
 -- the observation memory takes what a call gave
@@ -106,7 +107,8 @@ watch (branch s e a b) ρ x f =
 watch (while s e b) ρ x f =
     turns f s ρ (λ x₁. condition (valueIn e ρ x₁)) (λ x₁ f₁. into 1 (watch b ρ x₁ f₁)) x f
 watch (letIn s y b) ρ x f =
-    inLet s ρ x f (madeIn (withMemory x) (makeBlock (x .memory) fixed 1)) (λ x₁ k. withMemory x₁ (endBlock (x₁ .memory) k))
+    inLet s ρ x f (madeIn (withMemory x) (makeBlock (x .memory) fixed 1))
+    (λ x₁ k. withMemory x₁ (endBlock (x₁ .memory) k))
     (λ k x₁ f₁. into 0 (watch b (extend ρ y k) x₁ f₁))
 watch (takeAddress s n p) ρ x f = after s ρ f (taken x n (addressOf (placeIn p ρ x)))
 watch (takeValue s n e) ρ x f = after s ρ f (taken x n (valueIn e ρ x))

@@ -104,7 +104,8 @@ module _ (t : List ℕ) (a : check source t ≡ Checked.Accepted) where
       let e : ltb (length o) (length (translation t)) ≡ false = le-ltb (length o) (length (translation t))
       (omega arith) in
       let k : r ≡ length (translation t) / 16 = omega arith in
-      let f : into (translation t) o false ≡ translatedBy Checked.Accepted t o = ap (into (translation t) o) (sym e) in (
+      let f : into (translation t) o false
+      ≡ translatedBy Checked.Accepted t o = ap (into (translation t) o) (sym e) in (
         ap (λ (j : ℕ). answer 0 j 0 0) k ∙ ap (λ (x : Translated). x .answer) f,
         w .bytes ∙ ap (put o 0) (sym accepted-bytes) ∙ ap (λ (x : Translated). x .out) f,
       )

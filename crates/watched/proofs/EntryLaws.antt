@@ -61,7 +61,8 @@ pub leaves-start : (s : TargetStatement) (f : ℕ) (r : Ended) (l l₁ o o₁ τ
     (lent l o (replicate temporariesLength 0)) (lent l₁ o₁ τ₁)
     → Leaves (watch s startVariables (watching (memoryOf l) (observationOf o) startTemporaries) f) r l l₁ o o₁
 leaves-start s f r l l₁ o o₁ τ₁ w =
-    subst (λ (τ : Temporaries). Leaves (watch s startVariables (watching (memoryOf l) (observationOf o) τ) f) r l l₁ o o₁)
+    subst (λ (τ : Temporaries). Leaves
+    (watch s startVariables (watching (memoryOf l) (observationOf o) τ) f) r l l₁ o o₁)
     temporaries-start (record { answer = w .answer; memory = w .memory; observation = w .observation })
 
 module _ (t l : List ℕ) (h : check target t ≡ Checked.Accepted) where

@@ -56,7 +56,8 @@ module _ {t : List ℕ} {n : ℕ} {ρ : Variables} {x : Lent} (h : Ready t n ρ 
   part k y g = watch (targetStatementAt t k) ρ y g
 
   abbrev deciding : Test → ℕ → Outcome WatchedState
-  deciding y f = decide (numberAt t n) ρ y (stateOf x) f (part (childB t n) (stateOf x) f) (part (childC t n) (stateOf x) f)
+  deciding y f =
+      decide (numberAt t n) ρ y (stateOf x) f (part (childB t n) (stateOf x) f) (part (childC t n) (stateOf x) f)
 
   decided : (y : Test) (f : ℕ)
       → ending (decide (numberAt t n) ρ y (stateOf x) f (into 1 (part (childB t n) (stateOf x) f))
@@ -127,7 +128,8 @@ module _ {t : List ℕ} {n : ℕ} {ρ : Variables} {x : Lent} (h : Ready t n ρ 
 
     abbrev letting : ℕ → Made Memory → Outcome WatchedState
     letting f z =
-        inLet (numberAt t n) ρ (stateOf x) f (madeIn (withMemory (stateOf x)) z) closing (λ k y g. into 0 (inside k y g))
+        inLet (numberAt t n) ρ (stateOf x) f (madeIn (withMemory (stateOf x)) z) closing
+        (λ k y g. into 0 (inside k y g))
 
     enclosing : (f : ℕ) (y : Made Memory) → block ≡ y
         → ending (watchFrom (targetStatementAt t n) ρ x f) ≡ ending (letting f y)
@@ -159,7 +161,8 @@ module _ {t : List ℕ} {n : ℕ} {ρ : Variables} {x : Lent} (h : Ready t n ρ 
 -- what ran so far of statement n: statement m is left to run
 pub record Remaining (t : List ℕ) (n : ℕ) (ρ : Variables) (entry : Lent) (fuel m : ℕ) (x : Lent) (left : ℕ)
     : Type 0 where
-  pub rest : ending (watchFrom (targetStatementAt t n) ρ entry fuel) ≡ ending (watchFrom (targetStatementAt t m) ρ x left)
+  pub rest : ending (watchFrom (targetStatementAt t n) ρ entry fuel)
+      ≡ ending (watchFrom (targetStatementAt t m) ρ x left)
   pub bytes : Kept entry x
   pub fits : LentFits x
 

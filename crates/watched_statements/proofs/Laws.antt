@@ -91,7 +91,8 @@ outcome-finished (finished z f) r x y h v e =
 outcome-finished (ended c s ρ p z f) r x y h v e =
     absurd (ends-above c h (sym (ap (λ (q : Ended). q .number) (v .answer)) ∙ e))
 
-outcome-ended : (w : Outcome WatchedState) (k : WatchedState → ℕ → Outcome WatchedState) (r : Ended) (x y : Lent) → Ran w r x y → r .number ≢ 0
+outcome-ended : (w : Outcome WatchedState) (k : WatchedState → ℕ → Outcome WatchedState) (r : Ended) (x y : Lent)
+    → Ran w r x y → r .number ≢ 0
     → Ran (next w k) r x y
 outcome-ended (finished z f) k r x y v e = absurd (e (ap (λ (q : Ended). q .number) (v .answer)))
 outcome-ended (ended c s ρ p z f) k r x y v e = v

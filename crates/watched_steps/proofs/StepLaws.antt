@@ -55,7 +55,8 @@ module _ (c : ℕ) (τ : Temporaries) (n : ℕ) (o : Observation) {k : ℕ} wher
 -- the same, n and c being what was read of the record
 module _ {l l′ : List ℕ} {r m n : ℕ} (o : Observation) (e : m ≡ n) where
   pub takes-operation : {k x c : ℕ} → k ≡ 63 → x ≡ c
-      → Takes l l′ r m (operated (operatorOf x) (heldIn (temporariesOf l) (suc m)) (heldIn (temporariesOf l) (suc (suc m))))
+      → Takes l l′ r m
+      (operated (operatorOf x) (heldIn (temporariesOf l) (suc m)) (heldIn (temporariesOf l) (suc (suc m))))
       → Takes l l′ r n (takenOf k c (temporariesOf l) n o)
   takes-operation {k} {x} {c} q d h = takes-is (take-operation-is c (temporariesOf l) n o q) (rw (e, d) at h)
 

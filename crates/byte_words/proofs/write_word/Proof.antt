@@ -46,7 +46,8 @@ loop-again c =
     let l = c .before .loop in
     let a = s .args in
     let t = c .loop-test .taken in
-    let more = write-more (a .d .now) (l .d) (a .at) (a .n) (a .v) (l .rest) (l .i) (s .pre) t (l .inv .2) (l .inv .3) in
+    let more = write-more (a .d .now) (l .d) (a .at) (a .n) (a .v) (l .rest) (l .i) (s .pre) t (l .inv .2)
+    (l .inv .3) in
     (omega arith, simp length-set (l .inv .1), more .0, more .1)
 
 same-length : tie.Need-same-length Inv-loop μ-loop

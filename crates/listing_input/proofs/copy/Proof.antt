@@ -57,7 +57,8 @@ returns c =
     let a = p .before .args in
     let h = p .loop .inv in
     let full : 4112 ≤ a .count + p .loop .i = ltb-false (a .count + p .loop .i) 4112 (c .if1 .left) in
-    h .3 ∙ paste-full (a .kept .now) (a .more .now) (a .count) (p .loop .i) (4112 - a .count) (h .0) (h .1) (omega arith)
+    h .3 ∙ paste-full (a .kept .now) (a .more .now) (a .count) (p .loop .i) (4112 - a .count) (h .0) (h .1)
+    (omega arith)
 
 same-length-2 : tie.Need-same-length-2 Inv-loop μ-loop
 same-length-2 c = c .before .loop .inv .2

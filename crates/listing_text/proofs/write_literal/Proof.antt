@@ -43,4 +43,5 @@ returns c =
     (written-as (literal-text (w .before)) (w .write-integer .ensures)) (b .write-byte .ensures)
 
 pub write-literal-spec : {M : Type 1} → statement M
-write-literal-spec = tie.close (tie.spec literal-requires write-integer-requires write-byte-requires same-length returns)
+write-literal-spec =
+    tie.close (tie.spec literal-requires write-integer-requires write-byte-requires same-length returns)

@@ -15,7 +15,8 @@ use Rattle.observation_free_marks.specs.Occupied.{occupy, occupyAll}
 use Rattle.observation_free_marks.proofs.PlaceLaws.{cover-start, cover-more}
 
 covered : (p l d : List ℕ) (k : ℕ) (b : Recorded) → k < nameCount
-    → d ≡ occupyAll p (drop (suc k) (observationOf l .blocks)) → b ≡ recordedAt l k → occupy d b ≡ occupyAll p (drop k (observationOf l .blocks))
+    → d ≡ occupyAll p (drop (suc k) (observationOf l .blocks)) → b ≡ recordedAt l k
+    → occupy d b ≡ occupyAll p (drop k (observationOf l .blocks))
 covered p l d k b h e f = ap (λ (t : List ℕ). occupy t b) e ∙ ap
     (occupy (occupyAll p (drop (suc k) (observationOf l .blocks)))) f ∙ cover-more p l k h
 

@@ -25,7 +25,8 @@ same-length c = search needs
 returns : tie.Need-returns
 returns c =
     let s = c .before .before .before .before .before .before .before .before .before .before .args in
-    answered-by _ _ (s .table .now) (s .inputs .now) (s .fuel) (s .memory .now) (c .before .before .run-accepted .result)
+    answered-by _ _ (s .table .now) (s .inputs .now) (s .fuel) (s .memory .now)
+    (c .before .before .run-accepted .result)
     (c .before .before .run-accepted .last .1 .1 .1 .0)
     (sym (c .before .before .before .before .before .before .check-source .ensures)
     ∙ c .before .before .before .before .enum-told .given .1) (c .before .before .run-accepted .ensures)

@@ -38,7 +38,8 @@ returns c =
     ran-asserts (statementAt T n) ρ (s .args .fuel) n (c .before .before .test-predicate .result)
     (c .before .assert-number .result) (c .conclude .result) l
     (run-assert T n (s .pre .0 .is) ρ (memoryOf l) (s .args .fuel) (s .pre .1)
-    ∙ sym (ap (λ (x : Test). after n ρ (s .args .fuel) (asserted (memoryOf l) x)) (c .before .before .test-predicate .ensures)))
+    ∙ sym (ap (λ (x : Test). after n ρ (s .args .fuel) (asserted (memoryOf l) x))
+    (c .before .before .test-predicate .ensures)))
     (c .before .assert-number .ensures) (c .conclude .ensures)
 
 pub assert-spec : {M : Type 1} → statement M

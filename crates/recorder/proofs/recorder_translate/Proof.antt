@@ -34,7 +34,8 @@ returns c =
     let k = e .before .before in
     let s = k .before .before .before in
     let d = sym (sym (k .check-source .ensures) ∙ e .enum-told .given .1) in (
-      r .translate-accepted .ensures .0 ∙ ap (λ x. translatedBy x (now (s .args .table)) (now (s .args .out)) .answer) d,
+      r .translate-accepted .ensures .0
+          ∙ ap (λ x. translatedBy x (now (s .args .table)) (now (s .args .out)) .answer) d,
       r .translate-accepted .ensures .1 ∙ ap (λ x. translatedBy x (now (s .args .table)) (now (s .args .out)) .out) d,
     )
 

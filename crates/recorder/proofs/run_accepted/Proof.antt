@@ -82,7 +82,8 @@ run-translated-requires c κs =
     let s = d .before .before .before .before .before .before .before .before .before .before .before in
     record {
       accepted = s .pre;
-      inputs = sym (d .before .before .before .before .has-inputs-fault .ensures) ∙ d .before .before .before .if1 .left;
+      inputs =
+          sym (d .before .before .before .before .has-inputs-fault .ensures) ∙ d .before .before .before .if1 .left;
       memory = d .before .before .if2 .left;
       second = d .before .if3 .left;
       observation = d .if4 .left;

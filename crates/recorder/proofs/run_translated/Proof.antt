@@ -23,7 +23,8 @@ returns c =
     let s = c .before .before .before .before .before .before .before .before .before .before .before .before .before in
     too-short (s .args .table .now) (s .args .inputs .now) (s .args .fuel)
     (lent (s .args .out .now) (s .args .memory .now) (s .args .second .now) (s .args .observation .now))
-    (s .pre) (m .result) (m .last .1 .0) (m .ensures .0) (m .ensures .1) (c .refuse-both .result) (c .before .if1 .taken)
+    (s .pre) (m .result) (m .last .1 .0) (m .ensures .0) (m .ensures .1) (c .refuse-both .result)
+    (c .before .if1 .taken)
     (c .refuse-both .ensures)
 
 cast-run-pair : tie.Need-cast-run-pair

@@ -96,7 +96,8 @@ module _ (t z : List ℕ) where
       let r = record-padded (suc n) (omega arith) q in
       let f = fault-padded l (suc n) (omega arith) q in
       let w : leb (suc n) (recordCount (t ++ z)) ≡ leb (suc n) (recordCount t) =
-      le-leb (suc n) (recordCount (t ++ z)) (omega (arith, length-append t z)) ∙ sym (le-leb (suc n) (recordCount t) q) in
+      le-leb (suc n) (recordCount (t ++ z)) (omega (arith, length-append t z))
+      ∙ sym (le-leb (suc n) (recordCount t) q) in
       λ i. from (w i) (f i) (r i)
     where
       from : Bool → ℕ → Record → NodeOf l

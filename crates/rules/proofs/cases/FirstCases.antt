@@ -72,8 +72,10 @@ endings-are rs c d = λ i. ending-is rs c i ++ stop (watched-is rs d i .answer)
 -- what a division shows, of its outcomes
 abbrev shown : ℕ → ℤ → ℤ → ℤ → List ℤ
 shown o x y z =
-    map pos ((stop (plainEnded (plainly (division o x y)) .answer) ++ stop (watchedEnded (watchedly (division o x y)) .answer))
-    ++ (stop (plainEnded (plainly (assertion o x y z)) .answer) ++ stop (watchedEnded (watchedly (assertion o x y z)) .answer)))
+    map pos ((stop (plainEnded (plainly (division o x y)) .answer)
+    ++ stop (watchedEnded (watchedly (division o x y)) .answer))
+    ++ (stop (plainEnded (plainly (assertion o x y z)) .answer)
+    ++ stop (watchedEnded (watchedly (assertion o x y z)) .answer)))
     ++ variableCell (memoryImage (plainly (division o x y) .state))
     ++ variableCell (memoryImage (watchedly (division o x y) .state .memory))
 

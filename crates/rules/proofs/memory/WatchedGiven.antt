@@ -213,7 +213,8 @@ watch-given (while s e b) σ h ρ x f i =
     (λ y j. any-test (condition (valueIn e ρ y)))
     (λ y g j. reach-into AnyNumber w 1 y g (watch b ρ y g) (watch-given b σ (h .2) ρ y g j)) f x f i
 watch-given (letIn s z b) σ h ρ x f i =
-    reach-let AnyNumber (staying (GivenState σ ρ)) (λ k y. MadeGiven (x .memory) k (y .memory) × (y .temporaries ≡ x .temporaries))
+    reach-let AnyNumber (staying (GivenState σ ρ))
+    (λ k y. MadeGiven (x .memory) k (y .memory) × (y .temporaries ≡ x .temporaries))
     s ρ x f (making x) closing (λ k y g. into 0 (watch b (extend ρ z k) y g)) i
     (made-in (MadeGiven (x .memory)) _ AnyNumber (withMemory x) (makeBlock (x .memory) fixed 1) (λ k m₁ u. (u, refl))
     (makeBlock-given (x .memory) fixed 1 (i .invariant) (i .cells)))
@@ -221,22 +222,26 @@ watch-given (letIn s z b) σ h ρ x f i =
     (λ k y g. reach-into AnyNumber (staying (GivenState σ ρ)) 0 y f (watch b (extend ρ z k) y f)
     (leave-outcome σ ρ z k y f (watch b (extend ρ z k) y f) (h .2)
     (watch-given b (adding σ z) (h .3) (extend ρ z k) y f
-    (subst (PointersGiven (adding σ z) (extend ρ z k) (y .memory)) (sym (g .1)) (enter σ ρ x i z k (y .memory) (g .0))))))
+    (subst (PointersGiven (adding σ z) (extend ρ z k) (y .memory)) (sym (g .1))
+    (enter σ ρ x i z k (y .memory) (g .0))))))
     (λ k y y₁ g r. end-let σ ρ y₁ r k)
 watch-given (takeAddress s n p) σ h ρ x f i =
     acted σ ρ x s f (taken x n (addressOf (placeIn p ρ x)))
     (taken-given σ ρ x i n (addressOf (placeIn p ρ x))
     (addressOf-has (GivenValue (x .memory)) (placeIn p ρ x) (place-given σ ρ x i p (h .2))))
 watch-given (takeValue s n e) σ h ρ x f i =
-    acted σ ρ x s f (taken x n (valueIn e ρ x)) (taken-given σ ρ x i n (valueIn e ρ x) (evaluate-given σ ρ x i e (h .2)))
+    acted σ ρ x s f (taken x n (valueIn e ρ x))
+    (taken-given σ ρ x i n (valueIn e ρ x) (evaluate-given σ ρ x i e (h .2)))
 watch-given (takeOperation s n q) σ h ρ x f i =
     acted σ ρ x s f (taken x n (operating q n x))
     (taken-given σ ρ x i n (operating q n x)
-    (operated-gives (GivenValue (x .memory)) AnyNumber (numbers-given (x .memory)) (moves-given (x .memory)) (λ c y. tt) q
+    (operated-gives (GivenValue (x .memory)) AnyNumber (numbers-given (x .memory)) (moves-given (x .memory))
+    (λ c y. tt) q
     (holding x (suc n)) (holding x (suc (suc n)))
     (held-given σ ρ x i (suc n)) (held-given σ ρ x i (suc (suc n)))))
 watch-given (takeQuery s n q) σ h ρ x f i =
-    acted σ ρ x s f (taken x n (querying q n x)) (taken-given σ ρ x i n (querying q n x) (query-given σ ρ x i q (suc n)))
+    acted σ ρ x s f (taken x n (querying q n x))
+    (taken-given σ ρ x i n (querying q n x) (query-given σ ρ x i q (suc n)))
 watch-given (takeNot s n) σ h ρ x f i =
     acted σ ρ x s f (taken x n (negating n x)) (taken-given σ ρ x i n (negating n x) (not-given σ ρ x i (suc n)))
 watch-given (branchOn s n a b) σ h ρ x f i =

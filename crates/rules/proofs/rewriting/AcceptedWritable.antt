@@ -53,7 +53,8 @@ comparison (suc (suc (suc (suc zero)))) h = h
 comparison (suc (suc (suc (suc (suc zero))))) h = h
 comparison (suc (suc (suc (suc (suc (suc zero)))))) h = h
 comparison (suc (suc (suc (suc (suc (suc (suc zero))))))) h = h
-comparison (suc (suc (suc (suc (suc (suc (suc (suc m)))))))) h = absurd (omega (arith, between-most 6 7 (suc (suc (suc (suc (suc (suc (suc (suc m)))))))) h))
+comparison (suc (suc (suc (suc (suc (suc (suc (suc m)))))))) h =
+    absurd (omega (arith, between-most 6 7 (suc (suc (suc (suc (suc (suc (suc (suc m)))))))) h))
 
 abbrev WritableAs : Sort → SourceNode → Type 0
 WritableAs expression x = Unit {0}

@@ -37,7 +37,8 @@ abbrev pub EndsAmong : {S : Type 0} → List ℕ → Outcome S → Type 0
 EndsAmong l (finished x f) = Unit {0}
 EndsAmong l (ended c s ρ w x f) = Among l c
 
-reached-among : {S : Type 0} (l : List ℕ) (x : S) (f : ℕ) (o : Outcome S) → Reaches Anything (Among l) x f o → EndsAmong l o
+reached-among : {S : Type 0} (l : List ℕ) (x : S) (f : ℕ) (o : Outcome S) → Reaches Anything (Among l) x f o
+    → EndsAmong l o
 reached-among l x f (finished y g) h = tt
 reached-among l x f (ended c s ρ w y g) h = h .0
 

@@ -53,7 +53,8 @@ later-asserted s x f (Test.Stopped c) = (tt, later-reached x (reached undecided 
 past-keeps : MeaningKeeps pastMeaning AnyState Later AnyBlock AnyNumber
 past-keeps = record {
   onwards = later;
-  assigns = λ p e ρ x v. later-change x (assigned (x .memory) (findSource p ρ (x .memory)) (evaluateSource e ρ (x .memory)));
+  assigns =
+      λ p e ρ x v. later-change x (assigned (x .memory) (findSource p ρ (x .memory)) (evaluateSource e ρ (x .memory)));
   allocates = λ p e ρ x v.
       later-change x (allocated (x .memory) (findSource p ρ (x .memory)) (evaluateSource e ρ (x .memory)));
   frees = λ e ρ x v. later-change x (freed (x .memory) (evaluateSource e ρ (x .memory)));

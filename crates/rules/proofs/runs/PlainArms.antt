@@ -106,7 +106,8 @@ module _ (t : List ℕ) (n : ℕ) (h : HasSort source statement t n) where
     run-assert e = run-kind 48 e
 
   -- a while, with fuel and without
-  pub run-while-zero : kindOf t n ≡ 46 → (ρ : Variables) (m : Memory) → run (statementAt t n) ρ m 0 ≡ ended 32 n ρ [] m 0
+  pub run-while-zero : kindOf t n ≡ 46 → (ρ : Variables) (m : Memory)
+      → run (statementAt t n) ρ m 0 ≡ ended 32 n ρ [] m 0
   run-while-zero e ρ m =
       run-kind ρ m 0 46 e ∙ while-zero plainMeaning n (expressionAt t (childA t n)) (statementAt t (childB t n)) ρ m
 

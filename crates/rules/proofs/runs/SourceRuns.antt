@@ -11,7 +11,8 @@ use Rattle.rules.proofs.runs.Outcomes.{reach-decide, reach-turns, reach
 pub record MeaningKeeps {S : Type 0} (M : Meaning S) (P : S → Type 0) (R : S → S → Type 0) (G : S → ℕ → Type 0)
     (E : ℕ → Type 0) : Type 0 where
   pub onwards : Onwards P R
-  pub assigns : (p : Place ⊥) (e : Expression ⊥) (ρ : Variables) (x : S) → P x → ChangeKeeps (R x) E (M .assigns p e ρ x)
+  pub assigns : (p : Place ⊥) (e : Expression ⊥) (ρ : Variables) (x : S) → P x
+      → ChangeKeeps (R x) E (M .assigns p e ρ x)
   pub allocates : (p : Place ⊥) (e : Expression ⊥) (ρ : Variables) (x : S) → P x
       → ChangeKeeps (R x) E (M .allocates p e ρ x)
   pub frees : (e : Expression ⊥) (ρ : Variables) (x : S) → P x → ChangeKeeps (R x) E (M .frees e ρ x)
@@ -40,10 +41,12 @@ module _ {S : Type 0} {M : Meaning S} {P : S → Type 0} {R : S → S → Type 0
       (reach-into E (h .onwards) 1 x f (runBy M a ρ x f) (run-reaches a ρ x f v))
       (reach-into E (h .onwards) 2 x f (runBy M b ρ x f) (run-reaches b ρ x f v))
   run-reaches (while s e b) ρ x f v =
-      reach-turns E (h .onwards) s ρ (λ y. M .decides e ρ y) (λ y g. into 1 (runBy M b ρ y g)) (h .out-of-fuel) (λ y u. h .decides e ρ y u) (λ y g u.
+      reach-turns E (h .onwards) s ρ (λ y. M .decides e ρ y) (λ y g. into 1 (runBy M b ρ y g)) (h .out-of-fuel)
+      (λ y u. h .decides e ρ y u) (λ y g u.
       reach-into E (h .onwards) 1 y g (runBy M b ρ y g) (run-reaches b ρ y g u)) f x f v
   run-reaches (letIn s z b) ρ x f v =
-      reach-let E (h .onwards) (λ k y. G x k × R x y) s ρ x f (M .makes x) (M .ends) (λ k y g. into 0 (runBy M b (extend ρ z k) y g)) v (h .makes x v) (λ k y g. g .1) (λ k y g.
+      reach-let E (h .onwards) (λ k y. G x k × R x y) s ρ x f (M .makes x) (M .ends)
+      (λ k y g. into 0 (runBy M b (extend ρ z k) y g)) v (h .makes x v) (λ k y g. g .1) (λ k y g.
       reach-into E (h .onwards) 0 y f (runBy M b (extend ρ z k) y f)
       (run-reaches b (extend ρ z k) y f (h .onwards .valid (g .1))))
       (λ k y z g r. h .ends x z k (g .0) r)

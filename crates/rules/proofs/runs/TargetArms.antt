@@ -22,7 +22,8 @@ use Rattle.rules.proofs.runs.StatementArms.{statement-form}
 module _ (t : List ℕ) (n : ℕ) (h : HasSort target statement t n) where
   module _ (ρ : Variables) (x : WatchedState) (f : ℕ) where
     watch-kind : (k : ℕ) → kindOf t n ≡ k
-        → watch (targetStatementAt t n) ρ x f ≡ watch (targetStatement (nodeAs target (formAt target k .kind) t n)) ρ x f
+        → watch (targetStatementAt t n) ρ x f
+        ≡ watch (targetStatement (nodeAs target (formAt target k .kind) t n)) ρ x f
     watch-kind k e = ap (λ (y : TargetNode). watch (targetStatement y) ρ x f) (statement-form target t n h k e .node)
 
     pub watch-skip : kindOf t n ≡ 40
@@ -59,7 +60,8 @@ module _ (t : List ℕ) (n : ℕ) (h : HasSort target statement t n) where
     pub watch-branch : kindOf t n ≡ 45
         → watch (targetStatementAt t n) ρ x f
         ≡ decide (numberAt t n) ρ (condition (valueIn (targetExpressionAt t (childA t n)) ρ x)) x f
-        (into 1 (watch (targetStatementAt t (childB t n)) ρ x f)) (into 2 (watch (targetStatementAt t (childC t n)) ρ x f))
+        (into 1 (watch (targetStatementAt t (childB t n)) ρ x f))
+        (into 2 (watch (targetStatementAt t (childC t n)) ρ x f))
     unfolding watch
     watch-branch e = watch-kind 45 e
 
@@ -103,7 +105,8 @@ module _ (t : List ℕ) (n : ℕ) (h : HasSort target statement t n) where
     pub watch-branch-on : kindOf t n ≡ 66
         → watch (targetStatementAt t n) ρ x f
         ≡ decide (numberAt t n) ρ (condition (holding x (markOf t n))) x f
-        (into 1 (watch (targetStatementAt t (childB t n)) ρ x f)) (into 2 (watch (targetStatementAt t (childC t n)) ρ x f))
+        (into 1 (watch (targetStatementAt t (childB t n)) ρ x f))
+        (into 2 (watch (targetStatementAt t (childC t n)) ρ x f))
     unfolding watch
     watch-branch-on e = watch-kind 66 e
 
@@ -141,7 +144,8 @@ module _ (t : List ℕ) (n : ℕ) (h : HasSort target statement t n) where
   pub watch-while-suc : kindOf t n ≡ 46 → (ρ : Variables) (x : WatchedState) (f : ℕ)
       → watch (targetStatementAt t n) ρ x (suc f)
       ≡ decide (numberAt t n) ρ (condition (valueIn (targetExpressionAt t (childA t n)) ρ x)) x f
-      (next (into 1 (watch (targetStatementAt t (childB t n)) ρ x f)) (λ y g. watch (targetStatementAt t n) ρ y g)) (finished x f)
+      (next (into 1 (watch (targetStatementAt t (childB t n)) ρ x f)) (λ y g. watch (targetStatementAt t n) ρ y g))
+      (finished x f)
   watch-while-suc e ρ x f =
       watch-kind ρ x (suc f) 46 e
       ∙ watched-while-suc (numberAt t n) (targetExpressionAt t (childA t n)) (targetStatementAt t (childB t n)) ρ x f

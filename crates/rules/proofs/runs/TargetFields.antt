@@ -83,7 +83,8 @@ module _ (t : List ℕ) (n : ℕ) (h : HasSort target statement t n) where
       let s = stands target t n statement h in
       let p : numberedForm (s .form) ≡ true = found-passes numberedForm target (kindOf t n) (s .form) refl (s .found) in
       let q : isStatementLiteral (s .form .literal) ≡ true = rw (s .sort) at p in
-      subst (λ (l : Literal). LiteralHolds l (literalOf t n)) (literal-numbered (s .form .literal) q) (s .holds .literal)
+      subst (λ (l : Literal). LiteralHolds l (literalOf t n)) (literal-numbered (s .form .literal) q)
+      (s .holds .literal)
 
   pub statement-numbered : Numbered (numberAt t n)
   statement-numbered = (statement-literal .0, statement-literal .1)

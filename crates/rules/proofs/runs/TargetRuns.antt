@@ -114,23 +114,31 @@ module _ {P : WatchedState → Type 0} {R : WatchedState → WatchedState → Ty
       (reach-into E (h .onwards) 0 x f (watch a ρ x f) (watch-reaches a ρ x f v)) (λ y g r l.
       reach-into E (h .onwards) 1 y g (watch b ρ y g) (watch-reaches b ρ y g (h .onwards .valid r)))
   watch-reaches (branch s e a b) ρ x f v =
-      reach-decide E (h .onwards) s ρ (condition (valueIn e ρ x)) x f (into 1 (watch a ρ x f)) (into 2 (watch b ρ x f)) v
+      reach-decide E (h .onwards) s ρ (condition (valueIn e ρ x)) x f (into 1 (watch a ρ x f))
+      (into 2 (watch b ρ x f)) v
       (h .decides e ρ x v)
       (reach-into E (h .onwards) 1 x f (watch a ρ x f) (watch-reaches a ρ x f v))
       (reach-into E (h .onwards) 2 x f (watch b ρ x f) (watch-reaches b ρ x f v))
   watch-reaches (while s e b) ρ x f v =
-      reach-turns E (h .onwards) s ρ (λ y. condition (valueIn e ρ y)) (λ y g. into 1 (watch b ρ y g)) (h .out-of-fuel) (λ y u. h .decides e ρ y u) (λ y g u.
+      reach-turns E (h .onwards) s ρ (λ y. condition (valueIn e ρ y)) (λ y g. into 1 (watch b ρ y g))
+      (h .out-of-fuel) (λ y u. h .decides e ρ y u) (λ y g u.
       reach-into E (h .onwards) 1 y g (watch b ρ y g) (watch-reaches b ρ y g u)) f x f v
   watch-reaches (letIn s z b) ρ x f v =
-      reach-let E (h .onwards) (λ k y. G x k × R x y) s ρ x f (making x) closing (λ k y g. into 0 (watch b (extend ρ z k) y g)) v (h .makes x v)
+      reach-let E (h .onwards) (λ k y. G x k × R x y) s ρ x f (making x) closing
+      (λ k y g. into 0 (watch b (extend ρ z k) y g)) v (h .makes x v)
       (λ k y g. g .1) (λ k y g. reach-into E (h .onwards) 0 y f (watch b (extend ρ z k) y f)
       (watch-reaches b (extend ρ z k) y f (h .onwards .valid (g .1))))
       (λ k y z g r. h .ends x z k (g .0) r)
-  watch-reaches (takeAddress s n p) ρ x f v = reach-after E (h .onwards) x s ρ f (taken x n (addressOf (placeIn p ρ x))) (h .takes-address n p ρ x v)
-  watch-reaches (takeValue s n e) ρ x f v = reach-after E (h .onwards) x s ρ f (taken x n (valueIn e ρ x)) (h .takes-value n e ρ x v)
-  watch-reaches (takeOperation s n q) ρ x f v = reach-after E (h .onwards) x s ρ f (taken x n (operating q n x)) (h .takes-operation n q x v)
-  watch-reaches (takeQuery s n q) ρ x f v = reach-after E (h .onwards) x s ρ f (taken x n (querying q n x)) (h .takes-query n q x v)
-  watch-reaches (takeNot s n) ρ x f v = reach-after E (h .onwards) x s ρ f (taken x n (negating n x)) (h .takes-not n x v)
+  watch-reaches (takeAddress s n p) ρ x f v =
+      reach-after E (h .onwards) x s ρ f (taken x n (addressOf (placeIn p ρ x))) (h .takes-address n p ρ x v)
+  watch-reaches (takeValue s n e) ρ x f v =
+      reach-after E (h .onwards) x s ρ f (taken x n (valueIn e ρ x)) (h .takes-value n e ρ x v)
+  watch-reaches (takeOperation s n q) ρ x f v =
+      reach-after E (h .onwards) x s ρ f (taken x n (operating q n x)) (h .takes-operation n q x v)
+  watch-reaches (takeQuery s n q) ρ x f v =
+      reach-after E (h .onwards) x s ρ f (taken x n (querying q n x)) (h .takes-query n q x v)
+  watch-reaches (takeNot s n) ρ x f v =
+      reach-after E (h .onwards) x s ρ f (taken x n (negating n x)) (h .takes-not n x v)
   watch-reaches (branchOn s n a b) ρ x f v =
       reach-decide E (h .onwards) s ρ (condition (holding x n)) x f (into 1 (watch a ρ x f)) (into 2 (watch b ρ x f)) v
       (h .decides-on n x v)
@@ -140,6 +148,9 @@ module _ {P : WatchedState → Type 0} {R : WatchedState → WatchedState → Ty
       reach-after E (h .onwards) x s ρ f (asserted x (condition (holding x n)))
       (asserted-keeps (R x) E x (condition (holding x n)) (h .false-assertion) (h .onwards .itself v)
       (h .decides-on n x v))
-  watch-reaches (target.storeBlock s n) ρ x f v = reach-after E (h .onwards) x s ρ f (observed x (storing n x)) (h .stores n x v)
-  watch-reaches (target.deleteBlock s n) ρ x f v = reach-after E (h .onwards) x s ρ f (observed x (deleting n x)) (h .deletes n x v)
-  watch-reaches (target.initialise s n) ρ x f v = reach-after E (h .onwards) x s ρ f (observed x (initialising n x)) (h .initialises n x v)
+  watch-reaches (target.storeBlock s n) ρ x f v =
+      reach-after E (h .onwards) x s ρ f (observed x (storing n x)) (h .stores n x v)
+  watch-reaches (target.deleteBlock s n) ρ x f v =
+      reach-after E (h .onwards) x s ρ f (observed x (deleting n x)) (h .deletes n x v)
+  watch-reaches (target.initialise s n) ρ x f v =
+      reach-after E (h .onwards) x s ρ f (observed x (initialising n x)) (h .initialises n x v)

@@ -53,7 +53,8 @@ read-back m p q i e y =
     let at : Leads m (p .name) (Located.At i) = rw e at (leads m p y) in
     rw (locate-set m i c p ∙ e, getD-set-same (m .cells) i c Cell.Free (omega (arith, y .size, at .1))) refl
 
-agree-stored : (s : ℕ) (ρ : Variables) (m : Memory) (τ : Temporaries) (f : ℕ) (p : Pointer) (n k first : ℕ) (r : Located)
+agree-stored : (s : ℕ) (ρ : Variables) (m : Memory) (τ : Temporaries) (f : ℕ) (p : Pointer) (n k first : ℕ)
+    (r : Located)
     → Room m (suc n) k first → freeRun m (suc n) ≡ Search.At first → Invariant m
     → locate (withBlock m freeable k first (suc n)) p ≡ r
     → temporaryOf τ 0 ≡ Temporary.Holds (Value.Pointer p)
@@ -169,7 +170,8 @@ pub agree-let : (s : ℕ) (ρ : Variables) (m : Memory) (τ : Temporaries) (f : 
     → ((k : ℕ) → Agreeing (b k) (bw k))
     → ((k : ℕ) (m₁ : Memory) (f₁ : ℕ) → Invariant m₁ → Onward m₁ (ending (b k m₁ f₁) .state))
     → Agree (inLet s ρ m f (makeAt m fixed 1 r₁ r₂) endBlock (λ k m₁ f₁. into 0 (b k m₁ f₁)))
-    (inLet s ρ (watching m (mirror m) τ) f (madeIn (withMemory (watching m (mirror m) τ)) (makeAt m fixed 1 r₁ r₂)) closing
+    (inLet s ρ (watching m (mirror m) τ) f
+    (madeIn (withMemory (watching m (mirror m) τ)) (makeAt m fixed 1 r₁ r₂)) closing
     (λ k x g. into 0
     (next (into 0 (after s (inner k) g (taken x 0 (Evaluated.Value (pointerTo (at k) 0))))) (λ x₁ g₁.
     into 1 (next (into 0 (after s (inner k) g₁ (taken x₁ 1 (Evaluated.Value (Value.Integer (pos 1)))))) (λ x₂ g₂.

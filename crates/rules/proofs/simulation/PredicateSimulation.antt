@@ -158,7 +158,8 @@ term-agrees (combined o a b) σ ρ m s n τ f d l =
     gives-next s ρ m (mirror m) f _ (watch (sequence s (translateTerm b s (suc (suc n))) (takeOperation s n o)) ρ)
     (term-agrees a σ ρ m s (suc n) τ f (d .1) l)
     (λ v τ₁ h l₁ p. gives-from s ρ m (mirror m) f (λ k c. p k (omega arith))
-    (gives-next s ρ m (mirror m) f _ (watch (takeOperation s n o) ρ) (term-agrees b σ ρ m s (suc (suc n)) τ₁ f (d .2) l₁)
+    (gives-next s ρ m (mirror m) f _ (watch (takeOperation s n o) ρ)
+    (term-agrees b σ ρ m s (suc (suc n)) τ₁ f (d .2) l₁)
     (λ u τ₂ g l₂ q. gives-operation s ρ m (mirror m) f o n v u τ₁ τ₂ (omega arith) h g l₂ q)))
 
 pub predicate-agrees : (a : Predicate) (σ : Scope) (ρ : Variables) (m : Memory) (s n : ℕ) (τ : Temporaries) (f : ℕ)

@@ -40,7 +40,8 @@ simulates (sequence s a b) σ ρ m τ f d y l =
     (subst Invariant (sym (into-state 0 (run a ρ m f))) (plain-onward a ρ m f y .invariant))
     (λ m₁ τ₁ f₁ y₁ l₁. agree-into 1 1 (simulates b σ ρ m₁ τ₁ f₁ (d .2) y₁ l₁))
 simulates (branch s e a b) σ ρ m τ f d y l =
-    agree-decide s ρ (condition (evaluateSource e ρ m)) (condition (valueIn (embed e) ρ (watching m (mirror m) τ))) m τ f
+    agree-decide s ρ (condition (evaluateSource e ρ m))
+    (condition (valueIn (embed e) ρ (watching m (mirror m) τ))) m τ f
     _ _ _ _ (ap condition (embed-is e τ ρ m))
     (agree-into 1 1 (simulates a σ ρ m τ f (d .2) y l)) (agree-into 2 2 (simulates b σ ρ m τ f (d .3) y l))
 simulates (while s e b) σ ρ m τ f d y l =

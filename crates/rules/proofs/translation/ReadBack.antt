@@ -66,7 +66,8 @@ module _ (t : List ℕ) (clean : FaultFree target t) where
         → n + treeSize (placeTree p) ≤ recordCount t → IsNode target t (placeTree p) n (placeNode p)
     place-back (variable x) n h s = leaf-node clean 10 x (pos 0) 0 n h s (λ C. refl) (λ C. refl)
     place-back (pointed e) n h s =
-        two-node clean 11 0 (pos 0) 0 (expressionTree e) none n h s (expression-back e n (h .0) (omega arith)) (no-node target t n)
+        two-node clean 11 0 (pos 0) 0 (expressionTree e) none n h s (expression-back e n (h .0) (omega arith))
+        (no-node target t n)
         (λ C. refl) (λ C. refl)
     place-back (temporary m) n h s = leaf-node clean 12 m (pos 0) 0 n h s (λ C. refl) (λ C. refl)
 
@@ -81,7 +82,8 @@ module _ (t : List ℕ) (clean : FaultFree target t) where
       two-node clean 42 0 (pos i) 0 (placeTree p) (expressionTree e) n h s (place-back p n (h .0) (omega arith))
       (expression-back e (n + treeSize (placeTree p)) (h .1) (omega arith)) (λ C. refl) (λ C. refl)
   statement-back (free i e) n h s =
-      two-node clean 43 0 (pos i) 0 (expressionTree e) none n h s (expression-back e n (h .0) (omega arith)) (no-node target t n)
+      two-node clean 43 0 (pos i) 0 (expressionTree e) none n h s (expression-back e n (h .0) (omega arith))
+      (no-node target t n)
       (λ C. refl) (λ C. refl)
   statement-back (sequence i a b) n h s =
       two-node clean 44 0 (pos i) 0 (statementTree a) (statementTree b) n h s (statement-back a n (h .0) (omega arith))
@@ -92,19 +94,23 @@ module _ (t : List ℕ) (clean : FaultFree target t) where
       root-node clean 45 0 (pos i) 0 (expressionTree e) (statementTree a) (statementTree b) n
       (expressionNode e) (statementNode a) (statementNode b) h s (expression-back e n (h .0) (omega arith))
       (statement-back a nb (h .1) (omega arith))
-      (field-node target t (statementTree b) nc _ (statementNode b) (omega arith) (statement-back b nc (h .2) (omega arith)))
+      (field-node target t (statementTree b) nc _ (statementNode b) (omega arith)
+      (statement-back b nc (h .2) (omega arith)))
       refl
   statement-back (while i e b) n h s =
-      two-node clean 46 0 (pos i) 0 (expressionTree e) (statementTree b) n h s (expression-back e n (h .0) (omega arith))
+      two-node clean 46 0 (pos i) 0 (expressionTree e) (statementTree b) n h s
+      (expression-back e n (h .0) (omega arith))
       (statement-back b (n + treeSize (expressionTree e)) (h .1) (omega arith)) (λ C. refl) (λ C. refl)
   statement-back (letIn i x b) n h s =
-      two-node clean 47 x (pos i) 0 (statementTree b) none n h s (statement-back b n (h .0) (omega arith)) (no-node target t n)
+      two-node clean 47 x (pos i) 0 (statementTree b) none n h s (statement-back b n (h .0) (omega arith))
+      (no-node target t n)
       (λ C. refl) (λ C. refl)
   statement-back (takeAddress i m p) n h s =
       two-node clean 60 m (pos i) 0 (placeTree p) none n h s (place-back p n (h .0) (omega arith)) (no-node target t n)
       (λ C. refl) (λ C. refl)
   statement-back (takeValue i m e) n h s =
-      two-node clean 61 m (pos i) 0 (expressionTree e) none n h s (expression-back e n (h .0) (omega arith)) (no-node target t n)
+      two-node clean 61 m (pos i) 0 (expressionTree e) none n h s (expression-back e n (h .0) (omega arith))
+      (no-node target t n)
       (λ C. refl) (λ C. refl)
   statement-back (takeOperation i m o) n h s =
       leaf-node clean 63 m (pos i) (operatorNumber o) n h s (λ C. refl)
@@ -117,7 +123,8 @@ module _ (t : List ℕ) (clean : FaultFree target t) where
       let nc : ℕ = n + 0 + treeSize (statementTree a) in
       root-node clean 66 m (pos i) 0 none (statementTree a) (statementTree b) n junk (statementNode a)
       (statementNode b) h s (no-node target t n) (statement-back a (n + 0) (h .1) (omega arith))
-      (field-node target t (statementTree b) nc _ (statementNode b) (omega arith) (statement-back b nc (h .2) (omega arith)))
+      (field-node target t (statementTree b) nc _ (statementNode b) (omega arith)
+      (statement-back b nc (h .2) (omega arith)))
       refl
   statement-back (assertOn i m) n h s = leaf-node clean 67 m (pos i) 0 n h s (λ C. refl) (λ C. refl)
   statement-back (storeBlock i m) n h s = leaf-node clean 68 m (pos i) 0 n h s (λ C. refl) (λ C. refl)

@@ -139,7 +139,8 @@ module _ (t : List ℕ) (a : Accepted source t) where
       go (yes q) =
           let keeps = passed-of source t a in
           let is : IsParent source t m j = record { in-table = (u, v); has-child = q } in
-          absurd (d (ap parentNumber (sym (parent-of-child source t keeps p j h) ∙ parent-of-child source t keeps m j is)))
+          absurd (d
+          (ap parentNumber (sym (parent-of-child source t keeps p j h) ∙ parent-of-child source t keeps m j is)))
 
   pub copies-handed : (j : ℕ) → 1 ≤ j → j < recordCount t
       → sum (recordCount t) (λ m. copiesOf t (recordCount t) m * copiesIn t m j) ≡ copiesOf t (recordCount t) j

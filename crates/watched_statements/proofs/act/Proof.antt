@@ -78,8 +78,11 @@ note-requires c κs =
     let s = after-kind .before .before in
     let h = s .pre .0 .is in
     let k = after-kind .kind .result in
-    let out : (k < 63) ⊎ (66 ≤ k) = ⊎-elim (λ w. inl (w .taken)) (λ w. inr (w .1 .left)) (after-if1 .if1 .came) in
-    (h, last-act (s .args .table .now) (s .args .n) h (s .pre .1) (after-kind .kind .ensures) (after-match .match .rest) out)
+    let out : (k < 63) ⊎ (66 ≤ k) = ⊎-elim (λ w. inl (w .taken)) (λ w. inr (w .1 .left)) (after-if1 .if1 .came) in (
+      h,
+      last-act (s .args .table .now) (s .args .n) h (s .pre .1) (after-kind .kind .ensures)
+          (after-match .match .rest) out,
+    )
 
 returns : tie.Need-returns
 returns c =

@@ -96,7 +96,8 @@ returns-3 c =
     let k = after-kind .kind .ensures in
     let r = after-match .match .rest in
     let q = take-last (s .pre .1) (λ e. r .0 .1 (k ∙ e)) (λ e. r .1 (k ∙ e)) in
-    takes-not (observationOf (s .args .obs .now)) (after-mark .mark .ensures) (childC (s .args .table .now) (s .args .n)) q
+    takes-not (observationOf (s .args .obs .now)) (after-mark .mark .ensures)
+    (childC (s .args .table .now) (s .args .n)) q
     (c .take-not .ensures)
 
 pub take-spec : {M : Type 1} → statement M
