@@ -9,7 +9,7 @@ use Rattle.rules.specs.Memory.{Memory, Change, changed, stopped, Made, m
 use Rattle.rules.specs.Evaluation.{Variables, extend}
 use Rattle.rules.specs.Types.{Test}
 
--- the way down a program to a statement: the child taken at each statement, A being 0
+-- the path down a program to a statement: the child taken at each statement, A being 0
 abbrev pub TreePath : Type 0
 TreePath = List ℕ
 
@@ -25,7 +25,7 @@ parts (while s e b) = none ∷ some b ∷ []
 parts (letIn s x b) = some b ∷ []
 parts (assert s p) = []
 
--- the statement to which a way down leads, if there is one
+-- the statement to which a path leads, if there is one
 abbrev pub ofChild : {A : Type 0} → Option A → (A → Option A) → Option A
 ofChild none on = none
 ofChild (some b) on = on b
@@ -35,7 +35,7 @@ statementOn parts [] a = some a
 statementOn parts (n ∷ w) a = ofChild (getD (parts a) n none) (λ b. statementOn parts w b)
 
 -- how a statement comes out: finished, with state and fuel; or ended, with number, statement, state and fuel, and with
--- what no answer tells: the variables' blocks as then, and the way down to the statement
+-- what no answer tells: the variables' blocks as then, and the path to the statement
 pub data Outcome (S : Type 0) : Type 0 where
   finished : S → ℕ → Outcome S
   ended : ℕ → ℕ → Variables → TreePath → S → ℕ → Outcome S

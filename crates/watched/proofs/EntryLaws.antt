@@ -99,11 +99,13 @@ module _ (i : List ℕ) (e : inputsFault i ≡ false) (l o : List ℕ) (s : l �
   start-view : memoryOf l ≡ startMemory (inputsOf i)
   start-view = ap memoryOf s ∙ memory-back (startMemory (inputsOf i)) start-fits
 
+  observation-start : o ≡ observationImage (startObservation (length (inputsOf i)))
+  observation-start = u ∙ ap (λ (n : ℕ). observationImage (startObservation n)) (sym (inputs-length i))
+
   observation-view : observationOf o ≡ startObservation (length (inputsOf i))
   observation-view =
-      ap observationOf u
-      ∙ observation-back (startObservation (length i / 8)) (startObservation-fits (length i / 8))
-      ∙ ap startObservation (sym (inputs-length i))
+      ap observationOf observation-start
+      ∙ observation-back (startObservation (length (inputsOf i))) (startObservation-fits (length (inputsOf i)))
 
   pub start-ready : FitsMemory (memoryOf l) × FitsObservation (observationOf o)
   start-ready = (
@@ -129,7 +131,7 @@ module _ (i : List ℕ) (e : inputsFault i ≡ false) (l o : List ℕ) (s : l �
             ((g ∙ ap (λ (m : Memory). countFree (m .cells)) (v .memory .view)) j);
         memory = v .memory .exact (s ∙ ap memoryImage (sym start-view)) ∙ ap memoryImage (v .memory .view);
         observation =
-            v .observation .exact (u ∙ ap observationImage (sym observation-view))
+            v .observation .exact (observation-start ∙ ap observationImage (sym observation-view))
             ∙ ap observationImage (v .observation .view);
       }
 

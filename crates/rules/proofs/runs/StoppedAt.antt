@@ -1,4 +1,4 @@
--- The way down that an ended outcome tells leads to the statement whose number it tells, in every run.
+-- The path that an ended outcome tells leads to the statement whose number it tells, in every run.
 use Prim.Native.Nat.{ℕ, zero, suc}
 use mathlib.Core.List.{List, []}
 use mathlib.Core.Option.{Option, none, some}
