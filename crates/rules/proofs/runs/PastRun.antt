@@ -46,9 +46,9 @@ later-reached : (x : PastState) (r : Reached) (e : Ending Memory) → Decided (x
 later-reached x r e h d = upTo-append (x .assertions) (r ∷ []) d ∙ h (upTo (r ∷ []) d)
 
 later-asserted : (s : ℕ) (x : PastState) (f : ℕ) (t : Test) → ChangeKeeps (Later x) AnyNumber (assertedPast s x f t)
-later-asserted s x f Test.Yes = later-reached x (reached holds s (x .memory) f)
-later-asserted s x f Test.No = later-reached x (reached fails s (x .memory) f)
-later-asserted s x f (Test.Stopped c) = (tt, later-reached x (reached undecided s (x .memory) f))
+later-asserted s x f Test.Yes = later-reached x _
+later-asserted s x f Test.No = later-reached x _
+later-asserted s x f (Test.Stopped c) = (tt, later-reached x _)
 
 past-keeps : MeaningKeeps pastMeaning AnyState Later AnyBlock AnyNumber
 past-keeps = record {
