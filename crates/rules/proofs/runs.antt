@@ -19,3 +19,4 @@ pub mod TargetArms
 pub mod SourceRuns
 pub mod TargetRuns
 pub mod StoppedAt
+pub mod StoppedVariables
