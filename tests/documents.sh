@@ -27,9 +27,12 @@ exists() {
     */*) [ -f "crates/${name%%/*}/must-fail/${name#*/}.edit" ] ;;
     [A-Z]*.*)
         grep -qE "^ *((pub|abbrev|unfoldable|record|data) )*${name#*.} *[:(]" \
-            "crates/rules/specs/${name%%.*}.antt" crates/rules/proofs/*/"${name%%.*}.antt"
+            "crates/rules/specs/${name%%.*}.antt" crates/rules*/proofs{,/*}/"${name%%.*}.antt"
         ;;
-    [A-Z]*) [ -e crates/rules/proofs/*/"$name.antt" ] || grep -q "enum $name " crates/rules/src/lib.rt ;;
+    [A-Z]*)
+        compgen -G "crates/rules*/proofs/$name.antt" >/dev/null ||
+            compgen -G "crates/rules/proofs/*/$name.antt" >/dev/null || grep -q "enum $name " crates/rules/src/lib.rt
+        ;;
     esac 2>/dev/null
 }
 
@@ -60,7 +63,7 @@ theorems_stand() {
         for theorem in $(names <<<"$theorems"); do
             found=
             for file in $(names <<<"$files"); do
-                grep -qE "^ *(pub )?(record )?${theorem#*.} *[:(]" crates/rules/proofs/*/"$file.antt" 2>/dev/null && found=1
+                grep -qE "^ *(pub )?(record )?${theorem#*.} *[:(]" crates/rules*/proofs{,/*}/"$file.antt" 2>/dev/null && found=1
             done
             [ -n "$found" ] || miss "$1 names $theorem, which is not in$files"
         done

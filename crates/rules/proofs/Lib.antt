@@ -2,7 +2,6 @@
 pub mod lists
 pub mod acceptance
 pub mod translation
-pub mod rewriting
 pub mod runs
 pub mod memory
 pub mod layout

@@ -3,25 +3,25 @@ use Prim.Native.Nat.{ℕ, suc, _≤_}
 use native.Mathlib.Omega.{arith}
 use mathlib.Core.Bool.{false≢true}
 use mathlib.Core.Path.{_≡_, refl, subst}
 use Rattle.rules.specs.Records.{tableBytes}
 use Rattle.rules.specs.Kinds.{source, expression, place, term, predicate, statement, sortNumber, lookUp, formOf}
 use Rattle.rules.specs.Checker.{sortOf}
 use Rattle.rules.specs.Trees.{valid, initialised, base, offset, blockLength, Expression, literal, read, address}
 use Rattle.rules.specs.Trees.{operation, shifted, Place, variable, pointed, temporary, Term, value, asked}
 use Rattle.rules.specs.Trees.{combined, Predicate, holds, compared, negated, both, either, Statement, skip}
 use Rattle.rules.specs.Trees.{assign, new, free, sequence, branch, while, letIn, assert}
 use Rattle.rules.specs.Nodes.{sourceProgram}
 use Rattle.rules.specs.Emission.{expressionTree, treeSize, emit}
 use Rattle.rules.specs.Translation.{embed}
 use Rattle.rules.specs.SourceRecords.{sourceExpression, sourcePlace, termTree, predicateTree, sourceTree}
 use Rattle.rules.specs.SourceRecords.{numbered}
 use Rattle.rules.proofs.acceptance.Sound.{Scope, startScope, adding, SoundExpression, SoundPlace, NoName}
 use Rattle.rules.proofs.acceptance.Sound.{SoundTerm}
 use Rattle.rules.proofs.acceptance.Sound.{SoundPredicate, SoundStatement}
 use Rattle.rules.proofs.translation.FittingTrees.{rootKind, Fitting}
 use Rattle.rules.proofs.translation.TargetFitting.{operator-range, plain-range, below-let, fits, up-to, no-tree}
-use Rattle.rules.proofs.rewriting.Writable.{WritableTerm, WritablePredicate, Writable}
-use Rattle.rules.proofs.rewriting.SourceReadBack.{source-back}
+use Rattle.rules_rewriting.proofs.Writable.{WritableTerm, WritablePredicate, Writable}
+use Rattle.rules_rewriting.proofs.SourceReadBack.{source-back}
 
 -- the sorts of the trees
 expression-sort : (e : Expression ⊥) → sortOf source (rootKind (sourceExpression e)) ≡ sortNumber expression

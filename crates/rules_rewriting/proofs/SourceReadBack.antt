@@ -5,27 +5,27 @@ use mathlib.Core.Path.{_≡_, refl, ap}
 use mathlib.Core.Bool.{false≢true}
 use mathlib.Core.List.{List}
 use lib.IntN.{pos}
 use Rattle.rules.specs.Records.{recordCount, recordAt, tableBytes}
 use Rattle.rules.specs.Kinds.{source, formOf, lookUp}
 use Rattle.rules.specs.Trees.{Operator, valid, initialised, base, offset, blockLength, Expression, literal}
 use Rattle.rules.specs.Trees.{read, address, operation, shifted, Place, variable, pointed, temporary, Term, value}
 use Rattle.rules.specs.Trees.{asked, combined, Predicate, holds, compared, negated, both, either, Statement}
 use Rattle.rules.specs.Trees.{skip, assign, new, free, sequence, branch, while, letIn, assert}
 use Rattle.rules.specs.Nodes.{expressionNode, placeNode, termNode, predicateNode, statementNode}
 use Rattle.rules.specs.Nodes.{sourceStatement, sourceProgram}
 use Rattle.rules.specs.Emission.{operatorNumber, expressionTree, treeSize, emit}
 use Rattle.rules.specs.Emission as records
 use Rattle.rules.specs.Translation.{embed}
 use Rattle.rules.specs.SourceRecords.{sourceExpression, sourcePlace, termTree, predicateTree, sourceTree}
 use Rattle.rules.specs.SourceRecords.{numbered}
 use Rattle.rules.proofs.acceptance.Sound.{Scope}
 use Rattle.rules.proofs.translation.EmissionLaws.{Holds}
 use Rattle.rules.proofs.translation.FittingTrees.{Fitting}
 use Rattle.rules.proofs.translation.RootNodes.{IsNode, no-node, field-node, FaultFree, root-node, two-node}
 use Rattle.rules.proofs.translation.RootNodes.{leaf-node}
 use Rattle.rules.proofs.translation.RootNodes.{last-node}
 use Rattle.rules.proofs.translation.ReadBack.{operator-back}
-use Rattle.rules.proofs.rewriting.Writable.{WritableTerm, WritablePredicate, Writable}
+use Rattle.rules_rewriting.proofs.Writable.{WritableTerm, WritablePredicate, Writable}
 
 module _ (t : List ℕ) (clean : FaultFree source t) where
   mutual

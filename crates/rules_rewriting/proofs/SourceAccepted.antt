@@ -4,25 +4,25 @@ use native.Mathlib.Omega.{arith}
 use mathlib.Core.Bool.{true, false, false≢true}
 use mathlib.Core.List.{List}
 use mathlib.Core.Path.{_≡_, _∙_, subst}
 use Rattle.rules.specs.Records.{tableBytes}
 use Rattle.rules.specs.Kinds.{source}
 use Rattle.rules.specs.Checker.{levelFault, check}
 use Rattle.rules.specs.Trees.{valid, initialised, base, offset, blockLength, Expression, literal, read, address}
 use Rattle.rules.specs.Trees.{operation, shifted, Place, variable, pointed, temporary, Term, value, asked}
 use Rattle.rules.specs.Trees.{combined, Predicate, holds, compared, negated, both, either, Statement, skip}
 use Rattle.rules.specs.Trees.{assign, new, free, sequence, branch, while, letIn, assert}
 use Rattle.rules.specs.Emission.{expressionTree, treeSize, emit}
 use Rattle.rules.specs.Translation.{embed}
 use Rattle.rules.specs.SourceRecords.{sourceExpression, sourcePlace, termTree, predicateTree, sourceTree}
-use Rattle.rules.specs.Types.{Checked}
+use Rattle.rules.specs.declared.Checked.{Checked}
 use Rattle.rules.proofs.acceptance.Sound.{Scope, startScope, adding, SoundTerm, SoundPredicate, SoundStatement}
 use Rattle.rules.proofs.translation.FittingTrees.{Fitting}
 use Rattle.rules.proofs.translation.EmittedBytes.{emitted, emitted-count}
 use Rattle.rules.proofs.acceptance.CheckLaws.{Keeps, none-fails, check-kept}
-use Rattle.rules.proofs.rewriting.LevelsKept.{Levels, levels-kept}
+use Rattle.rules_rewriting.proofs.LevelsKept.{Levels, levels-kept}
 use Rattle.rules.proofs.translation.TargetAccepted.{tree-keeps}
-use Rattle.rules.proofs.rewriting.Writable.{WritableTerm, WritablePredicate, Writable}
-use Rattle.rules.proofs.rewriting.SourceFitting.{statement-sort, statement-fits}
+use Rattle.rules_rewriting.proofs.Writable.{WritableTerm, WritablePredicate, Writable}
+use Rattle.rules_rewriting.proofs.SourceFitting.{statement-sort, statement-fits}
 
 -- what is no term or predicate names nothing
 no-level : {A : Type 0} → false ≡ true → A

@@ -6,27 +6,27 @@ use mathlib.Core.List.{List}
 use mathlib.Core.Path.{_≡_, refl, subst}
 use borrow.Author.Tests.{leb-true}
 use lib.Dec.{leb, eqb}
 use Rattle.rules.specs.Records.{recordCount, kindOf, markOf, childA, childB, childC}
 use Rattle.rules.specs.Kinds.{source, Sort, expression, place, term, predicate, statement, sortNumber, child}
 use Rattle.rules.specs.Kinds.{between}
 use Rattle.rules.specs.Checker.{check}
 use Rattle.rules.specs.Nodes.{operatorOf, SourceNode, nodeSort, asTerm, asPredicate, sourceStatement, nodeAt}
 use Rattle.rules.specs.Nodes.{sourceProgram}
 use Rattle.rules.specs.Emission.{operatorNumber}
-use Rattle.rules.specs.Types.{Checked}
+use Rattle.rules.specs.declared.Checked.{Checked}
 use Rattle.rules.proofs.acceptance.Acceptance.{accepted-says}
 use Rattle.rules.proofs.acceptance.AcceptedTrees.{accepted-last}
 use Rattle.rules.proofs.acceptance.KindViews.{formAt, found-at, and-split, SourceKind, literal, read, address}
 use Rattle.rules.proofs.acceptance.KindViews.{operation}
 use Rattle.rules.proofs.acceptance.KindViews.{shifted, variable, pointed, value, base, offset, blockLength}
 use Rattle.rules.proofs.acceptance.KindViews.{combined}
 use Rattle.rules.proofs.acceptance.KindViews.{valid, initialised, compared, negated, both, either, skip, assign}
 use Rattle.rules.proofs.acceptance.KindViews.{new}
 use Rattle.rules.proofs.acceptance.KindViews.{free, sequence, branch, while, letIn, assert}
 use Rattle.rules.proofs.acceptance.FormLaws.{FieldHolds, FormHolds, nodeAs}
 use Rattle.rules.proofs.acceptance.Standing.{stands}
 use Rattle.rules.proofs.acceptance.Readiness.{node-as}
-use Rattle.rules.proofs.rewriting.Writable.{WritableTerm, WritablePredicate, Writable}
+use Rattle.rules_rewriting.proofs.Writable.{WritableTerm, WritablePredicate, Writable}
 
 -- a mark that names an operator of a term, or one of a predicate
 term-operator : (m : ℕ) → (between 1 5 m || eqb m 8) ≡ true

@@ -1,23 +1,23 @@
 -- A run of a program with other statement numbers is the program's run with these numbers, plain and watched.
 use Prim.Native.Nat.{ℕ, zero, suc}
 use mathlib.Core.Path.{_≡_, refl, sym, ap, _∙_}
 use Rattle.rules.specs.Trees.{Predicate, Statement}
 use Rattle.rules.specs.Trees as tree
 use Rattle.rules.specs.TargetTrees.{TargetStatement, skip, assign, new, free, sequence, branch, while, letIn}
 use Rattle.rules.specs.TargetTrees.{takeAddress, takeValue, takeOperation, takeQuery, takeNot, branchOn}
 use Rattle.rules.specs.TargetTrees.{assertOn, storeBlock, deleteBlock, initialise}
 use Rattle.rules.specs.Memory.{Memory, Change, changed, stopped, Made, made, unmade}
 use Rattle.rules.specs.Evaluation.{Variables, addressOf, condition, extend}
 use Rattle.rules.specs.Flow.{Outcome, finished, ended, into, next, after, decide, turns, inLet, Meaning, runBy}
 use Rattle.rules.specs.Plain.{asserted, plainMeaning, run}
 use Rattle.rules.specs.Watched.{WatchedState, valueIn, placeIn, holding, taken, observed, watch}
 use Rattle.rules.specs.Translation.{translate}
 use Rattle.rules.specs.SourceRecords.{numbered}
 use Rattle.rules.specs.Relabelling.{relabel, relabelTarget, relabelOutcome}
 use Rattle.rules.proofs.runs.TargetRuns.{assigning, allocating, freeing, operating, querying, negating, storing}
 use Rattle.rules.proofs.runs.TargetRuns.{deleting, initialising, making, closing}
-use Rattle.rules.proofs.rewriting.Relabelled.{relabel-translate, numbered-only}
-use Rattle.rules.specs.Types.{Test}
+use Rattle.rules_rewriting.proofs.Relabelled.{relabel-translate, numbered-only}
+use Rattle.rules.specs.declared.Test.{Test}
 
 module _ {S : Type 0} (g : ℕ → ℕ) where
   -- how two parts of a run come out, one the other relabelled
