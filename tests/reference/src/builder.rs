@@ -2,6 +2,29 @@
 
 use crate::record::{table, Record};
 
+/// Variable 0 takes `left operator right`, of kind 4.
+pub fn calculation(operator: u8, left: i64, right: i64) -> Vec<u8> {
+    let mut b = Builder::source();
+    let place = b.variable(0);
+    let left = b.literal(left);
+    let right = b.literal(right);
+    let result = b.operator(operator, left, right);
+    b.take(place, result);
+    b.table()
+}
+
+/// The assertion that `left operator right`, of kind 24, equals `result`.
+pub fn asserted_calculation(operator: u8, left: i64, right: i64, result: i64) -> Vec<u8> {
+    let mut b = Builder::source();
+    let left = b.literal_term(left);
+    let right = b.literal_term(right);
+    let calculated = b.term_operator(operator, left, right);
+    let result = b.literal_term(result);
+    let equal = b.compare(7, calculated, result);
+    b.assert(equal);
+    b.table()
+}
+
 /// Children are added before their parent, so calls nest in the order A, B, C, parent.
 #[derive(Debug, Clone, Default)]
 pub struct Builder {

@@ -1,6 +1,7 @@
 //! Operators 1 to 7 on integers, worked out exactly in 128 bits and only then fitted to 64.
 
 use crate::answer::{OVERFLOW, ZERO_DIVISOR};
+use std::cmp::Ordering;
 
 /// The result, or 44 before 43. Operators above 7 are not for two integers; the callers know.
 pub fn operate(operator: u8, left: i64, right: i64) -> Result<i64, u32> {
@@ -20,12 +21,15 @@ pub fn operate(operator: u8, left: i64, right: i64) -> Result<i64, u32> {
     i64::try_from(exact).map_err(|_| OVERFLOW)
 }
 
-/// "halves away from zero": a half is added to the quotient of the sizes, then the sign put back.
+/// 02 §1: "the nearest whole number, but an exact half now goes to the even one". The quotient with a remainder of 0 or
+/// more and its neighbour on the exact quotient's other side, held against each other.
 fn nearest(left: i128, right: i128) -> i128 {
-    let size = (2 * left.abs() + right.abs()) / (2 * right.abs());
-    if (left < 0) != (right < 0) {
-        -size
-    } else {
-        size
+    let here = left.div_euclid(right);
+    let there = here + right.signum();
+    match (2 * left.rem_euclid(right)).cmp(&right.abs()) {
+        Ordering::Less => here,
+        Ordering::Greater => there,
+        Ordering::Equal if here % 2 == 0 => here,
+        Ordering::Equal => there,
     }
 }

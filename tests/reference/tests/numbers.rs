@@ -1,5 +1,6 @@
 //! Operators 1 to 8 by number, 1 to 7 at their ends, and operator 5 by what it means.
 
+use reference::generator::Generator;
 use reference::numbers::operate;
 use reference::value::{self, Pointer, Value};
 
@@ -63,15 +64,24 @@ fn operator_5_is_exact_at_halves_and_at_the_ends() {
         (-3, 2, -2),
         (3, -2, -2),
         (-3, -2, 2),
-        (1, 2, 1),
-        (-1, 2, -1),
+        (5, -2, -2),
+        (-5, -2, 2),
+        (1, 2, 0),
+        (-1, 2, 0),
+        (3 << 61, 1 << 62, 2),
+        (5 << 60, 1 << 61, 2),
         (i64::MAX, 2, 1 << 62),
+        (i64::MAX - 2, 2, (1 << 62) - 2),
         (i64::MIN, 2, -(1 << 62)),
         (i64::MIN + 1, 2, -(1 << 62)),
+        (i64::MIN + 3, 2, 2 - (1 << 62)),
         (i64::MAX, i64::MIN, -1),
         (i64::MIN, i64::MAX, -1),
-        (1 << 62, i64::MIN, -1),
-        ((1 << 62) - 1, i64::MIN, 0),
+        (i64::MIN, i64::MIN, 1),
+        ((1 << 62) + 1, i64::MIN, -1),
+        (1 << 62, i64::MIN, 0),
+        (-(1 << 62), i64::MIN, 0),
+        (-(1 << 62) - 1, i64::MIN, 1),
         (i64::MIN, 1, i64::MIN),
     ];
     for (left, right, quotient) in cases {
@@ -79,20 +89,48 @@ fn operator_5_is_exact_at_halves_and_at_the_ends() {
     }
 }
 
+/// Within half of the divisor, and even at an exact half.
+fn is_nearest(left: i128, right: i128, quotient: i128) -> bool {
+    let twice = 2 * (left - quotient * right).abs();
+    twice < right.abs() || twice == right.abs() && quotient % 2 == 0
+}
+
+/// Whether the exact quotient lies in the middle between two whole numbers.
+fn is_half(left: i128, right: i128) -> bool {
+    right != 0 && left % right != 0 && 2 * left % right == 0
+}
+
 #[test]
-fn operator_5_is_nearest_on_every_small_pair() {
+fn operator_5_is_the_one_nearest_number_on_every_small_pair() {
     for left in -60_i64..=60 {
         for right in (-25_i64..=25).filter(|&right| right != 0) {
             let quotient = operate(5, left, right).unwrap();
-            // The distance to the exact quotient, in units of 1 / (2 |right|), is at most a half,
-            // and at a half the result is the one farther from zero.
-            let twice = 2 * (quotient * right - left).abs();
-            assert!(twice <= right.abs(), "{left} by {right}");
-            if twice == right.abs() {
-                assert!((quotient * right).abs() > left.abs(), "{left} by {right}");
-            }
+            let nearest =
+                |quotient: &i64| is_nearest(left.into(), right.into(), (*quotient).into());
+            let all: Vec<i64> = (-61..=61).filter(nearest).collect();
+            assert_eq!(all, [quotient], "{left} by {right}");
         }
     }
+}
+
+#[test]
+fn operator_5_is_nearest_on_seeded_pairs_of_every_size() {
+    let mut generator = Generator::new(5);
+    let mut halves = 0;
+    for _ in 0..200_000 {
+        let (left, right) = generator.division();
+        let (wide_left, wide_right) = (i128::from(left), i128::from(right));
+        match operate(5, left, right) {
+            Ok(quotient) => assert!(
+                is_nearest(wide_left, wide_right, quotient.into()),
+                "{left} by {right} is {quotient}"
+            ),
+            Err(44) => assert_eq!(right, 0),
+            Err(number) => assert_eq!((number, left, right), (43, i64::MIN, -1)),
+        }
+        halves += u32::from(is_half(wide_left, wide_right));
+    }
+    assert!(halves >= 20_000, "{halves} exact halves");
 }
 
 #[test]

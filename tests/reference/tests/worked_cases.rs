@@ -1,6 +1,6 @@
 //! The cases worked on paper, P1 to P10, and R1.
 
-use reference::builder::Builder;
+use reference::builder::{asserted_calculation, calculation, Builder};
 use reference::host::{self, inputs, plain, translated, watched};
 use reference::listing::listing;
 use reference::numbers::operate;
@@ -15,16 +15,8 @@ fn number(source: &[u8]) -> u32 {
     both(source).0.number
 }
 
-/// Variable 0 takes `left operator right`.
-fn calculation(operator: u8, left: i64, right: i64) -> Vec<u8> {
-    let mut b = Builder::source();
-    let place = b.variable(0);
-    let left = b.literal(left);
-    let right = b.literal(right);
-    let result = b.operator(operator, left, right);
-    b.take(place, result);
-    b.table()
-}
+/// P2 as 02 §1 has it: left, right and their quotient by operator 5.
+const P2: [(i64, i64, i64); 5] = [(7, 2, 4), (-7, 2, -4), (5, 2, 2), (-5, 2, -2), (1, 3, 0)];
 
 /// What variable 0 holds, an integer, after a run that finished.
 fn result(operator: u8, left: i64, right: i64) -> i64 {
@@ -49,10 +41,21 @@ fn p1_the_listing_of_a_validity_assertion() {
 }
 
 #[test]
-fn p2_operator_5_takes_halves_away_from_zero() {
-    for (left, right, quotient) in [(7, 2, 4), (-7, 2, -4), (5, 2, 3), (1, 3, 0)] {
+fn p2_operator_5_takes_halves_to_the_even_neighbour() {
+    for (left, right, quotient) in P2 {
         assert_eq!(operate(5, left, right), Ok(quotient));
         assert_eq!(result(5, left, right), quotient);
+    }
+}
+
+/// The term of kind 24, which is kind 63 in a watched run: its quotient and no number beside it.
+#[test]
+fn p2_as_assertions_hold_of_the_quotient_alone() {
+    for (left, right, quotient) in P2 {
+        let asserted = |result| number(&asserted_calculation(5, left, right, result));
+        assert_eq!(asserted(quotient), 0, "{left} by {right}");
+        assert_eq!(asserted(quotient - 1), 33, "{left} by {right}");
+        assert_eq!(asserted(quotient + 1), 33, "{left} by {right}");
     }
 }
 

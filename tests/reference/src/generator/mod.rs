@@ -1,6 +1,7 @@
 //! Seeded tables, inputs and buffers for comparing one implementation with another.
 
 pub mod damage;
+mod divisions;
 mod grow;
 mod lend;
 pub mod order;
