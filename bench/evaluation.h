@@ -13,7 +13,7 @@ static inline value divide(int64_t a, int64_t b)
     return integer(a / b);
 }
 
-/* To the nearest, halves away from zero. */
+/* To the nearest, a half to the even neighbour. */
 static inline value divide_nearest(int64_t a, int64_t b)
 {
     value q = divide(a, b);
@@ -21,7 +21,7 @@ static inline value divide_nearest(int64_t a, int64_t b)
         return q;
     int64_t r = a % b;
     uint64_t rest = r < 0 ? -(uint64_t)r : (uint64_t)r, whole = b < 0 ? -(uint64_t)b : (uint64_t)b;
-    if (rest >= whole - rest)
+    if (rest > whole - rest || (rest == whole - rest && q.number % 2 != 0))
         q.number += (a < 0) == (b < 0) ? 1 : -1;
     return q;
 }
