@@ -1,5 +1,6 @@
 -- Facts about the definitions, in folders by subject.
 pub mod lists
+pub mod numbers
 pub mod acceptance
 pub mod translation
 pub mod runs

@@ -1,4 +1,4 @@
--- Document 01, "Worked on paper": what the rules give for P1 to P10, and what the paper says.
+-- Document 01, "Worked on paper", P2 as 02 §1 has it: what the rules give for P1 to P10, and what the papers say.
 use Prim.Native.Nat.{ℕ, _+_, _-_, _^_}
 use mathlib.Core.List.{List, [], _∷_, _++_, map}
 use lib.IntN.{ℤ, pos, negℤ}
@@ -120,7 +120,8 @@ unfoldable pub worked : List (List ℤ)
 worked =
     map pos (listing (tableBytes p1))
     ∷ (divided 5 (pos 7) (pos 2) (pos 4) ++ divided 5 (minus 7) (pos 2) (minus 4)
-    ++ divided 5 (pos 5) (pos 2) (pos 3) ++ divided 5 (pos 1) (pos 3) (pos 0))
+    ++ divided 5 (pos 5) (pos 2) (pos 2) ++ divided 5 (minus 5) (pos 2) (minus 2)
+    ++ divided 5 (pos 1) (pos 3) (pos 0))
     ∷ divided 4 (minus 7) (pos 2) (minus 3)
     ∷ (divided 4 (minus (2 ^ 63)) (minus 1) (pos 0) ++ divided 4 (minus (2 ^ 63)) (pos 0) (pos 0)
     ++ divided 5 (minus (2 ^ 63)) (minus 1) (pos 0) ++ divided 5 (minus (2 ^ 63)) (pos 0) (pos 0))
@@ -132,7 +133,7 @@ worked =
     ∷ map pos (endings p10)
     ∷ []
 
--- what document 01 says: P1's lines in ASCII
+-- what document 01 says, and of P2 02 §1: P1's lines in ASCII
 abbrev pub listingOnPaper : List ℕ
 listingOnPaper =
     (49 ∷ 32 ∷ 49 ∷ 48 ∷ 32 ∷ 48 ∷ 32 ∷ 48 ∷ 32 ∷ 48 ∷ 32 ∷ 48 ∷ 32 ∷ 48 ∷ 10 ∷ []) ++
@@ -161,7 +162,7 @@ noQuotient k =
 unfoldable pub onPaper : List (List ℤ)
 onPaper =
     map pos listingOnPaper
-    ∷ (quotient (pos 4) ++ quotient (minus 4) ++ quotient (pos 3) ++ quotient (pos 0))
+    ∷ (quotient (pos 4) ++ quotient (minus 4) ++ quotient (pos 2) ++ quotient (minus 2) ++ quotient (pos 0))
     ∷ quotient (minus 3)
     ∷ (noQuotient 43 ++ noQuotient 44 ++ noQuotient 43 ++ noQuotient 44)
     ∷ map pos (0 ∷ 0 ∷ 0 ∷ 0 ∷ 0 ∷ 0 ∷ 0 ∷ 0 ∷ 33 ∷ 7 ∷ 33 ∷ 7 ∷ 33 ∷ 7 ∷ 33 ∷ 7 ∷ [])

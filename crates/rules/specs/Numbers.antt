@@ -1,6 +1,7 @@
 -- The operators on values.
-use Prim.Native.Nat.{ℕ, _+_, _*_, _/_, _^_}
+use Prim.Native.Nat.{ℕ, _+_, _*_, _/_, _%_, _^_, _≤_}
 use mathlib.Core.Bool.{Bool, true, false, not, Bool·beq, cond, _&&_}
+use mathlib.Core.Path.{_≡_}
 use lib.Dec.{ltb, eqb}
 use lib.IntN.{ℤ, pos, negsuc, negℤ, natAbs, _+ℤ_, _-ℤ_, _*ℤ_}
 use lib.Signed.{leZ}
@@ -27,17 +28,31 @@ signed true n = negℤ (pos n)
 abbrev pub signsDiffer : ℤ → ℤ → Bool
 signsDiffer x y = not (Bool·beq (isNegative x) (isNegative y))
 
--- magnitudes divided: "toward zero", and "to nearest with halves away from zero"
+-- magnitudes divided "toward zero"
 abbrev pub towardZero : ℕ → ℕ → ℕ
 towardZero x y = x / y
 
+-- 02 §1: "the nearest whole number, but an exact half now goes to the even one". With quotient q and remainder r of
+-- magnitudes by y, one more than q is taken where r is over half of y, and at an exact half where q is odd.
+abbrev pub goesUp : ℕ → ℕ → ℕ → Bool
+goesUp q r y = cond (eqb (2 * r) y) (eqb (q % 2) 1) (ltb y (2 * r))
+
 abbrev pub toNearest : ℕ → ℕ → ℕ
-toNearest x y = (2 * x + y) / (2 * y)
+toNearest x y = cond (goesUp (x / y) (x % y) y) (x / y + 1) (x / y)
+
+-- x by y, their magnitudes' quotient rounded; negative where one of x and y is
+abbrev pub quotientOf : (ℕ → ℕ → ℕ) → ℤ → ℤ → ℤ
+quotientOf rounded x y = signed (signsDiffer x y) (rounded (natAbs x) (natAbs y))
 
 -- "44 zero divisor" before "43 overflow"
 abbrev pub divided : (ℕ → ℕ → ℕ) → ℤ → ℤ → Number
-divided rounded x y =
-    cond (eqb (natAbs y) 0) Number.ZeroDivisor (ranged (signed (signsDiffer x y) (rounded (natAbs x) (natAbs y))))
+divided rounded x y = cond (eqb (natAbs y) 0) Number.ZeroDivisor (ranged (quotientOf rounded x y))
+
+-- The same without a formula, for an office to hold against its own rule: x lies within half of y from q times y, and
+-- where it lies at exactly a half q is even.
+pub record IsNearest (x y q : ℤ) : Type 0 where
+  pub within : 2 * natAbs (x -ℤ q *ℤ y) ≤ natAbs y
+  pub even : 2 * natAbs (x -ℤ q *ℤ y) ≡ natAbs y → natAbs q % 2 ≡ 0
 
 abbrev pub sameInteger : ℤ → ℤ → Bool
 sameInteger (pos x) (pos y) = eqb x y

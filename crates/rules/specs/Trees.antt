@@ -3,8 +3,8 @@
 use Prim.Native.Nat.{ℕ}
 use lib.IntN.{ℤ}
 
--- "1 add, 2 subtract, 3 multiply, 4 divide toward zero, 5 divide to nearest with halves away from zero, 6 at most,
--- 7 equal, 8 pointer shift"
+-- "1 add, 2 subtract, 3 multiply, 4 divide toward zero, 5 divide to nearest .., 6 at most, 7 equal, 8 pointer shift";
+-- where a half goes, 02 §1 decides
 pub data Operator : Type 0 where
   add subtract multiply divide nearest atMost equal shift : Operator
 

@@ -161,9 +161,9 @@ as-on-paper =
     let d = divisions-of-P2-to-P4 in
     λ i.
     map pos (listing-of-P1 i)
-    ∷ (d .0 i ++ d .1 i ++ d .2 i ++ d .3 i)
-    ∷ d .4 i
-    ∷ (d .5 i ++ d .6 i ++ d .7 i ++ d .8 i)
+    ∷ (d .0 i ++ d .1 i ++ d .2 i ++ d .3 i ++ d .4 i)
+    ∷ d .5 i
+    ∷ (d .6 i ++ d .7 i ++ d .8 i ++ d .9 i)
     ∷ map pos (runs .0 i ++ runs .1 i ++ runs .2 i ++ runs .3 i)
     ∷ map pos (runs .4 i)
     ∷ map pos (runs .5 i)

@@ -106,12 +106,13 @@ by-four x y z = shown-is 4 x y z (accepted x y z .0)
 by-five : (x y z : ℤ) → divided 5 x y z ≡ shown 5 x y z
 by-five x y z = shown-is 5 x y z (accepted x y z .1)
 
--- "P2 operator 5: 7 by 2 is 4, −7 by 2 is −4, 5 by 2 is 3, 1 by 3 is 0. P3 operator 4: −7 by 2 is −3. P4: −2^63 by −1
--- ends 43, by 0 ends 44."
+-- "P2 operator 5: 7 by 2 is 4, −7 by 2 is −4", 02 §1: "5 by 2 is 2, .. −5 by 2 is −2", "1 by 3 is 0. P3 operator 4:
+-- −7 by 2 is −3. P4: −2^63 by −1 ends 43, by 0 ends 44."
 pub divisions-of-P2-to-P4 :
     (divided 5 (pos 7) (pos 2) (pos 4) ≡ quotient (pos 4))
     × (divided 5 (minus 7) (pos 2) (minus 4) ≡ quotient (minus 4))
-    × (divided 5 (pos 5) (pos 2) (pos 3) ≡ quotient (pos 3))
+    × (divided 5 (pos 5) (pos 2) (pos 2) ≡ quotient (pos 2))
+    × (divided 5 (minus 5) (pos 2) (minus 2) ≡ quotient (minus 2))
     × (divided 5 (pos 1) (pos 3) (pos 0) ≡ quotient (pos 0))
     × (divided 4 (minus 7) (pos 2) (minus 3) ≡ quotient (minus 3))
     × (divided 4 (minus (2 ^ 63)) (minus 1) (pos 0) ≡ noQuotient 43)
@@ -125,7 +126,8 @@ unfolding little digits wordAt flat lookUp formOf lowest recordFault makeNode no
 divisions-of-P2-to-P4 = (
   by-five (pos 7) (pos 2) (pos 4),
   by-five (minus 7) (pos 2) (minus 4),
-  by-five (pos 5) (pos 2) (pos 3),
+  by-five (pos 5) (pos 2) (pos 2),
+  by-five (minus 5) (pos 2) (minus 2),
   by-five (pos 1) (pos 3) (pos 0),
   by-four (minus 7) (pos 2) (minus 3),
   by-four (minus (2 ^ 63)) (minus 1) (pos 0),

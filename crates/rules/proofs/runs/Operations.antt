@@ -6,7 +6,7 @@ use lib.Dec.{eqb}
 use lib.IntN.{ℤ, pos, natAbs, _+ℤ_, _-ℤ_, _*ℤ_}
 use lib.Signed.{leZ}
 use Rattle.rules.specs.Trees.{Operator, add, subtract, multiply, divide, nearest, atMost, equal, shift}
-use Rattle.rules.specs.Numbers.{inRange, ranged, signed, signsDiffer, towardZero, toNearest, divided}
+use Rattle.rules.specs.Numbers.{inRange, ranged, quotientOf, towardZero, toNearest, divided}
 use Rattle.rules.specs.Numbers.{stopNumber, numbered, truthValue, onIntegers, onPointerAndInteger, onPointers}
 use Rattle.rules.specs.Numbers.{operate, sameInteger, samePointer, tested}
 use Rattle.rules.specs.Evaluation.{operated, opposite, condition}
@@ -31,12 +31,9 @@ ranged-fits z = pick (inRange z) refl
 divided-fits : (rounded : ℕ → ℕ → ℕ) (x y : ℤ) → FitsNumber (divided rounded x y)
 divided-fits rounded x y = pick (eqb (natAbs y) 0)
   where
-    quotient : ℤ
-    quotient = signed (signsDiffer x y) (rounded (natAbs x) (natAbs y))
-
-    pick : (b : Bool) → FitsNumber (cond b Number.ZeroDivisor (ranged quotient))
+    pick : (b : Bool) → FitsNumber (cond b Number.ZeroDivisor (ranged (quotientOf rounded x y)))
     pick true = tt
-    pick false = ranged-fits quotient
+    pick false = ranged-fits (quotientOf rounded x y)
 
 module _ (G : Value → Type 0) (C : ℕ → Type 0) (numbers : (z : ℤ) → inRange z ≡ true → G (Value.Integer z))
     (moves : (p : Pointer) (z : ℤ) → G (Value.Pointer p) → inRange z ≡ true

@@ -1,0 +1,3 @@
+-- Laws of the operators on whole numbers.
+pub mod Signs
+pub mod Nearest
