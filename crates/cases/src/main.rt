@@ -41,6 +41,7 @@ fn print_p2() {
     print_number(number_division::divide_nearest(7, 2));
     print_number(number_division::divide_nearest(-7, 2));
     print_number(number_division::divide_nearest(5, 2));
+    print_number(number_division::divide_nearest(-5, 2));
     print_number(number_division::divide_nearest(1, 3));
     end_line();
 }

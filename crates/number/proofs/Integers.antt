@@ -7,8 +7,8 @@ use mathlib.Core.Bool.{Bool, true, false, cond}
 use lib.Dec.{T, ltb, leb, eqb, lit<}
 use lib.IntN.{ℤ, pos, negsuc, negℤ, natAbs, subℕ, _+ℤ_, _-ℤ_}
 use lib.Signed.{mag, ltZ, leZ, nonNeg}
-use borrow.Author.Tests.{eqb-true, eqb-false, eq-eqb, ne-eqb, ltb-true, ltb-false, le-ltb}
-use borrow.Author.Tests.{leb-true, leb-false, le-leb, lt-leb}
+use borrow.Author.Tests.{eqb-true, eqb-false, eq-eqb, ne-eqb, ltb-true, ltb-false, lt-ltb, le-ltb}
+use borrow.Author.Tests.{leb-true, leb-false}
 use mir.Syntax.{w64}
 use mir.Val.{SFits, Fits, ofZ, toZ}
 use mir.Facts.{toZ-ofZ}
@@ -109,10 +109,10 @@ negative-test (pos n) = le-ltb n 0 (omega arith)
 negative-test (negsuc n) = refl
 
 -- two tests that say the same
-pub same-order : (a b c d : ℕ) → (a ≤ b → c ≤ d) → (b < a → d < c) → leb a b ≡ leb c d
+pub same-order : (a b c d : ℕ) → (a < b → c < d) → (b ≤ a → d ≤ c) → ltb a b ≡ ltb c d
 same-order a b c d f g =
-    by-test (λ (t : Bool). t ≡ leb c d) (leb a b) (λ e. sym (le-leb c d (f (leb-true a b e))))
-    (λ e. sym (lt-leb c d (g (leb-false a b e))))
+    by-test (λ (t : Bool). t ≡ ltb c d) (ltb a b) (λ e. sym (lt-ltb c d (f (ltb-true a b e))))
+    (λ e. sym (le-ltb c d (g (ltb-false a b e))))
 
 -- −1 − a, of a negative a
 pub flipped : (a : ℤ) → ltZ a (pos 0) ≡ true → negsuc 0 -ℤ a ≡ pos (mag a)

@@ -1,20 +1,13 @@
--- Numbers by sign and magnitude: a product, and what is in range.
-use Prim.Native.Nat.{ℕ, zero, suc, _*_, _^_, _≤_, _<_}
+-- Numbers by sign and magnitude: what is in range.
+use Prim.Native.Nat.{ℕ, zero, suc, _^_, _≤_, _<_}
 use native.Mathlib.Omega.{arith}
-use mathlib.Core.Path.{_≡_, refl}
 use mathlib.Core.Bool.{Bool, true, false}
-use lib.IntN.{ℤ, pos, negsuc, natAbs, _*ℤ_}
+use lib.IntN.{pos}
 use lib.Signed.{mag}
 use mir.Syntax.{w64}
 use mir.Val.{SFits}
-use Rattle.rules.specs.Numbers.{signed, signsDiffer}
+use Rattle.rules.specs.Numbers.{signed}
 use Rattle.number.proofs.Integers.{negated-parts, parts-sfits}
-
-pub product-signed : (a b : ℤ) → a *ℤ b ≡ signed (signsDiffer a b) (natAbs a * natAbs b)
-product-signed (pos a) (pos b) = refl
-product-signed (pos a) (negsuc b) = refl
-product-signed (negsuc a) (pos b) = refl
-product-signed (negsuc a) (negsuc b) = refl
 
 pub signed-fits : (s : Bool) (m : ℕ) → m < 2 ^ 63 → SFits w64 (signed s m)
 signed-fits true m h = parts-sfits (omega (arith, negated-parts (pos m))) (omega (arith, negated-parts (pos m)))

@@ -1,16 +1,19 @@
 -- Quotients by sign and magnitude, and the laws of the two roundings.
-use Prim.Native.Nat.{ℕ, zero, suc, _+_, _*_, _/_, _%_, _^_, _≤_, _<_}
-use native.Mathlib.Nat.{div-one, div-add-mod', mod-lt, div-lt-iff-lt-mul, div-eq-of-lt-le}
+use Prim.Native.Nat.{ℕ, zero, suc, _+_, _-_, _*_, _/_, _%_, _^_, _≤_, _<_}
+use native.Mathlib.Nat.{div-one, mod-one, mod-lt, div-lt-iff-lt-mul}
 use native.Mathlib.Omega.{arith}
 use mathlib.Core.Path.{_≡_, refl, sym, ap, _∙_}
-use mathlib.Core.Bool.{Bool, true, false}
-use lib.Dec.{eqb·suc-zero}
+use mathlib.Core.Bool.{Bool, true, false, cond}
+use borrow.Author.Tests.{eqb-true, ltb-true, eq-eqb, ne-eqb}
+use lib.Dec.{ltb, eqb}
 use lib.IntN.{ℤ, pos, negsuc, negℤ, natAbs, _-ℤ_, +ℤ-idl}
 use lib.Signed.{quotZ, remZ}
 use mir.Syntax.{w64}
 use mir.Val.{SFits}
 use Rattle.rules.specs.declared.Number.the-variants.{ZeroDivisor}
-use Rattle.rules.specs.Numbers.{ranged, signed, signsDiffer, divided, toNearest}
+use Rattle.rules.specs.Numbers.{ranged, signed, signsDiffer, divided, goesUp, toNearest}
+use Rattle.rules.proofs.numbers.Signs.{magnitude-signed}
+use Rattle.number.proofs.Integers.{same-order}
 use Rattle.number.proofs.Signs.{signed-fits}
 
 pub quotient-signed : (a b : ℤ) → quotZ a b ≡ signed (signsDiffer a b) (natAbs a / natAbs b)
@@ -19,13 +22,12 @@ quotient-signed (pos a) (negsuc b) = refl
 quotient-signed (negsuc a) (pos b) = refl
 quotient-signed (negsuc a) (negsuc b) = refl
 
-magnitude-negated : (r : ℕ) → natAbs (negℤ (pos r)) ≡ r
-magnitude-negated zero = refl
-magnitude-negated (suc r) = refl
+pub quotient-magnitude : (a b : ℤ) → natAbs (quotZ a b) ≡ natAbs a / natAbs b
+quotient-magnitude a b = ap natAbs (quotient-signed a b) ∙ magnitude-signed (signsDiffer a b) (natAbs a / natAbs b)
 
 pub remainder-magnitude : (a b : ℤ) → natAbs (remZ a b) ≡ natAbs a % natAbs b
 remainder-magnitude (pos a) b = refl
-remainder-magnitude (negsuc a) b = magnitude-negated (suc a % natAbs b)
+remainder-magnitude (negsuc a) b = magnitude-signed true (suc a % natAbs b)
 
 pub magnitude-limit : {z : ℤ} → SFits w64 z → natAbs z ≤ 2 ^ 63
 magnitude-limit {z = pos n} h = omega (arith, h .sfits)
@@ -72,31 +74,30 @@ quotient-fits a (pos (suc (suc n))) fa z m = small-fits a (pos (suc (suc n))) fa
 quotient-fits a (negsuc zero) fa z m = absurd (m refl)
 quotient-fits a (negsuc (suc n)) fa z m = small-fits a (negsuc (suc n)) fa (omega arith)
 
--- the nearest is the quotient, or one more where the remainder is half the divisor or more
-module _ (x d : ℕ) (p : zero < d) where
-  pub nearest-down : 2 * (x % d) < d → toNearest x d ≡ x / d
-  nearest-down h = div-eq-of-lt-le (2 * d) (omega (arith, div-add-mod' x d)) (omega (arith, div-add-mod' x d))
+-- whether it goes up, told by the distances d − r and r to the next number and to the quotient
+module _ (q r d : ℕ) (l : r < d) where
+  pub at-half : (n : ℕ) → n ≡ q → d - r ≡ r → eqb (n % 2) 1 ≡ goesUp q r d
+  at-half n e h = rw (e, eq-eqb (2 * r) d (omega (arith, l, h)))
 
-  pub nearest-up : d ≤ 2 * (x % d) → toNearest x d ≡ x / d + 1
-  nearest-up h = div-eq-of-lt-le (2 * d) (omega (arith, div-add-mod' x d)) (omega (arith, div-add-mod' x d, mod-lt x p))
+  pub beside-half : (d - r ≡ r → ⊥) → ltb (d - r) r ≡ goesUp q r d
+  beside-half h =
+      let unequal : 2 * r ≡ d → ⊥ = λ e. h (omega (arith, e)) in
+      rw (ne-eqb (2 * r) d unequal)
+      (same-order (d - r) r d (2 * r) (λ k. omega (arith, l, k)) (λ k. omega (arith, l, k)))
 
-  pub nearest-small : x ≤ 2 ^ 63 → d ≤ 2 * (x % d) → x / d + 1 < 2 ^ 63
-  nearest-small l h =
-      let g : x < 9223372036854775807 * d = omega (arith, mod-lt x p) in
-      let k : x / d < 9223372036854775807 = div-lt-iff-lt-mul p .1 g in
-      omega arith
+-- where the quotient's magnitude goes up, the remainder is half of the divisor or more, and one more is in range
+pub up-from-half : (q r d : ℕ) → goesUp q r d ≡ true → d ≤ 2 * r
+up-from-half q r d = pick (eqb (2 * r) d) refl
+  where
+    pick : (half : Bool) → eqb (2 * r) d ≡ half → cond half (eqb (q % 2) 1) (ltb d (2 * r)) ≡ true → d ≤ 2 * r
+    pick true e u = omega (arith, eqb-true (2 * r) d e)
+    pick false e u = omega (arith, ltb-true d (2 * r) u)
+
+pub nearest-small : (x d : ℕ) → zero < d → x ≤ 2 ^ 63 → d ≤ 2 * (x % d) → x / d + 1 < 2 ^ 63
+nearest-small x d p l h =
+    let g : x < 9223372036854775807 * d = omega (arith, mod-lt x p) in
+    let k : x / d < 9223372036854775807 = div-lt-iff-lt-mul p .1 g in
+    omega arith
 
 pub nearest-one : (m : ℕ) → toNearest m 1 ≡ m
-nearest-one m = omega arith
-
--- and by a number that is not 0
-pub divided-is : (f : ℕ → ℕ → ℕ) (a b : ℤ) → (b ≡ pos 0 → ⊥)
-    → ranged (signed (signsDiffer a b) (f (natAbs a) (natAbs b))) ≡ divided f a b
-divided-is f a (pos zero) z = absurd (z refl)
-divided-is f a (pos (suc n)) z = rw (eqb·suc-zero n)
-divided-is f a (negsuc n) z = rw (eqb·suc-zero n)
-
-pub magnitude-positive : (b : ℤ) → (b ≡ pos 0 → ⊥) → 0 < natAbs b
-magnitude-positive (pos zero) z = absurd (z refl)
-magnitude-positive (pos (suc n)) z = omega arith
-magnitude-positive (negsuc n) z = omega arith
+nearest-one m = rw (div-one, mod-one m)

@@ -1,9 +1,8 @@
 // The two divisions of integers, exact: rounded toward zero and to the nearest.
 ghost use mathlib.Core.Path.{_≡_};
 ghost use lib.IntN.{natAbs};
-ghost use Prim.Native.Nat.{_*_, _<_};
-ghost use lib.Dec.{leb};
-ghost use Rattle.rules.specs.Numbers.{divided, towardZero, toNearest};
+ghost use Prim.Native.Nat.{_<_};
+ghost use Rattle.rules.specs.Numbers.{divided, goesUp, towardZero, toNearest};
 use rules::Number;
 
 // Rounded toward zero.
@@ -19,17 +18,21 @@ pub fn divide(a: i64, b: i64) -> Number
     Number::Is(a / b)
 }
 
-// Whether twice the magnitude of r is at least that of b.
-fn half_or_more(r: i64, b: i64) -> bool
+// Whether the quotient's magnitude goes up by one: the remainder is over half of the divisor, or exactly half of it and
+// the quotient is odd.
+fn goes_up(q: i64, r: i64, b: i64) -> bool
     requires { ⌜ natAbs r < natAbs b ⌝ }
-    ensures { λ t. ⌜ t ≡ leb (natAbs b) (2 * natAbs r) ⌝ }
+    ensures { λ t. ⌜ t ≡ goesUp (natAbs q) (natAbs r) (natAbs b) ⌝ }
 {
-    let m = number::magnitude(r);
-    let d = number::magnitude(b);
-    d - m <= m
+    let below = number::magnitude(r);
+    let above = number::magnitude(b) - below;
+    if above == below {
+        return number::magnitude(q) % 2 == 1;
+    }
+    above < below
 }
 
-// Rounded to the nearest, a half away from zero.
+// Rounded to the nearest, a half to the even neighbour.
 pub fn divide_nearest(a: i64, b: i64) -> Number
     ensures { λ r. ⌜ r ≡ divided toNearest a b ⌝ }
 {
@@ -41,7 +44,7 @@ pub fn divide_nearest(a: i64, b: i64) -> Number
     }
     let q = a / b;
     let r = a % b;
-    if half_or_more(r, b) {
+    if goes_up(q, r, b) {
         if (a < 0) != (b < 0) {
             Number::Is(q - 1)
         } else {

@@ -9,9 +9,10 @@ use mir.Syntax.{w64}
 use mir.Val.{SFits}
 use mir.Facts.{toZ-ofZ}
 use Rattle.rules.specs.Numbers.{ranged, signsDiffer}
+use Rattle.rules.proofs.numbers.Signs.{product-signed}
 use Rattle.number.proofs.Integers.{negative-test}
 use Rattle.number.proofs.Answers.{ranged-is}
-use Rattle.number.proofs.Signs.{product-signed, signed-fits}
+use Rattle.number.proofs.Signs.{signed-fits}
 use Rattle.number.proofs.multiply.Statement.{statement}
 use Rattle.number.proofs.multiply.Tie as tie
 

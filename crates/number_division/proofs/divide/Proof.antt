@@ -9,9 +9,10 @@ use mir.Syntax.{w64}
 use mir.Val.{SFits, ofZ}
 use mir.Facts.{toZ-ofZ}
 use Rattle.rules.specs.Numbers.{ranged, towardZero}
+use Rattle.rules.proofs.numbers.Signs.{divided-is}
 use Rattle.number.proofs.Integers.{of-bits}
 use Rattle.number.proofs.Answers.{ranged-is}
-use Rattle.number_division.proofs.Divides.{by-zero, by-minus-one, quotient-fits, quotient-signed, divided-is}
+use Rattle.number_division.proofs.Divides.{by-zero, by-minus-one, quotient-fits, quotient-signed}
 use Rattle.number_division.proofs.divide.Statement.{statement}
 use Rattle.number_division.proofs.divide.Tie as tie
 

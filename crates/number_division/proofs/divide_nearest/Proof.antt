@@ -3,10 +3,8 @@ use Prim.Native.Nat.{ℕ, _+_, _*_, _/_, _%_, _≤_, _<_}
 use native.Mathlib.Nat.{mod-lt}
 use native.Mathlib.Omega.{arith}
 use borrow.Author.Needs.{needs}
-use borrow.Author.Tests.{leb-true, leb-false}
 use mathlib.Core.Path.{_≡_, refl, sym, ap, _∙_}
-use mathlib.Core.Bool.{Bool, true, false}
-use lib.Dec.{leb}
+use mathlib.Core.Bool.{Bool, true, false, cond}
 use lib.IntN.{ℤ, pos, natAbs, _+ℤ_, _-ℤ_}
 use lib.Signed.{quotZ, remZ, mag-rem}
 use mir.Syntax.{w64}
@@ -14,44 +12,50 @@ use mir.Val.{SFits, ofZ}
 use mir.Facts.{toZ-ofZ}
 use mir.ValLaws.{sfits-le}
 use Rattle.rules.specs.declared.Number.the-variants.{Is}
-use Rattle.rules.specs.Numbers.{ranged, divided, toNearest, signed, signsDiffer}
+use Rattle.rules.specs.Numbers.{ranged, divided, goesUp, toNearest, signed, signsDiffer}
+use Rattle.rules.proofs.numbers.Signs.{divided-is, magnitude-positive}
 use Rattle.number.proofs.Integers.{of-bits, negative-test}
 use Rattle.number.proofs.Answers.{ranged-is}
 use Rattle.number.proofs.Signs.{signed-fits}
 use Rattle.number_division.proofs.Divides.{by-zero, by-minus-one, quotient-fits, quotient-signed}
-use Rattle.number_division.proofs.Divides.{remainder-magnitude}
-use Rattle.number_division.proofs.Divides.{divided-is, magnitude-positive, magnitude-limit, less-one}
-use Rattle.number_division.proofs.Divides.{nearest-one, nearest-down, nearest-up, nearest-small}
+use Rattle.number_division.proofs.Divides.{quotient-magnitude, remainder-magnitude, magnitude-limit, less-one}
+use Rattle.number_division.proofs.Divides.{nearest-one, nearest-small, up-from-half}
 use Rattle.number_division.proofs.divide_nearest.Statement.{statement}
 use Rattle.number_division.proofs.divide_nearest.Tie as tie
 
--- whether the remainder is half the divisor or more
-abbrev half-test : ℤ → ℤ → Bool
-half-test a b = leb (natAbs b) (2 * natAbs (remZ a b))
+-- whether the quotient's magnitude goes up
+abbrev up-test : ℤ → ℤ → Bool
+up-test a b = goesUp (natAbs (quotZ a b)) (natAbs (remZ a b)) (natAbs b)
 
 -- the three answers, over ℤ
 module _ (a b : ℤ) (f : SFits w64 a) (z : b ≡ pos 0 → ⊥) where
   abbrev answer : ℕ → ℤ
   answer m = signed (signsDiffer a b) m
 
-  nearer : SFits w64 (quotZ a b) → half-test a b ≡ false → Is (quotZ a b) ≡ divided toNearest a b
-  nearer g t =
-      let h : 2 * (natAbs a % natAbs b) < natAbs b = rw (← remainder-magnitude a b) (leb-false (natAbs b) _ t) in
-      let m = nearest-down (natAbs a) (natAbs b) (magnitude-positive b z) h in
+  abbrev taken : Bool → ℕ
+  taken up = cond up (natAbs a / natAbs b + 1) (natAbs a / natAbs b)
+
+  test-of-magnitudes : up-test a b ≡ goesUp (natAbs a / natAbs b) (natAbs a % natAbs b) (natAbs b)
+  test-of-magnitudes i = goesUp (quotient-magnitude a b i) (remainder-magnitude a b i) (natAbs b)
+
+  stays : SFits w64 (quotZ a b) → up-test a b ≡ false → Is (quotZ a b) ≡ divided toNearest a b
+  stays g t =
+      let m : toNearest (natAbs a) (natAbs b) ≡ natAbs a / natAbs b = ap taken (sym test-of-magnitudes ∙ t) in
       ranged-is g ∙ ap ranged (quotient-signed a b ∙ ap answer (sym m)) ∙ divided-is toNearest a b z
 
-  module _ (t : half-test a b ≡ true) where
-    half : natAbs b ≤ 2 * (natAbs a % natAbs b)
-    half = rw (← remainder-magnitude a b) (leb-true (natAbs b) (2 * natAbs (remZ a b)) t)
+  module _ (t : up-test a b ≡ true) where
+    goes : goesUp (natAbs a / natAbs b) (natAbs a % natAbs b) (natAbs b) ≡ true
+    goes = sym test-of-magnitudes ∙ t
 
     away-fits : SFits w64 (answer (natAbs a / natAbs b + 1))
     away-fits =
-        let l = nearest-small (natAbs a) (natAbs b) (magnitude-positive b z) (magnitude-limit f) half in
+        let h = up-from-half (natAbs a / natAbs b) (natAbs a % natAbs b) (natAbs b) goes in
+        let l = nearest-small (natAbs a) (natAbs b) (magnitude-positive b z) (magnitude-limit f) h in
         signed-fits (signsDiffer a b) _ l
 
     away : Is (answer (natAbs a / natAbs b + 1)) ≡ divided toNearest a b
     away =
-        let m = nearest-up (natAbs a) (natAbs b) (magnitude-positive b z) half in
+        let m : toNearest (natAbs a) (natAbs b) ≡ natAbs a / natAbs b + 1 = ap taken goes in
         ranged-is away-fits ∙ ap ranged (ap answer (sym m)) ∙ divided-is toNearest a b z
 
     lower : signsDiffer a b ≡ true → quotZ a b -ℤ pos 1 ≡ answer (natAbs a / natAbs b + 1)
@@ -92,8 +96,8 @@ rem-r c =
     let s = c .before .before in
     simp (toZ-ofZ (s .fits .a), toZ-ofZ (s .fits .b)) (omega (arith, c .before .if1 .left), fits c)
 
-half-or-more-requires : tie.Need-half-or-more-requires
-half-or-more-requires c κs =
+goes-up-requires : tie.Need-goes-up-requires
+goes-up-requires c κs =
     let s = c .before .before in
     let a = s .args .a in
     let b = s .args .b in
@@ -101,15 +105,16 @@ half-or-more-requires c κs =
     (mod-lt (natAbs a) (magnitude-positive b (not-zero c)))
 
 -- what the call and the tests say of the arguments
-test-is : (c : tie.After-half-or-more)
-    → let s = c .before .before .before in c .half-or-more .result ≡ half-test (s .args .a) (s .args .b)
+test-is : (c : tie.After-goes-up)
+    → let s = c .before .before .before in c .goes-up .result ≡ up-test (s .args .a) (s .args .b)
 test-is c =
     let s = c .before .before .before in
+    let q = toZ-ofZ (fits (c .before)) in
     let r = toZ-ofZ (remainder-fits (c .before)) in
-    simp (toZ-ofZ (s .fits .a), toZ-ofZ (s .fits .b), r) at (c .half-or-more .ensures)
+    simp (toZ-ofZ (s .fits .a), toZ-ofZ (s .fits .b), q, r) at (c .goes-up .ensures)
 
-is-half : (c : tie.Then3) → let s = c .before .before .before .before in half-test (s .args .a) (s .args .b) ≡ true
-is-half c = sym (test-is (c .before)) ∙ c .if3 .taken
+is-up : (c : tie.Then3) → let s = c .before .before .before .before in up-test (s .args .a) (s .args .b) ≡ true
+is-up c = sym (test-is (c .before)) ∙ c .if3 .taken
 
 apart : (c : tie.Then4)
     → let s = c .before .before .before .before .before in signsDiffer (s .args .a) (s .args .b) ≡ true
@@ -133,13 +138,13 @@ away-fits-at : (c : tie.Then3)
     SFits w64 (signed (signsDiffer (s .args .a) (s .args .b)) (natAbs (s .args .a) / natAbs (s .args .b) + 1))
 away-fits-at c =
     let s = c .before .before .before .before in
-    away-fits (s .args .a) (s .args .b) (s .fits .a) (not-zero (c .before .before)) (is-half c)
+    away-fits (s .args .a) (s .args .b) (s .fits .a) (not-zero (c .before .before)) (is-up c)
 
 sub-t12 : tie.Need-sub-t12
 sub-t12 c =
     let s = c .before .before .before .before .before in
     let e = c .before .before .before in
-    let h = is-half (c .before) in
+    let h = is-up (c .before) in
     let m = lower (s .args .a) (s .args .b) (s .fits .a) (not-zero e) h (apart c) in
     simp (toZ-ofZ (s .fits .a), toZ-ofZ (s .fits .b), toZ-ofZ (fits e), m) (away-fits-at (c .before))
 
@@ -147,7 +152,7 @@ add-t13 : tie.Need-add-t13
 add-t13 c =
     let s = c .before .before .before .before .before in
     let e = c .before .before .before in
-    let h = is-half (c .before) in
+    let h = is-up (c .before) in
     let m = higher (s .args .a) (s .args .b) (s .fits .a) (not-zero e) h (alike c) in
     simp (toZ-ofZ (s .fits .a), toZ-ofZ (s .fits .b), toZ-ofZ (fits e), m) (away-fits-at (c .before))
 
@@ -155,7 +160,7 @@ returns-3 : tie.Need-returns-3
 returns-3 c =
     let s = c .before .before .before .before .before in
     let e = c .before .before .before in
-    let h = is-half (c .before) in
+    let h = is-up (c .before) in
     let m = lower (s .args .a) (s .args .b) (s .fits .a) (not-zero e) h (apart c) in
     simp (toZ-ofZ (s .fits .a), toZ-ofZ (s .fits .b), toZ-ofZ (fits e), m, toZ-ofZ (away-fits-at (c .before)))
     (away (s .args .a) (s .args .b) (s .fits .a) (not-zero e) h)
@@ -164,7 +169,7 @@ returns-4 : tie.Need-returns-4
 returns-4 c =
     let s = c .before .before .before .before .before in
     let e = c .before .before .before in
-    let h = is-half (c .before) in
+    let h = is-up (c .before) in
     let m = higher (s .args .a) (s .args .b) (s .fits .a) (not-zero e) h (alike c) in
     simp (toZ-ofZ (s .fits .a), toZ-ofZ (s .fits .b), toZ-ofZ (fits e), m, toZ-ofZ (away-fits-at (c .before)))
     (away (s .args .a) (s .args .b) (s .fits .a) (not-zero e) h)
@@ -174,7 +179,7 @@ returns-5 c =
     let s = c .before .before .before .before in
     let e = c .before .before in
     simp (toZ-ofZ (s .fits .a), toZ-ofZ (s .fits .b), toZ-ofZ (fits e))
-    (nearer (s .args .a) (s .args .b) (s .fits .a) (not-zero e) (fits e) (sym (test-is (c .before)) ∙ c .if3 .left))
+    (stays (s .args .a) (s .args .b) (s .fits .a) (not-zero e) (fits e) (sym (test-is (c .before)) ∙ c .if3 .left))
 
 pub divide-nearest-spec : {M : Type 1} → statement M
 divide-nearest-spec =
@@ -185,7 +190,7 @@ divide-nearest-spec =
     returns-2
     div-q
     rem-r
-    half-or-more-requires
+    goes-up-requires
     sub-t12
     add-t13
     returns-3
