@@ -9,7 +9,7 @@ use borrow.Author.Tests.{eqb-true, eqb-false, ltb-true, ltb-false}
 use lib.Dec.{ltb, eqb}
 use lib.IntN.{ℤ, pos, negsuc, natAbs, _-ℤ_, _*ℤ_}
 use Rattle.rules.specs.Nodes.{operatorOf}
-use Rattle.rules.specs.Numbers.{isNegative, signed, signsDiffer, goesUp, toNearest, quotientOf, IsNearest}
+use Rattle.rules.specs.Numbers.{isNegative, signed, signsDiffer, toNearest, quotientOf, IsNearest}
 use Rattle.rules.specs.Numbers.{ranged, numbered, onIntegers, operate}
 use Rattle.rules.proofs.numbers.Signs.{signed-itself, magnitude-signed, product-signed, quotient-times}
 use Rattle.rules.proofs.numbers.Signs.{distance, alike-apart, unlike-apart, divided-is, magnitude-positive}
