@@ -29,8 +29,8 @@ expect 0 'accepted' check --target "$scratch/target"
 expect 33 'at statement 29' watch --target "$scratch/target"
 
 # What the runs left in the memories.
-shows $'  block 2: live and fixed\n    cell 1: 4\n    cell 2: -4\n    cell 3: 3\n    cell 4: 0\n' \
-    run examples/P2.txt --inputs 0,0,0,0
+shows $'  block 2: live and fixed\n    cell 1: 4\n    cell 2: -4\n    cell 3: 2\n    cell 4: -2\n    cell 5: 0\n' \
+    run examples/P2.txt --inputs 0,0,0,0,0
 shows $'    cell 1: -3\n    cell 2: 9\n' run examples/P3.txt
 shows $'    cell 0: pointer to block 4, offset 0\n' run examples/P9.txt
 shows $'  block 4: live and freeable\n    cells 3 to 7: undefined\n  dead names: 3\n' run examples/P9.txt
