@@ -1,5 +1,5 @@
--- The bytes of a record are those of one number, or of two one behind the other.
-use Prim.Native.Nat.{ℕ, _+_, _*_, _/_, _<_, _≤_}
+-- The bytes of a cell are those of two numbers, one behind the other.
+use Prim.Native.Nat.{ℕ, _+_, _*_, _<_, _≤_}
 use native.Mathlib.Omega.{arith}
 use mathlib.Core.Path.{_≡_, ap, _∙_}
 use mathlib.Core.List.{List, [], _∷_, _++_}
@@ -8,29 +8,14 @@ use lib.ListN.{length}
 use mir.Syntax.{w64}
 use mir.Val.{ofZ}
 use Rattle.rules.specs.Words.{digits, put, integerBytes}
-use Rattle.rules.specs.Layout.{blockRecord, cellRecord}
+use Rattle.rules.specs.Layout.{cellRecord}
 use Rattle.rules.proofs.lists.WordLaws.{put-put, length-digits}
-
--- two lists of eight, element by element
-eight : {a b c d e f g h a′ b′ c′ d′ e′ f′ g′ h′ : ℕ} → a ≡ a′ → b ≡ b′ → c ≡ c′ → d ≡ d′ → e ≡ e′ → f ≡ f′ → g ≡ g′
-    → h ≡ h′ → _≡_ {A = List ℕ} (a ∷ b ∷ c ∷ d ∷ e ∷ f ∷ g ∷ h ∷ []) (a′ ∷ b′ ∷ c′ ∷ d′ ∷ e′ ∷ f′ ∷ g′ ∷ h′ ∷ [])
-eight p q r s t u v w = λ i. p i ∷ q i ∷ r i ∷ s i ∷ t i ∷ u i ∷ v i ∷ w i ∷ []
+use Rattle.rules.proofs.lists.RecordLaws.{eight}
 
 head-digits : (k o n : ℕ) → k < 256 → o < 256 → n < 256
     → digits 8 (k + o * 256 + n * 65536) ≡ k ∷ o ∷ n ∷ 0 ∷ 0 ∷ 0 ∷ 0 ∷ 0 ∷ []
 unfolding digits
 head-digits k o n hk ho hn =
-    eight (omega arith) (omega arith) (omega arith) (omega arith) (omega arith) (omega arith) (omega arith)
-    (omega arith)
-
-pub record-digits : (s f n : ℕ) → s < 256 → f < 65536 → n < 65536
-    → digits 8 (s + f * 65536 + n * 4294967296) ≡ blockRecord s f n
-unfolding digits
-record-digits s f n hs hf hn =
-    let x : ℕ = s + f * 65536 + n * 4294967296 in
-    let x₂ : x / 256 / 256 ≡ f + n * 65536 = omega arith in
-    let x₃ : x / 256 / 256 / 256 ≡ f / 256 + n * 256 = omega arith in
-    let x₄ : x / 256 / 256 / 256 / 256 ≡ n = omega arith in
     eight (omega arith) (omega arith) (omega arith) (omega arith) (omega arith) (omega arith) (omega arith)
     (omega arith)
 

@@ -1,12 +1,11 @@
 -- `memory_block_changes::write_record` meets its contract. Assumes nothing.
-use mathlib.Core.Path.{_≡_, refl, sym, ap, _∙_, subst}
+use mathlib.Core.Path.{_≡_, ap, _∙_}
 use lib.ListN.{length}
-use Prim.Native.Nat.{ℕ, suc, _+_, _-_, _*_, _≤_, _<_}
-use native.Mathlib.Omega.{arith}
+use Prim.Native.Nat.{_-_}
 use Rattle.rules.specs.Sizes.{memoryLength}
 use Rattle.rules.specs.Words.{put}
 use Rattle.rules.specs.Layout.{blockPlace}
-use Rattle.memory_cell_changes.proofs.Parts.{record-digits}
+use Rattle.rules.proofs.lists.RecordLaws.{record-digits}
 use borrow.Author.Needs.{needs}
 use Rattle.memory_block_changes.proofs.write_record.Statement.{statement}
 use Rattle.memory_block_changes.proofs.write_record.Tie as tie

@@ -11,8 +11,9 @@ use Rattle.rules.specs.Words.{little, digits, part, put, wordAt}
 use Rattle.rules.specs.Layout.{blockRecord, blockPlace}
 use Rattle.rules.proofs.lists.WordLaws.{digits-value, getD-put-in, getD-put-apart, part-put-in, word-put-apart}
 
-eight : {a b c d e f g h a′ b′ c′ d′ e′ f′ g′ h′ : ℕ} → a ≡ a′ → b ≡ b′ → c ≡ c′ → d ≡ d′ → e ≡ e′ → f ≡ f′ → g ≡ g′
-    → h ≡ h′
+-- two lists of eight, element by element
+pub eight : {a b c d e f g h a′ b′ c′ d′ e′ f′ g′ h′ : ℕ} → a ≡ a′ → b ≡ b′ → c ≡ c′ → d ≡ d′
+    → e ≡ e′ → f ≡ f′ → g ≡ g′ → h ≡ h′
     → _≡_ {A = List ℕ} (a ∷ b ∷ c ∷ d ∷ e ∷ f ∷ g ∷ h ∷ []) (a′ ∷ b′ ∷ c′ ∷ d′ ∷ e′ ∷ f′ ∷ g′ ∷ h′ ∷ [])
 eight p q r s t u v w = λ i. p i ∷ q i ∷ r i ∷ s i ∷ t i ∷ u i ∷ v i ∷ w i ∷ []
 
