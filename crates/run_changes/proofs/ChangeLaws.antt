@@ -12,7 +12,7 @@ use Rattle.rules.specs.Memory.{Memory, Change, stopped, Made, made, unmade, Use
 use Rattle.rules.specs.Memory.{freeRun, storeCell, storeNew, newOfSize}
 use Rattle.rules.specs.Layout.{memoryOf, nameLimit}
 use Rattle.rules.specs.declared.{Pointer.Pointer, Value.Value, Evaluated.Evaluated}
-use Rattle.rules.proofs.runs.Keeping.{AnyNumber, AnyValue, AnyPlace, AnyMemory, MadeKeeps, makeAt-keeps}
+use Rattle.rules.proofs.runs.Keeping.{AnyNumber, AnyValue, AnyPlace, AnyState, MadeKeeps, makeAt-keeps}
 use Rattle.rules.specs.Fits.{FitsName}
 use Rattle.rules.proofs.layout.FitsLaws.{nextName-fits}
 use Rattle.rules.proofs.layout.FittingValues as ranged
@@ -74,7 +74,7 @@ unmade-by (unmade d) c e = ap unmade (sym (ap nameOf e))
 
 pub made-name : (m : Memory) (u : Use) (n : ℕ) → MadeKeeps (λ k m₁. FitsName k) AnyNumber (makeBlock m u n)
 made-name m u n =
-    makeAt-keeps AnyMemory AnyNumber AnyNumber (λ c x. tt) (λ c x. tt) AnyValue AnyPlace (λ k m₁. FitsName k) m u n
+    makeAt-keeps AnyState AnyNumber AnyNumber (λ c x. tt) (λ c x. tt) AnyValue AnyPlace (λ k m₁. FitsName k) m u n
     (nextName m) (freeRun m n) (λ k first a b. nextName-fits m k a)
 
 pub name-fits : (m : Memory) (u : Use) (n k : ℕ) → making.Name k ≡ makingOf (makeBlock m u n) → k < nameLimit

@@ -94,5 +94,6 @@ pub either-kind : {j k x y : ℕ} → j ≡ k → (j ≡ x) ⊎ (j ≡ y) → (k
 either-kind e (inl p) = inl (sym e ∙ p)
 either-kind e (inr p) = inr (sym e ∙ p)
 
-pub no-query : (k : ℕ) → (k ≡ 30 → ⊥) → (k ≡ 31 → ⊥) → (k ≡ 21 → ⊥) → (k ≡ 22 → ⊥) → (k ≡ 23 → ⊥) → 0 ≡ lastField k
+pub no-query : (k : ℕ) → (k ≡ 30 → ⊥) → (k ≡ 31 → ⊥) → (k ≡ 21 → ⊥) → (k ≡ 22 → ⊥) → (k ≡ 23 → ⊥)
+    → 0 ≡ lastField k
 no-query k a b c d e = rw (ne-eqb k 30 a, ne-eqb k 31 b, ne-eqb k 21 c, ne-eqb k 22 d, ne-eqb k 23 e) refl

@@ -34,8 +34,8 @@ fn run_from_start(
     fuel: u32,
 ) -> Ended
     requires { ⌜ Ready (now table) n startVariables (lent (now mem) (now obs) (replicate temporariesLength 0)) ⌝ }
-    ensures { λ r. ⌜ Leaves (watch (targetStatementAt (now (table .entry)) n) startVariables (watching (memoryOf (now (mem .entry)))
-        (observationOf (now (obs .entry))) startTemporaries) fuel) r
+    ensures { λ r. ⌜ Leaves (watch (targetStatementAt (now (table .entry)) n) startVariables
+        (watching (memoryOf (now (mem .entry))) (observationOf (now (obs .entry))) startTemporaries) fuel) r
         (now (mem .entry)) (now (mem .exit)) (now (obs .entry)) (now (obs .exit)) ⌝ }
 {
     let variables = run_variables::start_variables();
@@ -52,8 +52,8 @@ fn run_table(
 ) -> Ended
     requires { ⌜ (check target (now table) ≡ Checked.Accepted) × FitsMemory (memoryOf (now mem))
         × FitsObservation (observationOf (now obs)) ⌝ }
-    ensures { λ r. ⌜ Leaves (watch (targetProgram (now (table .entry))) startVariables (watching (memoryOf (now (mem .entry)))
-        (observationOf (now (obs .entry))) startTemporaries) fuel) r
+    ensures { λ r. ⌜ Leaves (watch (targetProgram (now (table .entry))) startVariables
+        (watching (memoryOf (now (mem .entry))) (observationOf (now (obs .entry))) startTemporaries) fuel) r
         (now (mem .entry)) (now (mem .exit)) (now (obs .entry)) (now (obs .exit)) ⌝ }
 {
     let mut whole = [0u8; TABLE_LENGTH];

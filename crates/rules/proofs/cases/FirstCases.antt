@@ -1,7 +1,7 @@
 -- P1 to P4 as a listing and runs of whole tables, by computation. No law of translations or memories is used, so that a
 -- wrong definition is refused by the case that it gets wrong.
 use Prim.Native.Nat.{ℕ, _^_}
-use mathlib.Core.List.{List, [], _∷_, _++_, map}
+use mathlib.Core.List.{List, _++_, map}
 use mathlib.Core.Path.{_≡_, refl, ap}
 use lib.IntN.{ℤ, pos}
 use lib.ListN.{replicate, length-replicate}
@@ -23,7 +23,7 @@ use Rattle.rules.specs.Emission.{expressionTree, statementTree, emit}
 use Rattle.rules.specs.Translation.{embed, translateTerm, translatePredicate, translate, translatedRecords}
 use Rattle.rules.specs.Translation.{translation}
 use Rattle.rules.specs.Layout.{blockBytes, cellBytes, memoryImage}
-use Rattle.rules.specs.Answers.{PlainRun, WatchedRun, plainOutcome, plainEnded, watchedOutcome, watchedEnded}
+use Rattle.rules.specs.Answers.{PlainRun, plainOutcome, plainEnded, watchedOutcome, watchedEnded}
 use Rattle.rules.specs.Listing.{decimalDigits, recordLines, listing}
 use Rattle.rules.specs.Cases.{inputs, minus, plain, watched, stop, ending, endings, p1, listingOnPaper}
 use Rattle.rules.specs.Cases.{division, assertion, variableCell, divided, quotient, noQuotient}

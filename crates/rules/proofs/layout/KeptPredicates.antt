@@ -9,7 +9,7 @@ use Rattle.rules.specs.Sizes.{nameCount, cellCount}
 use Rattle.rules.specs.Memory.{Memory, setCell, cellOf, isFree, nextName, freeRun, Use, withBlock, makeBlock}
 use Rattle.rules.specs.Memory.{endBlock}
 use Rattle.rules.specs.Observation.{Observation, markRun, emptyObservation, startObservation}
-use Rattle.rules.proofs.runs.Keeping.{AnyNumber, AnyValue, AnyPlace, AnyMemory, MadeKeeps, makeAt-keeps}
+use Rattle.rules.proofs.runs.Keeping.{AnyNumber, AnyValue, AnyPlace, AnyState, MadeKeeps, makeAt-keeps}
 use Rattle.rules.proofs.runs.Calls.{CallsKeep}
 use Rattle.rules.proofs.memory.ObservationKept.{startObservation-keeps}
 use Rattle.rules.proofs.lists.Lists.{all-replicate}
@@ -85,7 +85,7 @@ MadeWith J k m = FitsName k × J m
 pub makeBlock-keeps : (J : Memory → Type 0) → MemoryInvariant J → (m : Memory) (u : Use) (n : ℕ) → J m
     → MadeKeeps (MadeWith J) AnyNumber (makeBlock m u n)
 makeBlock-keeps J v m u n h =
-    makeAt-keeps AnyMemory AnyNumber AnyNumber (λ c x. tt) (λ c x. tt) AnyValue AnyPlace (MadeWith J) m u n
+    makeAt-keeps AnyState AnyNumber AnyNumber (λ c x. tt) (λ c x. tt) AnyValue AnyPlace (MadeWith J) m u n
     (nextName m) (freeRun m n) (λ k first a b.
     let l : FitsName k = nextName-fits m k a in
     (l, v .making m u k first n h l (run-bound (λ i. isFree (cellOf m i)) n first b)))

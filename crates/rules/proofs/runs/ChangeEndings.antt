@@ -6,7 +6,7 @@ use Rattle.rules.specs.Memory.{Memory, Use, freeable, makeBlock, nextNam
 use Rattle.rules.specs.Evaluation.{condition}
 use Rattle.rules.specs.Answers.{evaluationEndings, temporaryEndings, plainEndings, watchedEndings}
 use Rattle.rules.proofs.lists.Among.{Among, among-more}
-use Rattle.rules.proofs.runs.Keeping.{AnyValue, AnyPlace, AnyMemory, AnyMade, Gives, TestStops, ChangeKeeps}
+use Rattle.rules.proofs.runs.Keeping.{AnyValue, AnyPlace, AnyState, AnyMade, Gives, TestStops, ChangeKeeps}
 use Rattle.rules.proofs.runs.Keeping.{MadeKeeps, assigned-keeps, makeAt-keeps, allocated-keeps, freed-keeps}
 use Rattle.rules.proofs.runs.EvaluationEndings.{EvaluatedAmong, FoundAmong, condition-among}
 use Rattle.rules.specs.Types.{Evaluated, Found, Test}
@@ -47,25 +47,25 @@ module _ {stopping ending : List ℕ} (w : Numbers stopping ending) where
       ends-test (condition e) (condition-among AnyValue (λ z. tt) (λ p. tt) stopping (w .enough) e h)
 
   pub ends-assigned : (m : Memory) (f : Found) (e : Evaluated) → FoundAmong stopping f
-      → EvaluatedAmong AnyValue stopping e → ChangeKeeps AnyMemory (Among ending) (assigned m f e)
+      → EvaluatedAmong AnyValue stopping e → ChangeKeeps AnyState (Among ending) (assigned m f e)
   ends-assigned m f e h k =
-      assigned-keeps AnyMemory (Among stopping) (Among ending) (w .known) (w .widen) AnyValue AnyPlace m f e tt h k
+      assigned-keeps AnyState (Among stopping) (Among ending) (w .known) (w .widen) AnyValue AnyPlace m f e tt h k
       (λ p v x y i. tt)
 
   pub ends-makeBlock : (m : Memory) (u : Use) (n : ℕ) → MadeKeeps AnyMade (Among ending) (makeBlock m u n)
   ends-makeBlock m u n =
-      makeAt-keeps AnyMemory (Among stopping) (Among ending) (w .known) (w .widen) AnyValue AnyPlace AnyMade m u n
+      makeAt-keeps AnyState (Among stopping) (Among ending) (w .known) (w .widen) AnyValue AnyPlace AnyMade m u n
       (nextName m) (freeRun m n) (λ k first x y. tt)
 
   pub ends-allocated : (m : Memory) (f : Found) (e : Evaluated) → FoundAmong stopping f
-      → EvaluatedAmong AnyValue stopping e → ChangeKeeps AnyMemory (Among ending) (allocated m f e)
+      → EvaluatedAmong AnyValue stopping e → ChangeKeeps AnyState (Among ending) (allocated m f e)
   ends-allocated m f e h k =
-      allocated-keeps AnyMemory (Among stopping) (Among ending) (w .known) (w .widen) AnyValue AnyPlace {K = AnyMade}
+      allocated-keeps AnyState (Among stopping) (Among ending) (w .known) (w .widen) AnyValue AnyPlace {K = AnyMade}
       m f e tt h k (w .enough 40 refl) (λ n. ends-makeBlock m freeable (suc n)) (λ j m₁ x. tt)
       (λ p x j m₁ y i. tt)
 
   pub ends-freed : (m : Memory) (e : Evaluated) → EvaluatedAmong AnyValue stopping e
-      → ChangeKeeps AnyMemory (Among ending) (freed m e)
+      → ChangeKeeps AnyState (Among ending) (freed m e)
   ends-freed m e k =
-      freed-keeps AnyMemory (Among stopping) (Among ending) (w .known) (w .widen) AnyValue AnyPlace m e tt k
+      freed-keeps AnyState (Among stopping) (Among ending) (w .known) (w .widen) AnyValue AnyPlace m e tt k
       (w .enough 40 refl) (λ j. tt)

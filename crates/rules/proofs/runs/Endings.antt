@@ -1,7 +1,6 @@
 -- Which numbers a run ends with: those of `plainEndings`, a watched one those of `watchedEndings`.
-use Prim.Native.Nat.{ℕ, suc, _≤_}
+use Prim.Native.Nat.{ℕ, suc}
 use mathlib.Core.List.{List}
-use mathlib.Core.Logic.{_⊎_, inl, inr}
 use mathlib.Core.Bool.{false}
 use mathlib.Core.Path.{_≡_, refl}
 use Rattle.rules.specs.Trees.{Statement, Expression, Place}
@@ -17,8 +16,8 @@ use Rattle.rules.specs.Watched.{Temporaries, temporaryOf, WatchedState, 
 use Rattle.rules.specs.Watched.{taken, observed, watch}
 use Rattle.rules.specs.Answers.{isIn, evaluationEndings, temporaryEndings, plainEndings, watchedEndings}
 use Rattle.rules.proofs.lists.Among.{Among, among-not}
-use Rattle.rules.proofs.runs.Keeping.{AnyValue, AnyMemory, AnyState, AnyMade, AnyObservation, Gives}
-use Rattle.rules.proofs.runs.Keeping.{on-value, on-pointer, ChangeKeeps, MadeKeeps}
+use Rattle.rules.proofs.runs.Keeping.{AnyValue, AnyState, AnyMade, Gives}
+use Rattle.rules.proofs.runs.Keeping.{on-value, on-pointer, ChangeKeeps}
 use Rattle.rules.proofs.runs.EvaluationEndings.{EvaluatedAmong, FoundAmong, evaluate-among, findPlace-among}
 use Rattle.rules.proofs.runs.EvaluationEndings.{operated-among, addressOf-among, opposite-among}
 use Rattle.rules.proofs.runs.EvaluationEndings.{queried-among, evaluatePredicate-among}
@@ -63,7 +62,7 @@ plain-ends = record {
       ends-allocated plainly m (findSource p ρ m) (evaluateSource e ρ m) (source-found p ρ m) (source-among e ρ m);
   frees = λ e ρ m v. ends-freed plainly m (evaluateSource e ρ m) (source-among e ρ m);
   asserts = λ s p ρ m f v.
-      asserted-keeps AnyMemory (Among plainEndings) m (condition (evaluatePredicate p ρ m)) refl tt
+      asserted-keeps AnyState (Among plainEndings) m (condition (evaluatePredicate p ρ m)) refl tt
       (ends-condition plainly (evaluatePredicate p ρ m)
       (evaluatePredicate-among AnyValue (λ z. tt) (λ p. tt) evaluationEndings (plainly .enough) p ρ m));
   decides = λ e ρ m v. ends-condition plainly (evaluateSource e ρ m) (source-among e ρ m);
@@ -105,18 +104,18 @@ query-among q o v =
     queried-among AnyValue (λ z. tt) (λ p. tt) temporaryEndings (watchedly .enough) q (recordOf o (p .name))
     (λ i. isMarked o i) p)
 
-changes-end : (x : WatchedState) (c : Change Memory) → ChangeKeeps AnyMemory (Among watchedEndings) c
+changes-end : (x : WatchedState) (c : Change Memory) → ChangeKeeps AnyState (Among watchedEndings) c
     → ChangeKeeps AnyState (Among watchedEndings) (changeIn (withMemory x) c)
-changes-end x c h = change-in AnyMemory AnyState (Among watchedEndings) (withMemory x) c (λ m j. tt) h
+changes-end x c h = change-in AnyState AnyState (Among watchedEndings) (withMemory x) c (λ m j. tt) h
 
 taken-ends : (x : WatchedState) (n : ℕ) (e : Evaluated) → EvaluatedAmong AnyValue temporaryEndings e
     → ChangeKeeps AnyState (Among watchedEndings) (taken x n e)
 taken-ends x n e h =
     taken-keeps AnyState (Among watchedEndings) AnyValue x n e tt (ends-evaluated watchedly e h) (λ v g. tt)
 
-observed-ends : (x : WatchedState) (r : Noted) → NotedKeeps AnyObservation (Among watchedEndings) r
+observed-ends : (x : WatchedState) (r : Noted) → NotedKeeps AnyState (Among watchedEndings) r
     → ChangeKeeps AnyState (Among watchedEndings) (observed x r)
-observed-ends x r h = observed-keeps AnyState (Among watchedEndings) AnyObservation x r tt h (λ o g. tt)
+observed-ends x r h = observed-keeps AnyState (Among watchedEndings) AnyState x r tt h (λ o g. tt)
 
 watch-ends : WatchKeeps AnyState Anything AnyBlock (Among watchedEndings)
 watch-ends = record {
@@ -154,15 +153,15 @@ watch-ends = record {
       (λ w u. opposite-among AnyValue (λ z. tt) (λ p. tt) temporaryEndings (watchedly .enough) w));
   stores = λ n x v.
       observed-ends x (storing n x)
-      (store-called AnyObservation (Among watchedEndings) refl refl (x .observation) (holding x n)
+      (store-called AnyState (Among watchedEndings) refl refl (x .observation) (holding x n)
       (holding x (suc n)) (held-ends x n) (held-ends x (suc n)) (λ k l first y z. tt));
   deletes = λ n x v.
       observed-ends x (deleting n x)
-      (delete-called AnyObservation (Among watchedEndings) refl refl (x .observation) (holding x n) (held-ends x n)
+      (delete-called AnyState (Among watchedEndings) refl refl (x .observation) (holding x n) (held-ends x n)
       (λ k first l y. tt));
   initialises = λ n x v.
       observed-ends x (initialising n x)
-      (initialise-called AnyObservation (Among watchedEndings) refl refl (x .observation) (holding x n)
+      (initialise-called AnyState (Among watchedEndings) refl refl (x .observation) (holding x n)
       (held-ends x n) (λ p i y. tt));
   decides = λ e ρ x v. ends-condition watchedly (valueIn e ρ x) (target-among e (x .temporaries) ρ (x .memory));
   decides-on = λ n x v. ends-condition watchedly (holding x n) (held-among (temporaryOf (x .temporaries) n));
@@ -183,8 +182,3 @@ pub ending-zero : {S : Type 0} (l : List ℕ) (o : Outcome S) → isIn 0 l ≡ f
     → ending o .statement ≡ 0
 ending-zero l (finished x f) d h e = refl
 ending-zero l (ended c s ρ w x f) d h e = absurd (among-not l c 0 d h e)
-
-pub ending-among : {S : Type 0} (l : List ℕ) (o : Outcome S) → EndsAmong l o
-    → ((ending o .number ≡ 0) × (ending o .statement ≡ 0)) ⊎ Among l (ending o .number)
-ending-among l (finished x f) h = inl (refl, refl)
-ending-among l (ended c s ρ w x f) h = inr h

@@ -7,7 +7,6 @@ use Rattle.rules.specs.Memory.{makeBlock, withBlock, endBlock, blockOf, 
 use Rattle.rules.specs.Memory.{storeNew, newOfSize, freeOf, freeAt, assigned, allocated, freed, onValue}
 use Rattle.rules.specs.Memory.{onPlace, onInteger, onPointer}
 use Rattle.rules.specs.Evaluation.{onTest}
-use Rattle.rules.specs.Observation.{Observation}
 use Rattle.rules.specs.Answers.{plainEndings}
 use Rattle.rules.proofs.lists.Among.{Among}
 use Rattle.rules.specs.Types.{Pointer, Value, Evaluated, Found, Test, Located, Search, Block, Cell}
@@ -22,11 +21,8 @@ AnyValue v = Unit {0}
 abbrev pub AnyPlace : Pointer → Type 0
 AnyPlace p = Unit {0}
 
-abbrev pub AnyMemory : Memory → Type 0
-AnyMemory m = Unit {0}
-
-abbrev pub AnyObservation : Observation → Type 0
-AnyObservation o = Unit {0}
+abbrev pub AnyState : {S : Type 0} → S → Type 0
+AnyState x = Unit {0}
 
 -- G of the value that evaluating gives, C of the number it stops with
 abbrev pub Gives : (Value → Type 0) → (ℕ → Type 0) → Evaluated → Type 0
@@ -93,10 +89,6 @@ ChangeKeeps J E (stopped c m) = E c × J m
 abbrev pub MadeKeeps : {S : Type 0} → (ℕ → S → Type 0) → (ℕ → Type 0) → Made S → Type 0
 MadeKeeps K E (made k m) = K k m
 MadeKeeps K E (unmade c) = E c
-
--- nothing is asked of a state
-abbrev pub AnyState : {S : Type 0} → S → Type 0
-AnyState x = Unit {0}
 
 abbrev pub AnyMade : {S : Type 0} → ℕ → S → Type 0
 AnyMade k x = Unit {0}

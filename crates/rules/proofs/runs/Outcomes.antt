@@ -4,7 +4,7 @@ use native.Mathlib.Omega.{arith}
 use mathlib.Core.Path.{_≡_, refl, ap}
 use Rattle.rules.specs.Memory.{Memory, Change, changed, stopped, changeIn, Made, made, unmade, madeIn}
 use Rattle.rules.specs.Evaluation.{Variables}
-use Rattle.rules.specs.Flow.{Outcome, finished, ended, Ending, ending, into, next, after, decide, turns, inLet}
+use Rattle.rules.specs.Flow.{Outcome, finished, ended, ending, into, next, after, decide, turns, inLet}
 use Rattle.rules.specs.Plain.{asserted}
 use Rattle.rules.proofs.runs.Keeping.{TestStops, AnyState, ChangeKeeps, MadeKeeps}
 use Rattle.rules.specs.Types.{Test}
@@ -26,11 +26,6 @@ into-ending n (ended c s ρ w x f) = refl
 
 pub into-state : {S : Type 0} (n : ℕ) (o : Outcome S) → ending (into n o) .state ≡ ending o .state
 into-state n o = ap (λ e. e .state) (into-ending n o)
-
-pub outcomes-more : {S : Type 0} (I J : S → ℕ → Type 0) (E : ℕ → Type 0)
-    → ((x : S) (f : ℕ) → I x f → J x f) → (o : Outcome S) → Outcomes I E o → Outcomes J E o
-outcomes-more I J E g (finished x f) h = g x f h
-outcomes-more I J E g (ended c s ρ w x f) h = (h .0, g x f (h .1))
 
 -- P holds of a state where a run starts, and R of two between which it runs
 pub record Onwards {S : Type 0} (P : S → Type 0) (R : S → S → Type 0) : Type 0 where
@@ -112,12 +107,7 @@ anywhere = record { valid = λ r. tt; itself = λ v. tt; further = λ r q. tt }
 pub staying : {S : Type 0} (P : S → Type 0) → Onwards {S = S} P (λ x y. P y)
 staying P = record { valid = λ r. r; itself = λ h. h; further = λ r q. q }
 
--- a change that keeps more, in a state that holds the memory, and of an assertion
-pub change-more : {S : Type 0} (J K : S → Type 0) (E : ℕ → Type 0) (c : Change S) → ((x : S) → J x → K x)
-    → ChangeKeeps J E c → ChangeKeeps K E c
-change-more J K E (changed x) g h = g x h
-change-more J K E (stopped c x) g h = (h .0, g x (h .1))
-
+-- a change in a state that holds the memory, and of an assertion
 pub change-in : {S : Type 0} (J : Memory → Type 0) (K : S → Type 0) (E : ℕ → Type 0) (put : Memory → S)
     (c : Change Memory) → ((m : Memory) → J m → K (put m)) → ChangeKeeps J E c → ChangeKeeps K E (changeIn put c)
 change-in J K E put (changed m) g h = g m h
