@@ -11,7 +11,7 @@ use lib.Signed.{quotZ, remZ}
 use mir.Syntax.{w64}
 use mir.Val.{SFits}
 use Rattle.rules.specs.declared.Number.the-variants.{ZeroDivisor}
-use Rattle.rules.specs.Numbers.{ranged, signed, signsDiffer, divided, goesUp, toNearest}
+use Rattle.rules.specs.Numbers.{ranged, signed, signsDiffer, divided, roundsUp, toNearest}
 use Rattle.rules.proofs.numbers.Signs.{magnitude-signed}
 use Rattle.number.proofs.Integers.{same-order}
 use Rattle.number.proofs.Signs.{signed-fits}
@@ -74,19 +74,19 @@ quotient-fits a (pos (suc (suc n))) fa z m = small-fits a (pos (suc (suc n))) fa
 quotient-fits a (negsuc zero) fa z m = absurd (m refl)
 quotient-fits a (negsuc (suc n)) fa z m = small-fits a (negsuc (suc n)) fa (omega arith)
 
--- whether it goes up, told by the distances d − r and r to the next number and to the quotient
+-- whether it is rounded up, told by the distances d − r and r to the next number and to the quotient
 module _ (q r d : ℕ) (l : r < d) where
-  pub at-half : (n : ℕ) → n ≡ q → d - r ≡ r → eqb (n % 2) 1 ≡ goesUp q r d
+  pub at-half : (n : ℕ) → n ≡ q → d - r ≡ r → eqb (n % 2) 1 ≡ roundsUp q r d
   at-half n e h = rw (e, eq-eqb (2 * r) d (omega (arith, l, h)))
 
-  pub beside-half : (d - r ≡ r → ⊥) → ltb (d - r) r ≡ goesUp q r d
+  pub beside-half : (d - r ≡ r → ⊥) → ltb (d - r) r ≡ roundsUp q r d
   beside-half h =
       let unequal : 2 * r ≡ d → ⊥ = λ e. h (omega (arith, e)) in
       rw (ne-eqb (2 * r) d unequal)
       (same-order (d - r) r d (2 * r) (λ k. omega (arith, l, k)) (λ k. omega (arith, l, k)))
 
--- where the quotient's magnitude goes up, the remainder is half of the divisor or more, and one more is in range
-pub up-from-half : (q r d : ℕ) → goesUp q r d ≡ true → d ≤ 2 * r
+-- where the quotient's magnitude is rounded up, the remainder is half of the divisor or more, and one more is in range
+pub up-from-half : (q r d : ℕ) → roundsUp q r d ≡ true → d ≤ 2 * r
 up-from-half q r d = pick (eqb (2 * r) d) refl
   where
     pick : (half : Bool) → eqb (2 * r) d ≡ half → cond half (eqb (q % 2) 1) (ltb d (2 * r)) ≡ true → d ≤ 2 * r

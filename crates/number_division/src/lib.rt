@@ -2,7 +2,7 @@
 ghost use mathlib.Core.Path.{_≡_};
 ghost use lib.IntN.{natAbs};
 ghost use Prim.Native.Nat.{_<_};
-ghost use Rattle.rules.specs.Numbers.{divided, goesUp, towardZero, toNearest};
+ghost use Rattle.rules.specs.Numbers.{divided, roundsUp, towardZero, toNearest};
 use rules::Number;
 
 // Rounded toward zero.
@@ -18,11 +18,11 @@ pub fn divide(a: i64, b: i64) -> Number
     Number::Is(a / b)
 }
 
-// Whether the quotient's magnitude goes up by one: the remainder is over half of the divisor, or exactly half of it and
+// Whether the quotient's magnitude is rounded up: the remainder is over half of the divisor, or exactly half of it and
 // the quotient is odd.
-fn goes_up(q: i64, r: i64, b: i64) -> bool
+fn rounds_up(q: i64, r: i64, b: i64) -> bool
     requires { ⌜ natAbs r < natAbs b ⌝ }
-    ensures { λ t. ⌜ t ≡ goesUp (natAbs q) (natAbs r) (natAbs b) ⌝ }
+    ensures { λ t. ⌜ t ≡ roundsUp (natAbs q) (natAbs r) (natAbs b) ⌝ }
 {
     let below = number::magnitude(r);
     let above = number::magnitude(b) - below;
@@ -44,7 +44,7 @@ pub fn divide_nearest(a: i64, b: i64) -> Number
     }
     let q = a / b;
     let r = a % b;
-    if goes_up(q, r, b) {
+    if rounds_up(q, r, b) {
         if (a < 0) != (b < 0) {
             Number::Is(q - 1)
         } else {

@@ -34,11 +34,11 @@ towardZero x y = x / y
 
 -- 02 §1: "the nearest whole number, but an exact half now goes to the even one". With quotient q and remainder r of
 -- magnitudes by y, one more than q is taken where r is over half of y, and at an exact half where q is odd.
-abbrev pub goesUp : ℕ → ℕ → ℕ → Bool
-goesUp q r y = cond (eqb (2 * r) y) (eqb (q % 2) 1) (ltb y (2 * r))
+abbrev pub roundsUp : ℕ → ℕ → ℕ → Bool
+roundsUp q r y = cond (eqb (2 * r) y) (eqb (q % 2) 1) (ltb y (2 * r))
 
 abbrev pub toNearest : ℕ → ℕ → ℕ
-toNearest x y = cond (goesUp (x / y) (x % y) y) (x / y + 1) (x / y)
+toNearest x y = cond (roundsUp (x / y) (x % y) y) (x / y + 1) (x / y)
 
 -- x by y, their magnitudes' quotient rounded; negative where one of x and y is
 abbrev pub quotientOf : (ℕ → ℕ → ℕ) → ℤ → ℤ → ℤ
@@ -48,7 +48,7 @@ quotientOf rounded x y = signed (signsDiffer x y) (rounded (natAbs x) (natAbs y)
 abbrev pub divided : (ℕ → ℕ → ℕ) → ℤ → ℤ → Number
 divided rounded x y = cond (eqb (natAbs y) 0) Number.ZeroDivisor (ranged (quotientOf rounded x y))
 
--- The same without a formula, for an office to hold against its own rule: x lies within half of y from q times y, and
+-- 02 §1 without a formula, for an office to hold against its own rule: q times y lies within half of y from x, and
 -- where it lies at exactly a half q is even.
 pub record IsNearest (x y q : ℤ) : Type 0 where
   pub within : 2 * natAbs (x -ℤ q *ℤ y) ≤ natAbs y

@@ -12,7 +12,7 @@ use mir.Val.{SFits, ofZ}
 use mir.Facts.{toZ-ofZ}
 use mir.ValLaws.{sfits-le}
 use Rattle.rules.specs.declared.Number.the-variants.{Is}
-use Rattle.rules.specs.Numbers.{ranged, divided, goesUp, toNearest, signed, signsDiffer}
+use Rattle.rules.specs.Numbers.{ranged, divided, roundsUp, toNearest, signed, signsDiffer}
 use Rattle.rules.proofs.numbers.Signs.{divided-is, magnitude-positive}
 use Rattle.number.proofs.Integers.{of-bits, negative-test}
 use Rattle.number.proofs.Answers.{ranged-is}
@@ -23,9 +23,9 @@ use Rattle.number_division.proofs.Divides.{nearest-one, nearest-small, 
 use Rattle.number_division.proofs.divide_nearest.Statement.{statement}
 use Rattle.number_division.proofs.divide_nearest.Tie as tie
 
--- whether the quotient's magnitude goes up
+-- whether the quotient's magnitude is rounded up
 abbrev up-test : ℤ → ℤ → Bool
-up-test a b = goesUp (natAbs (quotZ a b)) (natAbs (remZ a b)) (natAbs b)
+up-test a b = roundsUp (natAbs (quotZ a b)) (natAbs (remZ a b)) (natAbs b)
 
 -- the three answers, over ℤ
 module _ (a b : ℤ) (f : SFits w64 a) (z : b ≡ pos 0 → ⊥) where
@@ -35,8 +35,8 @@ module _ (a b : ℤ) (f : SFits w64 a) (z : b ≡ pos 0 → ⊥) where
   abbrev taken : Bool → ℕ
   taken up = cond up (natAbs a / natAbs b + 1) (natAbs a / natAbs b)
 
-  test-of-magnitudes : up-test a b ≡ goesUp (natAbs a / natAbs b) (natAbs a % natAbs b) (natAbs b)
-  test-of-magnitudes i = goesUp (quotient-magnitude a b i) (remainder-magnitude a b i) (natAbs b)
+  test-of-magnitudes : up-test a b ≡ roundsUp (natAbs a / natAbs b) (natAbs a % natAbs b) (natAbs b)
+  test-of-magnitudes i = roundsUp (quotient-magnitude a b i) (remainder-magnitude a b i) (natAbs b)
 
   stays : SFits w64 (quotZ a b) → up-test a b ≡ false → Is (quotZ a b) ≡ divided toNearest a b
   stays g t =
@@ -44,18 +44,18 @@ module _ (a b : ℤ) (f : SFits w64 a) (z : b ≡ pos 0 → ⊥) where
       ranged-is g ∙ ap ranged (quotient-signed a b ∙ ap answer (sym m)) ∙ divided-is toNearest a b z
 
   module _ (t : up-test a b ≡ true) where
-    goes : goesUp (natAbs a / natAbs b) (natAbs a % natAbs b) (natAbs b) ≡ true
-    goes = sym test-of-magnitudes ∙ t
+    rounded-up : roundsUp (natAbs a / natAbs b) (natAbs a % natAbs b) (natAbs b) ≡ true
+    rounded-up = sym test-of-magnitudes ∙ t
 
     away-fits : SFits w64 (answer (natAbs a / natAbs b + 1))
     away-fits =
-        let h = up-from-half (natAbs a / natAbs b) (natAbs a % natAbs b) (natAbs b) goes in
+        let h = up-from-half (natAbs a / natAbs b) (natAbs a % natAbs b) (natAbs b) rounded-up in
         let l = nearest-small (natAbs a) (natAbs b) (magnitude-positive b z) (magnitude-limit f) h in
         signed-fits (signsDiffer a b) _ l
 
     away : Is (answer (natAbs a / natAbs b + 1)) ≡ divided toNearest a b
     away =
-        let m : toNearest (natAbs a) (natAbs b) ≡ natAbs a / natAbs b + 1 = ap taken goes in
+        let m : toNearest (natAbs a) (natAbs b) ≡ natAbs a / natAbs b + 1 = ap taken rounded-up in
         ranged-is away-fits ∙ ap ranged (ap answer (sym m)) ∙ divided-is toNearest a b z
 
     lower : signsDiffer a b ≡ true → quotZ a b -ℤ pos 1 ≡ answer (natAbs a / natAbs b + 1)
@@ -96,8 +96,8 @@ rem-r c =
     let s = c .before .before in
     simp (toZ-ofZ (s .fits .a), toZ-ofZ (s .fits .b)) (omega (arith, c .before .if1 .left), fits c)
 
-goes-up-requires : tie.Need-goes-up-requires
-goes-up-requires c κs =
+rounds-up-requires : tie.Need-rounds-up-requires
+rounds-up-requires c κs =
     let s = c .before .before in
     let a = s .args .a in
     let b = s .args .b in
@@ -105,13 +105,13 @@ goes-up-requires c κs =
     (mod-lt (natAbs a) (magnitude-positive b (not-zero c)))
 
 -- what the call and the tests say of the arguments
-test-is : (c : tie.After-goes-up)
-    → let s = c .before .before .before in c .goes-up .result ≡ up-test (s .args .a) (s .args .b)
+test-is : (c : tie.After-rounds-up)
+    → let s = c .before .before .before in c .rounds-up .result ≡ up-test (s .args .a) (s .args .b)
 test-is c =
     let s = c .before .before .before in
     let q = toZ-ofZ (fits (c .before)) in
     let r = toZ-ofZ (remainder-fits (c .before)) in
-    simp (toZ-ofZ (s .fits .a), toZ-ofZ (s .fits .b), q, r) at (c .goes-up .ensures)
+    simp (toZ-ofZ (s .fits .a), toZ-ofZ (s .fits .b), q, r) at (c .rounds-up .ensures)
 
 is-up : (c : tie.Then3) → let s = c .before .before .before .before in up-test (s .args .a) (s .args .b) ≡ true
 is-up c = sym (test-is (c .before)) ∙ c .if3 .taken
@@ -190,7 +190,7 @@ divide-nearest-spec =
     returns-2
     div-q
     rem-r
-    goes-up-requires
+    rounds-up-requires
     sub-t12
     add-t13
     returns-3

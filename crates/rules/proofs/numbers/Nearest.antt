@@ -4,7 +4,7 @@ use native.Mathlib.Nat.{div-add-mod', mod-lt, mul-le-mul-right, add-mul, suc-mul
 use native.Mathlib.Omega.{arith}
 use mathlib.Core.Path.{_≡_, refl, sym, ap, _∙_}
 use mathlib.Core.Bool.{Bool, true, false, not, Bool·beq, cond}
-use mathlib.Core.Logic.{_⊎_, inl, inr}
+use mathlib.Core.Logic.{_⊎_, inl, inr, ⊎-elim}
 use borrow.Author.Tests.{eqb-true, eqb-false, ltb-true, ltb-false}
 use lib.Dec.{ltb, eqb}
 use lib.IntN.{ℤ, pos, negsuc, natAbs, _-ℤ_, _*ℤ_}
@@ -15,7 +15,7 @@ use Rattle.rules.proofs.numbers.Signs.{signed-itself, magnitude-signed,
 use Rattle.rules.proofs.numbers.Signs.{distance, alike-apart, unlike-apart, divided-is, magnitude-positive}
 use Rattle.rules.specs.Types.{Value}
 
--- the same of magnitudes
+-- the rule of magnitudes
 record Near (x d n : ℕ) : Type 0 where
   within : 2 * distance x (n * d) ≤ d
   even : 2 * distance x (n * d) ≡ d → n % 2 ≡ 0
@@ -133,11 +133,8 @@ module _ (x y q : ℤ) (p : zero < natAbs y) (h : IsNearest x y q) where
       )
 
 nearest-quotient : (x y q : ℤ) → zero < natAbs y → IsNearest x y q → Quotient x y q
-nearest-quotient x y q p h = pick (alike-or-not (isNegative x) (signsDiffer q y))
-  where
-    pick : (isNegative x ≡ signsDiffer q y) ⊎ (not (isNegative x) ≡ signsDiffer q y) → Quotient x y q
-    pick (inl e) = alike-quotient x y q p h e
-    pick (inr e) = unlike-quotient x y q p h e
+nearest-quotient x y q p h =
+    ⊎-elim (alike-quotient x y q p h) (unlike-quotient x y q p h) (alike-or-not (isNegative x) (signsDiffer q y))
 
 -- no two numbers are nearest
 pub nearest-alone : (x y q r : ℤ) → zero < natAbs y → IsNearest x y q → IsNearest x y r → q ≡ r

@@ -1,12 +1,12 @@
--- `number_division::goes_up` meets its contract. Assumes nothing.
+-- `number_division::rounds_up` meets its contract. Assumes nothing.
 use native.Mathlib.Omega.{arith}
 use borrow.Author.Needs.{needs}
 use mathlib.Core.Path.{_≡_}
 use lib.IntN.{natAbs}
 use mir.Facts.{toZ-ofZ}
 use Rattle.number_division.proofs.Divides.{at-half, beside-half}
-use Rattle.number_division.proofs.goes_up.Statement.{statement}
-use Rattle.number_division.proofs.goes_up.Tie as tie
+use Rattle.number_division.proofs.rounds_up.Statement.{statement}
+use Rattle.number_division.proofs.rounds_up.Tie as tie
 
 magnitude-requires : tie.Need-magnitude-requires
 magnitude-requires c κs = search needs
@@ -43,5 +43,5 @@ returns-2 c =
     rw (below-is e, whole-is e)
     (beside-half (natAbs (s .args .q)) (natAbs (s .args .r)) (natAbs (s .args .b)) (s .pre) beside)
 
-pub goes-up-spec : {M : Type 1} → statement M
-goes-up-spec = tie.close (tie.spec magnitude-requires magnitude-requires-2 sub-above magnitude-requires-3 returns returns-2)
+pub rounds-up-spec : {M : Type 1} → statement M
+rounds-up-spec = tie.close (tie.spec magnitude-requires magnitude-requires-2 sub-above magnitude-requires-3 returns returns-2)
