@@ -10,7 +10,7 @@ impl Generator {
         }
         let half = match self.random.below(20) {
             0 => 1 << 62,
-            _ => 1 + self.of_any_size().unsigned_abs() as i64 / 4,
+            _ => 1 + (self.of_any_size().unsigned_abs() / 4) as i64,
         };
         let odd = 2 * self.random.range(0, (i64::MAX / half - 1) / 2) + 1;
         let left = (odd * half).saturating_add(self.random.pick(&[-1, 0, 0, 1]));
