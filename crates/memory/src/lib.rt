@@ -33,11 +33,11 @@ pub fn read(mem: &ExecutionMemory, p: Pointer) -> Evaluated
     match memory_pointers::locate(mem, p) {
         Located::At(i) => define(memory_cells::cell(mem, i)),
         Located::Dead => Evaluated::Stopped(42),
-        Located::Outside => Evaluated::Stopped(42),
+        Located::Outside => Evaluated::Stopped(50),
     }
 }
 
-// The cell that a pointer leads to takes a value; 42 where there is none.
+// The cell that a pointer leads to takes a value; 42 where its block is dead, 50 where its offset is outside.
 pub fn store(mem: &mut ExecutionMemory, p: Pointer, v: Value) -> u32
     requires { ⌜ NamesFit v ⌝ }
     ensures number { λ r. ⌜ r ≡ changeNumber (storeCell (memoryOf (now (mem .entry))) p v) ⌝ }
@@ -50,6 +50,6 @@ pub fn store(mem: &mut ExecutionMemory, p: Pointer, v: Value) -> u32
             0
         }
         Located::Dead => 42,
-        Located::Outside => 42,
+        Located::Outside => 50,
     }
 }

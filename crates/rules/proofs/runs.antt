@@ -18,5 +18,6 @@ pub mod TargetFields
 pub mod TargetArms
 pub mod SourceRuns
 pub mod TargetRuns
+pub mod EndedAt
 pub mod StoppedAt
 pub mod StoppedVariables

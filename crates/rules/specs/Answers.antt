@@ -34,10 +34,15 @@ isIn k (j ∷ js) = eqb k j || isIn k js
 abbrev pub refusals : List ℕ
 refusals = 1 ∷ 2 ∷ 3 ∷ 4 ∷ 5 ∷ 6 ∷ 7 ∷ 8 ∷ 9 ∷ 20 ∷ 21 ∷ 22 ∷ []
 
--- what evaluating can stop with: "40 wrong sort of value. 41 undefined cell read. 42 cell in a dead block or outside.
--- 43 overflow. 44 zero divisor. .. 47 base, offset or length of a block not live"
+-- what an operator or a query can stop with: "40 wrong sort of value. .. 43 overflow. 44 zero divisor. .. 47 base, offset
+-- or length of a block not live"
+abbrev pub operationEndings : List ℕ
+operationEndings = 40 ∷ 43 ∷ 44 ∷ 47 ∷ []
+
+-- what evaluating can stop with: these, and at a cell "41 undefined cell read. 42 cell in a dead block" and 02 §2: "50,
+-- offset outside a live block"
 abbrev pub evaluationEndings : List ℕ
-evaluationEndings = 40 ∷ 41 ∷ 42 ∷ 43 ∷ 44 ∷ 47 ∷ []
+evaluationEndings = 41 ∷ 42 ∷ 50 ∷ operationEndings
 
 -- what a run can end with beside 0: these, and "30 no run of free cells long enough. 31 all names given. 32 fuel is 0 at
 -- a while test. 33 assertion false. .. 45 size below 1. 46 free of a pointer to anything but the first cell of a live

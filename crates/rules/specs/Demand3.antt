@@ -40,8 +40,9 @@ pub record Agreement (t i : List ℕ) (f : ℕ) (p : PlainRun) (w : WatchedRun) 
   -- "Both runs end 33 at the first that is false, with fuel left and memory as then; with none, both end as this run does."
   pub first-false : p ≡ plainEnded (atFirstFalse (ending (pastOutcome t i f)))
   -- "Live blocks, lengths and initialised cells are those of the plain run's execution memory": the observation memory
-  -- names exactly these, but after 42, where a new block may have been made whose pointer could not be stored
-  pub exact : p .answer .number ≢ 42 → w .observation ≡ observationImage (mirror (memoryOf (p .memory)))
+  -- names exactly these, but after 42 and 50, where a new block may have been made whose pointer could not be stored
+  pub exact : (p .answer .number ≢ 42) × (p .answer .number ≢ 50)
+      → w .observation ≡ observationImage (mirror (memoryOf (p .memory)))
   -- "From translated programs 48 and 49 never come."
   pub never-48 : w .answer .number ≢ 48
   pub never-49 : w .answer .number ≢ 49

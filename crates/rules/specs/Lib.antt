@@ -36,3 +36,4 @@ pub mod Demand3
 pub mod Listing
 pub mod Cases
 pub mod CommonErrors
+pub mod PointerCases

@@ -21,6 +21,11 @@ recordedOf (Block.Fixed first n) = Recorded.Live first n
 recordedOf (Block.Freeable first n) = Recorded.Live first n
 recordedOf Block.Dead = Recorded.Dead
 
+abbrev pub isLive : Recorded → Bool
+isLive Recorded.Unused = false
+isLive (Recorded.Live first n) = true
+isLive Recorded.Dead = false
+
 -- a list's element by a name: names count from 1, and d stands for a name that has no record
 abbrev pub named : {A : Type 0} → List A → ℕ → A → A
 named l zero d = d
@@ -46,11 +51,12 @@ locatedIn Recorded.Dead o = Located.Dead
 unfoldable pub locate : Memory → Pointer → Located
 locate m p = locatedIn (recordedOf (blockOf m (p .name))) (p .offset)
 
--- "42 cell in a dead block or outside"
+-- at a cell's reading and storing. 02 §2: "42 means that the block is dead", "50, offset outside a live block, found
+-- after 42"
 abbrev pub atCell : {A : Type 0} → (ℕ → A) → (ℕ → A) → Located → A
 atCell at stop (Located.At i) = at i
 atCell at stop Located.Dead = stop 42
-atCell at stop Located.Outside = stop 42
+atCell at stop Located.Outside = stop 50
 
 -- "41 undefined cell read"; no pointer leads to a free cell
 abbrev pub defined : Cell → Evaluated

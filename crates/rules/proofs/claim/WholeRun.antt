@@ -34,7 +34,7 @@ pub record Same (p : Ending Memory) (w : Ending WatchedState) : Type 0 where
   pub same-answer : endingAnswer (λ m. m) p ≡ endingAnswer (λ x. x .memory) w
   pub same-memory : p .state ≡ w .state .memory
   pub unrefused : (isIn (p .number) refusals ≡ false) × (isIn (w .number) refusals ≡ false)
-  pub mirrors : p .number ≢ 42 → w .state .observation ≡ mirror (p .state)
+  pub mirrors : (p .number ≢ 42) × (p .number ≢ 50) → w .state .observation ≡ mirror (p .state)
   pub no-contradiction : (w .number ≢ 48) × (w .number ≢ 49)
 
 same-of : {p : Outcome Memory} {w : Outcome WatchedState} → Agree p w → EndsAmong plainEndings p

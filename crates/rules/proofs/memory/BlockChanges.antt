@@ -66,7 +66,7 @@ onward-store m i o v h y = record {
 pub onward-cell : (m : Memory) (p : Pointer) (v : Value) → Invariant m → Onward m (changedMemory (storeCell m p v))
 onward-cell m p v y =
     at-pointed (λ c. Onward m (changedMemory c)) _ (λ k. stopped k m) m p y (λ i h. onward-store m i _ v h y)
-    (onward-itself y)
+    (λ c. onward-itself y)
 
 -- the number of blocks that cover a cell, after the block of one name was set
 coverage-block : (l : List Block) (k : ℕ) (x : Block) (i : ℕ) → 1 ≤ k → k ≤ length l

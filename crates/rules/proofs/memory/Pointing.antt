@@ -39,11 +39,11 @@ leads m p y = go (recordedOf (blockOf m (p .name))) (p .offset) refl
 
 -- so what is done at a pointer's cell is done at a cell of its block
 pub at-pointed : {A : Type 0} (P : A → Type 0) (at stop : ℕ → A) (m : Memory) (p : Pointer) → Invariant m
-    → ((i : ℕ) → covers (recordedOf (blockOf m (p .name))) i ≡ true → P (at i)) → P (stop 42)
+    → ((i : ℕ) → covers (recordedOf (blockOf m (p .name))) i ≡ true → P (at i)) → ((c : ℕ) → P (stop c))
     → P (atCell at stop (locate m p))
 at-pointed P at stop m p y g h = go (locate m p) (leads m p y)
   where
     go : (r : Located) → Leads m (p .name) r → P (atCell at stop r)
     go (Located.At i) w = g i (w .0)
-    go Located.Dead w = h
-    go Located.Outside w = h
+    go Located.Dead w = h 42
+    go Located.Outside w = h 50

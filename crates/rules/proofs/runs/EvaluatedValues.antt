@@ -50,7 +50,7 @@ module _ (G : Value → Type 0) where
 
   readCell-has : (m : Memory) (p : Pointer) → ((i : ℕ) → CellHas G (cellOf m i)) → EvaluatedHas G (readCell m p)
   readCell-has m p h =
-      at-cell (EvaluatedHas G) AnyNumber Evaluated.Stopped (λ c x. tt) (locate m p) _ tt
+      at-cell (EvaluatedHas G) AnyNumber Evaluated.Stopped (λ c x. tt) (locate m p) _ tt tt
       (λ i. defined-has (cellOf m i) (h i))
 
 -- N is what a temporary's name keeps, of no account here

@@ -4,19 +4,19 @@ use mathlib.Core.Bool.{Bool}
 use mathlib.Core.List.{List}
 use mathlib.Core.Path.{refl}
 use lib.IntN.{ℤ}
-use Rattle.rules.specs.Trees.{Operator, shift, Query, valid, initialised, base, offset, blockLength, Expression}
+use Rattle.rules.specs.Trees.{Operator, shift, Query, Expression}
 use Rattle.rules.specs.Trees.{literal, read, address, operation, shifted, Place, variable, pointed, temporary}
 use Rattle.rules.specs.Trees.{Term, value, asked, combined, Predicate, holds, compared, negated, both, either}
-use Rattle.rules.specs.Numbers.{truthValue, tested}
-use Rattle.rules.specs.Memory.{Memory, blockOf, cellOf, recordedOf, locate, locatedIn, defined, readCell, onValue}
+use Rattle.rules.specs.Numbers.{tested}
+use Rattle.rules.specs.Memory.{Memory, cellOf, locate, defined, readCell, onValue}
 use Rattle.rules.specs.Evaluation.{Variables, Holding, noTemporaries, held, pointedBy, addressOf, operated}
-use Rattle.rules.specs.Evaluation.{evaluate, findPlace, ofLive, queried, queryMemory, isInitialised, isValid}
-use Rattle.rules.specs.Evaluation.{initialisedAt, evaluateTerm, onTest, opposite, evaluatePredicate, condition}
-use Rattle.rules.specs.Answers.{evaluationEndings}
-use Rattle.rules.proofs.lists.Among.{Among}
-use Rattle.rules.proofs.runs.Operations.{truth-gives, operated-gives, tested-stops, condition-stops}
-use Rattle.rules.proofs.runs.Operations.{opposite-gives}
-use Rattle.rules.proofs.runs.Keeping.{AnyValue, AnyPlace, Gives, Finds, TestStops, on-value, on-place}
+use Rattle.rules.specs.Evaluation.{evaluate, findPlace, queried, queryMemory, evaluateTerm, onTest, opposite}
+use Rattle.rules.specs.Evaluation.{evaluatePredicate, condition}
+use Rattle.rules.specs.Answers.{operationEndings, evaluationEndings}
+use Rattle.rules.proofs.lists.Among.{Among, among-more}
+use Rattle.rules.proofs.runs.Operations.{operated-gives, tested-stops, condition-stops, opposite-gives}
+use Rattle.rules.proofs.runs.Operations.{queried-gives, queryMemory-gives}
+use Rattle.rules.proofs.runs.Keeping.{AnyPlace, Gives, Finds, TestStops, on-value, on-place}
 use Rattle.rules.proofs.runs.Keeping.{on-pointer}
 use Rattle.rules.proofs.runs.Keeping.{on-test, at-cell}
 use Rattle.rules.specs.Types.{Pointer, Value, Evaluated, Found, Recorded, Cell}
@@ -32,25 +32,15 @@ FoundAmong numbers f = Finds AnyPlace (Among numbers) f
 module _ (G : Value → Type 0) (integers : (z : ℤ) → G (Value.Integer z))
     (pointers : (p : Pointer) → G (Value.Pointer p)) (numbers : List ℕ)
     (enough : (c : ℕ) → Among evaluationEndings c → Among numbers c) where
-  truth-among : (b : Bool) → EvaluatedAmong G numbers (truthValue b)
-  truth-among b = truth-gives G (Among numbers) (λ z e. integers z) (λ p z g e. pointers _) enough b
-
-  ofLive-among : (b : Recorded) (f : ℕ → Value) → ((n : ℕ) → G (f n)) → EvaluatedAmong G numbers (ofLive b f)
-  ofLive-among Recorded.Unused f g = enough 47 refl
-  ofLive-among (Recorded.Live first n) f g = g n
-  ofLive-among Recorded.Dead f g = enough 47 refl
+  operations : (c : ℕ) → Among operationEndings c → Among numbers c
+  operations c h = enough c (among-more operationEndings evaluationEndings c refl h)
 
   pub queried-among : (q : Query) (b : Recorded) (marked : ℕ → Bool) (p : Pointer)
       → EvaluatedAmong G numbers (queried q b marked p)
-  unfolding queried
-  queried-among valid b marked p = truth-among (isValid (locatedIn b (p .offset)))
-  queried-among initialised b marked p = truth-among (initialisedAt marked (locatedIn b (p .offset)))
-  queried-among base b marked p = ofLive-among b _ (λ n. pointers _)
-  queried-among offset b marked p = ofLive-among b _ (λ n. integers _)
-  queried-among blockLength b marked p = ofLive-among b _ (λ n. integers _)
+  queried-among q b marked p = queried-gives G (Among numbers) integers pointers operations q b marked p
 
   tested-among : (v : Value) → TestStops (Among numbers) (tested v)
-  tested-among v = tested-stops G (Among numbers) (λ z e. integers z) (λ p z g e. pointers _) enough v
+  tested-among v = tested-stops G (Among numbers) (λ z e. integers z) (λ p z g e. pointers _) operations v
 
   among-value : (e : Evaluated) (next : Value → Evaluated) → EvaluatedAmong G numbers e
       → ((v : Value) → G v → EvaluatedAmong G numbers (next v))
@@ -58,12 +48,12 @@ module _ (G : Value → Type 0) (integers : (z : ℤ) → G (Value.Integer z))
   among-value e next h g = on-value (EvaluatedAmong G numbers) (Among numbers) Evaluated.Stopped (λ c x. x) e next h g
 
   pub condition-among : (e : Evaluated) → EvaluatedAmong G numbers e → TestStops (Among numbers) (condition e)
-  condition-among e h = condition-stops G (Among numbers) (λ z e. integers z) (λ p z g e. pointers _) enough e h
+  condition-among e h = condition-stops G (Among numbers) (λ z e. integers z) (λ p z g e. pointers _) operations e h
 
   pub operated-among : (o : Operator) (a b : Evaluated) → EvaluatedAmong G numbers a → EvaluatedAmong G numbers b
       → EvaluatedAmong G numbers (operated o a b)
   operated-among o a b g h =
-      operated-gives G (Among numbers) (λ z e. integers z) (λ p z g e. pointers _) enough o a b g h
+      operated-gives G (Among numbers) (λ z e. integers z) (λ p z g e. pointers _) operations o a b g h
 
   defined-among : (c : Cell) → EvaluatedAmong G numbers (defined c)
   defined-among Cell.Free = enough 41 refl
@@ -73,7 +63,7 @@ module _ (G : Value → Type 0) (integers : (z : ℤ) → G (Value.Integer z))
 
   readCell-among : (m : Memory) (p : Pointer) → EvaluatedAmong G numbers (readCell m p)
   readCell-among m p = at-cell (EvaluatedAmong G numbers) (Among numbers) Evaluated.Stopped (λ c x. x) (locate m p) _
-      (enough 42 refl) (λ i. defined-among (cellOf m i))
+      (enough 42 refl) (enough 50 refl) (λ i. defined-among (cellOf m i))
 
   pub addressOf-among : (f : Found) → FoundAmong numbers f → EvaluatedAmong G numbers (addressOf f)
   addressOf-among f h = on-place (EvaluatedAmong G numbers) (Among numbers) Evaluated.Stopped (λ c x. x) f _ h
@@ -86,7 +76,7 @@ module _ (G : Value → Type 0) (integers : (z : ℤ) → G (Value.Integer z))
       (λ p w. tt))
 
   pub opposite-among : (v : Value) → EvaluatedAmong G numbers (opposite v)
-  opposite-among v = opposite-gives G (Among numbers) (λ z e. integers z) (λ p z g e. pointers _) enough v
+  opposite-among v = opposite-gives G (Among numbers) (λ z e. integers z) (λ p z g e. pointers _) operations v
 
   mutual
     unfolding evaluate
@@ -112,10 +102,7 @@ module _ (G : Value → Type 0) (integers : (z : ℤ) → G (Value.Integer z))
     findPlace-among (temporary t) τ h ρ m = pointedBy-among (held (τ t)) (h t)
 
   queryMemory-among : (q : Query) (m : Memory) (v : Value) → EvaluatedAmong G numbers (queryMemory q m v)
-  queryMemory-among q m v =
-      on-pointer (EvaluatedAmong G numbers) (Among numbers) Evaluated.Stopped (λ c x. x) AnyValue v _
-      (enough 40 refl) tt
-      (λ p u. queried-among q (recordedOf (blockOf m (p .name))) (λ i. isInitialised (cellOf m i)) p)
+  queryMemory-among q m v = queryMemory-gives G (Among numbers) integers pointers operations q m v
 
   pub evaluateTerm-among : (t : Term) (ρ : Variables) (m : Memory) → EvaluatedAmong G numbers (evaluateTerm t ρ m)
   unfolding evaluateTerm

@@ -76,10 +76,10 @@ module _ {A : Type 0} (P : A → Type 0) (C : ℕ → Type 0) (stop : ℕ → A)
   on-test Test.No x y h p q = q
   on-test (Test.Stopped c) x y h p q = stops c h
 
-  pub at-cell : (l : Located) (at : ℕ → A) → C 42 → ((i : ℕ) → P (at i)) → P (atCell at stop l)
-  at-cell (Located.At i) at c g = g i
-  at-cell Located.Dead at c g = stops 42 c
-  at-cell Located.Outside at c g = stops 42 c
+  pub at-cell : (l : Located) (at : ℕ → A) → C 42 → C 50 → ((i : ℕ) → P (at i)) → P (atCell at stop l)
+  at-cell (Located.At i) at d o g = g i
+  at-cell Located.Dead at d o g = stops 42 d
+  at-cell Located.Outside at d o g = stops 50 o
 
 -- J of the state after a change, E of the number of a stop; K of a new block's name and state
 abbrev pub ChangeKeeps : {S : Type 0} → (S → Type 0) → (ℕ → Type 0) → Change S → Type 0
@@ -108,7 +108,7 @@ module _ (J : Memory → Type 0) (D E : ℕ → Type 0) (known : (c : ℕ) → A
   pub storeCell-keeps : (m : Memory) (p : Pointer) (v : Value) → J m
       → ((i : ℕ) → J (setCell m i (Cell.Holds (p .name) v))) → ChangeKeeps J E (storeCell m p v)
   storeCell-keeps m p v j g =
-      at-cell (ChangeKeeps J E) E (λ k. stopped k m) (λ c x. (x, j)) (locate m p) _ (known 42 refl) g
+      at-cell (ChangeKeeps J E) E (λ k. stopped k m) (λ c x. (x, j)) (locate m p) _ (known 42 refl) (known 50 refl) g
 
   pub assigned-keeps : (m : Memory) (f : Found) (e : Evaluated) → J m → Finds H D f → Gives G D e
       → ((p : Pointer) (v : Value) → H p → G v → (i : ℕ) → J (setCell m i (Cell.Holds (p .name) v)))

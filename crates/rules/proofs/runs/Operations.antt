@@ -1,19 +1,22 @@
--- What operators and tests give: a value of which G holds, or a stop with a number of which C does.
+-- What operators, queries and tests give: a value of which G holds, or a stop with a number of which C does.
 use Prim.Native.Nat.{ℕ}
 use mathlib.Core.Bool.{Bool, true, false, cond}
 use mathlib.Core.Path.{_≡_, refl}
 use lib.Dec.{eqb}
 use lib.IntN.{ℤ, pos, natAbs, _+ℤ_, _-ℤ_, _*ℤ_}
 use lib.Signed.{leZ}
+use Rattle.rules.specs.Trees.{Query, valid, initialised, base, offset, blockLength}
 use Rattle.rules.specs.Trees.{Operator, add, subtract, multiply, divide, nearest, atMost, equal, shift}
 use Rattle.rules.specs.Numbers.{inRange, ranged, quotientOf, towardZero, toNearest, divided}
 use Rattle.rules.specs.Numbers.{stopNumber, numbered, truthValue, onIntegers, onPointerAndInteger, onPointers}
 use Rattle.rules.specs.Numbers.{operate, sameInteger, samePointer, tested}
-use Rattle.rules.specs.Evaluation.{operated, opposite, condition}
-use Rattle.rules.specs.Answers.{evaluationEndings}
+use Rattle.rules.specs.Memory.{Memory, blockOf, cellOf, recordedOf, locatedIn}
+use Rattle.rules.specs.Evaluation.{operated, opposite, condition, isInitialised, isValid, initialisedAt, ofLive}
+use Rattle.rules.specs.Evaluation.{queried, queryMemory}
+use Rattle.rules.specs.Answers.{operationEndings}
 use Rattle.rules.proofs.lists.Among.{Among}
-use Rattle.rules.proofs.runs.Keeping.{Gives, TestStops, on-value, on-test}
-use Rattle.rules.specs.Types.{Pointer, Value, Evaluated, Test, Number}
+use Rattle.rules.proofs.runs.Keeping.{AnyValue, Gives, TestStops, on-value, on-pointer, on-test}
+use Rattle.rules.specs.Types.{Pointer, Value, Evaluated, Test, Number, Recorded}
 
 -- a number that was worked out is in range
 abbrev FitsNumber : Number → Type 0
@@ -38,7 +41,7 @@ divided-fits rounded x y = pick (eqb (natAbs y) 0)
 module _ (G : Value → Type 0) (C : ℕ → Type 0) (numbers : (z : ℤ) → inRange z ≡ true → G (Value.Integer z))
     (moves : (p : Pointer) (z : ℤ) → G (Value.Pointer p) → inRange z ≡ true
     → G (Value.Pointer (record { name = p .name; offset = z })))
-    (stops : (c : ℕ) → Among evaluationEndings c → C c) where
+    (stops : (c : ℕ) → Among operationEndings c → C c) where
   stopNumber-gives : (is : ℤ → Evaluated) (n : Number) → FitsNumber n
       → ((z : ℤ) → inRange z ≡ true → Gives G C (is z)) → Gives G C (stopNumber is Evaluated.Stopped n)
   stopNumber-gives is (Number.Is z) h g = g z h
@@ -87,7 +90,7 @@ module _ (G : Value → Type 0) (C : ℕ → Type 0) (numbers : (z : ℤ) → in
   onPointers-gives atMost p q = stops _ refl
   onPointers-gives shift p q = stops _ refl
 
-  operate-gives : (o : Operator) (x y : Value) → G x → Gives G C (operate o x y)
+  pub operate-gives : (o : Operator) (x y : Value) → G x → Gives G C (operate o x y)
   unfolding operate
   operate-gives o Value.Undefined y h = stops _ refl
   operate-gives o (Value.Integer x) Value.Undefined h = stops _ refl
@@ -118,3 +121,27 @@ module _ (G : Value → Type 0) (C : ℕ → Type 0) (numbers : (z : ℤ) → in
   opposite-gives v =
       on-test (Gives G C) C Evaluated.Stopped (λ c x. x) (tested v) _ _ (tested-stops v)
       (truth-gives false) (truth-gives true)
+
+-- where G holds of every defined value
+module _ (G : Value → Type 0) (C : ℕ → Type 0) (integers : (z : ℤ) → G (Value.Integer z))
+    (pointers : (p : Pointer) → G (Value.Pointer p)) (stops : (c : ℕ) → Among operationEndings c → C c) where
+  query-truth : (b : Bool) → Gives G C (truthValue b)
+  query-truth b = truth-gives G C (λ z e. integers z) (λ p z g e. pointers _) stops b
+
+  ofLive-gives : (b : Recorded) (f : ℕ → Value) → ((n : ℕ) → G (f n)) → Gives G C (ofLive b f)
+  ofLive-gives Recorded.Unused f g = stops 47 refl
+  ofLive-gives (Recorded.Live first n) f g = g n
+  ofLive-gives Recorded.Dead f g = stops 47 refl
+
+  pub queried-gives : (q : Query) (b : Recorded) (marked : ℕ → Bool) (p : Pointer) → Gives G C (queried q b marked p)
+  unfolding queried
+  queried-gives valid b marked p = query-truth (isValid (locatedIn b (p .offset)))
+  queried-gives initialised b marked p = query-truth (initialisedAt marked (locatedIn b (p .offset)))
+  queried-gives base b marked p = ofLive-gives b _ (λ n. pointers _)
+  queried-gives offset b marked p = ofLive-gives b _ (λ n. integers _)
+  queried-gives blockLength b marked p = ofLive-gives b _ (λ n. integers _)
+
+  pub queryMemory-gives : (q : Query) (m : Memory) (v : Value) → Gives G C (queryMemory q m v)
+  queryMemory-gives q m v =
+      on-pointer (Gives G C) C Evaluated.Stopped (λ c x. x) AnyValue v _ (stops 40 refl) tt
+      (λ p u. queried-gives q (recordedOf (blockOf m (p .name))) (λ i. isInitialised (cellOf m i)) p)

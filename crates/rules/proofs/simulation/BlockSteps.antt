@@ -2,7 +2,6 @@
 use Prim.Native.Nat.{ℕ, zero, suc}
 use native.Mathlib.Omega.{arith}
 use mathlib.Core.Path.{_≡_, refl, ap, _∙_}
-use mathlib.Core.Logic.{_≢_}
 use lib.IntN.{pos, negsuc}
 use lib.Seq.{getD-set-same}
 use Rattle.rules.specs.Memory.{Memory, recordedOf, blockOf, locate, readCell, setCell, nextName, freeRun, fixed}
@@ -63,9 +62,9 @@ agree-stored : (s : ℕ) (ρ : Variables) (m : Memory) (τ : Temporaries) (f : �
     → let c = stored (withBlock m freeable k first (suc n)) p (pointerTo k 0) r in
     Agree (after s ρ f c) (next (changing s ρ (watching m (mirror m) τ) f c) (recordAfter s ρ))
 agree-stored s ρ m τ f p n k first Located.Dead h g y e t₀ t₂ l =
-    both-end (λ (d : _≢_ {A = ℕ} 42 42). absurd (d refl))
+    both-end (λ d. absurd (d .0 refl))
 agree-stored s ρ m τ f p n k first Located.Outside h g y e t₀ t₂ l =
-    both-end (λ (d : _≢_ {A = ℕ} 42 42). absurd (d refl))
+    both-end (λ d. absurd (d .1 refl))
 agree-stored s ρ m τ f p n k first (Located.At i) h g y e t₀ t₂ l =
     rw (recordAfter-is s ρ (setCell m₁ i (Cell.Holds (p .name) (pointerTo k 0))) (mirror m) (mirror m₁) o₂ τ f
     (pointerTo k 0) back record-block mark) (both-finish refl (full-put τ 1 (pointerTo k 0) l))

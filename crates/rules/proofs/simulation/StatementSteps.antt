@@ -27,12 +27,12 @@ Watching = WatchedState → ℕ → Outcome WatchedState
 abbrev pub Running : Type 0
 Running = Memory → ℕ → Outcome Memory
 
--- what the two runs owe each other: after a new block whose store ends 42 the observation memory lacks that block
+-- what the two runs owe each other: after a new block whose store ends 42 or 50 the observation memory lacks that block
 pub data Agree : Outcome Memory → Outcome WatchedState → Type 0 where
   both-finish : {m : Memory} {o : Observation} {τ : Temporaries} {f : ℕ} → o ≡ mirror m → Full τ
       → Agree (finished m f) (finished (watching m o τ) f)
   both-end : {c s : ℕ} {ρ : Variables} {w w₁ : TreePath} {m : Memory} {o : Observation} {τ : Temporaries} {f : ℕ}
-      → (c ≢ 42 → o ≡ mirror m) → Agree (ended c s ρ w m f) (ended c s ρ w₁ (watching m o τ) f)
+      → ((c ≢ 42) × (c ≢ 50) → o ≡ mirror m) → Agree (ended c s ρ w m f) (ended c s ρ w₁ (watching m o τ) f)
 
 -- a step that does so from every memory
 abbrev pub Agreeing : Running → Watching → Type 0

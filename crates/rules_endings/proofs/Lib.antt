@@ -1,0 +1,5 @@
+-- What an ended outcome tells: its statement, the variables' blocks, and the pointer that was used.
+pub mod KeptEvaluations
+pub mod UsedLaws
+pub mod UsedChanges
+pub mod DeadOrOutside

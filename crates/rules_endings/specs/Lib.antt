@@ -1,0 +1,2 @@
+-- The pointer that a run used where it ended.
+pub mod UsedPointers
