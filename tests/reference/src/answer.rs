@@ -27,6 +27,11 @@ impl Answer {
             free_cells,
         }
     }
+
+    /// A read or store was tried with a pointer that leads to no cell: the ending is 42 or 50.
+    pub const fn led_nowhere(self) -> bool {
+        matches!(self.number, DEAD_BLOCK | OUTSIDE_BLOCK)
+    }
 }
 
 pub const FINISHED: u32 = 0;
@@ -51,7 +56,7 @@ pub const ASSERTION_FALSE: u32 = 33;
 
 pub const WRONG_SORT: u32 = 40;
 pub const UNDEFINED_READ: u32 = 41;
-pub const DEAD_OR_OUTSIDE: u32 = 42;
+pub const DEAD_BLOCK: u32 = 42;
 pub const OVERFLOW: u32 = 43;
 pub const ZERO_DIVISOR: u32 = 44;
 pub const SIZE_BELOW_ONE: u32 = 45;
@@ -59,3 +64,7 @@ pub const BAD_FREE: u32 = 46;
 pub const NOT_LIVE: u32 = 47;
 pub const CONTRADICTION: u32 = 48;
 pub const EMPTY_TEMPORARY: u32 = 49;
+pub const OUTSIDE_BLOCK: u32 = 50;
+
+/// How a plain run may come out, and so the watched run of a translation.
+pub const PLAIN_ENDINGS: [u32; 14] = [0, 30, 31, 32, 33, 40, 41, 42, 43, 44, 45, 46, 47, 50];

@@ -149,6 +149,16 @@ impl Builder {
         self.free(pointer)
     }
 
+    /// let 1 in (1 = new 2; free 1; the rest), where variable 1 points to a dead block.
+    pub fn with_dead_block(&mut self, build: impl FnOnce(&mut Builder) -> u16) -> u16 {
+        let new = self.new_in(1, 2);
+        let free = self.free_variable(1);
+        let rest = build(self);
+        let body = self.sequence(&[new, free, rest]);
+        self.let_in(1, body);
+        rest
+    }
+
     /// A variable takes its own value less 1.
     pub fn decrease(&mut self, variable: u8) -> u16 {
         let place = self.variable(variable);

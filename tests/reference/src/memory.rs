@@ -1,7 +1,8 @@
 //! The execution memory: blocks by name, cells by place, and the byte image of both.
 
 use crate::answer::{
-    BAD_FREE, DEAD_OR_OUTSIDE, NOT_LIVE, NO_CELLS, NO_NAMES, SIZE_BELOW_ONE, UNDEFINED_READ,
+    BAD_FREE, DEAD_BLOCK, NOT_LIVE, NO_CELLS, NO_NAMES, OUTSIDE_BLOCK, SIZE_BELOW_ONE,
+    UNDEFINED_READ,
 };
 use crate::limits::{lowest_run, CELLS, EXECUTION_BYTES, NAMES};
 use crate::value::{Pointer, Value};
@@ -118,7 +119,7 @@ impl Memory {
     }
 
     pub fn read(&self, pointer: Pointer) -> Result<Value, u32> {
-        let place = self.place(pointer).ok_or(DEAD_OR_OUTSIDE)?;
+        let place = self.place(pointer)?;
         match self.contents(place) {
             Value::Undefined => Err(UNDEFINED_READ),
             value => Ok(value),
@@ -126,7 +127,7 @@ impl Memory {
     }
 
     pub fn store(&mut self, pointer: Pointer, value: Value) -> Result<(), u32> {
-        let place = self.place(pointer).ok_or(DEAD_OR_OUTSIDE)?;
+        let place = self.place(pointer)?;
         self.cells[place] = Some(Cell {
             owner: pointer.name,
             value,
@@ -135,13 +136,13 @@ impl Memory {
     }
 
     pub fn valid(&self, pointer: Pointer) -> bool {
-        self.place(pointer).is_some()
+        self.place(pointer).is_ok()
     }
 
     /// "valid and not undefined, otherwise false."
     pub fn initialised(&self, pointer: Pointer) -> bool {
         self.place(pointer)
-            .is_some_and(|place| self.contents(place) != Value::Undefined)
+            .is_ok_and(|place| self.contents(place) != Value::Undefined)
     }
 
     pub fn base(&self, pointer: Pointer) -> Result<Pointer, u32> {
@@ -171,11 +172,13 @@ impl Memory {
         (block.state != State::Dead).then_some(block)
     }
 
-    /// The cell that a pointer into a live block leads to.
-    fn place(&self, pointer: Pointer) -> Option<usize> {
-        let block = self.live(pointer.name)?;
-        let offset = usize::try_from(pointer.offset).ok()?;
-        (offset < block.length).then(|| block.first + offset)
+    /// The cell that a pointer leads to. 42 means "that the block is dead"; 50 is "found after 42".
+    fn place(&self, pointer: Pointer) -> Result<usize, u32> {
+        let block = self.live(pointer.name).ok_or(DEAD_BLOCK)?;
+        match usize::try_from(pointer.offset) {
+            Ok(offset) if offset < block.length => Ok(block.first + offset),
+            _ => Err(OUTSIDE_BLOCK),
+        }
     }
 
     /// "255 block records of 8 bytes .., then 1,024 cells of 16."

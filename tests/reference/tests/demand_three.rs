@@ -1,9 +1,10 @@
 //! Demand 3 on random accepted programs: plain and watched run do not part, and both end where
 //! the run past false assertions says.
 
+use reference::answer::PLAIN_ENDINGS;
 use reference::checker::{check_source, check_target};
 use reference::generator::Generator;
-use reference::host::{inputs, mirror, plain, translated, watched};
+use reference::host::{inputs, is_mirrored, plain, translated, watched};
 use reference::past::{past, Past, Truth};
 use reference::translator::translation;
 use reference::Answer;
@@ -38,7 +39,7 @@ impl Counts {
 
     /// Every ending a translated program can have came at least `times` times.
     fn show_every_ending(&self, times: u32) {
-        for number in [0, 30, 31, 32, 33, 40, 41, 42, 43, 44, 45, 46, 47] {
+        for number in PLAIN_ENDINGS {
             let came = self.endings.get(&number).copied().unwrap_or(0);
             assert!(
                 came >= times,
@@ -46,7 +47,12 @@ impl Counts {
                 self.endings
             );
         }
-        assert_eq!(self.endings.len(), 13, "{:?}", self.endings);
+        assert_eq!(
+            self.endings.len(),
+            PLAIN_ENDINGS.len(),
+            "{:?}",
+            self.endings
+        );
         assert!(
             self.reached > 10_000 && self.reached_false > 200,
             "{}",
@@ -98,9 +104,7 @@ fn demand_three(source: &[u8], inputs: &[u8], fuel: u32, counts: &mut Counts) {
     assert!(memory == watched_memory);
     free_cells_add_up(&memory, answer.free_cells);
     assert!(!matches!(watched_answer.number, 48 | 49));
-    if answer.number != 42 {
-        assert!(observation == mirror(&memory));
-    }
+    assert!(is_mirrored(answer, &memory, &observation));
 
     let past = past(source, inputs, fuel).expect("not refused");
     ends_where_told(&past, answer, &memory);

@@ -1,6 +1,6 @@
 //! What the generators reach: every refusal, every ending, both record orders.
 
-use reference::answer::Answer;
+use reference::answer::{Answer, PLAIN_ENDINGS};
 use reference::checker::{check_source, check_target};
 use reference::generator::order::{child_first, child_first_order, renumbered};
 use reference::generator::Generator;
@@ -52,9 +52,9 @@ fn sources_run_plain_reach_every_ending_and_mostly_finish() {
         let fuel = generator.fuel_for(&source);
         plain(&source, &generator.inputs(), fuel).0
     });
-    reaches(&counts, (30..=33).chain(40..=47), 20);
+    reaches(&counts, PLAIN_ENDINGS, 20);
     reaches(&counts, [0], 4_000);
-    assert_eq!(counts.len(), 13, "{counts:?}");
+    assert_eq!(counts.len(), PLAIN_ENDINGS.len(), "{counts:?}");
 }
 
 #[test]
@@ -65,7 +65,7 @@ fn targets_run_watched_reach_every_ending_and_often_finish() {
         let fuel = generator.fuel_for(&target);
         watched(&target, &generator.inputs(), fuel).0
     });
-    reaches(&counts, (30..=33).chain(40..=49), 3);
+    reaches(&counts, PLAIN_ENDINGS, 3);
     reaches(&counts, 47..=49, 80);
     reaches(&counts, [0], 4_000);
 }

@@ -56,6 +56,14 @@ impl Target {
         self
     }
 
+    /// The temporary takes a pointer, shifted, to a block of 2 cells that is freed before.
+    pub fn dead_block(&mut self, temporary: u8, by: i64) -> &mut Target {
+        let new = self.b.new_in(0, 2);
+        let free = self.b.free_variable(0);
+        self.parts.extend([new, free]);
+        self.inputs(temporary, by)
+    }
+
     pub fn statement(&mut self, kind: u8, mark: u8, c: u16) -> &mut Target {
         self.parts.push(self.b.add(kind, mark, [0, 0, c]));
         self

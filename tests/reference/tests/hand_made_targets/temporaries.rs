@@ -83,7 +83,7 @@ fn a_branch_goes_the_way_of_its_temporary() {
 }
 
 #[test]
-fn place_12_goes_49_40_before_any_b_and_42_at_the_store() {
+fn place_12_goes_49_40_before_any_b_and_42_or_50_at_the_store() {
     let store = |fill: fn(&mut Target) -> &mut Target, divisor: i64| {
         number(|t| {
             fill(t);
@@ -99,7 +99,9 @@ fn place_12_goes_49_40_before_any_b_and_42_at_the_store() {
     assert_eq!([store(|t| t, 0), store(|t| t, 1)], [49, 49]);
     assert_eq!(store(|t| t.integer(7, 0), 0), 40);
     assert_eq!(store(|t| t.inputs(7, 2), 0), 44);
-    assert_eq!(store(|t| t.inputs(7, 2), 1), 42);
+    assert_eq!(store(|t| t.inputs(7, 2), 1), 50);
+    assert_eq!(store(|t| t.dead_block(7, 2), 0), 44);
+    assert_eq!(store(|t| t.dead_block(7, 2), 1), 42);
     assert_eq!(store(|t| t.inputs(7, 1), 1), 0);
 }
 
@@ -114,7 +116,10 @@ fn taking_an_expression_or_address_names_its_faults_in_order() {
     };
     ends(49, take_read_of_t3);
     ends(40, |t| take_read_of_t3(t.integer(3, 9)));
-    ends(42, |t| take_read_of_t3(t.inputs(3, 2)));
+    ends(42, |t| take_read_of_t3(t.dead_block(3, 0)));
+    ends(42, |t| take_read_of_t3(t.dead_block(3, -1)));
+    ends(50, |t| take_read_of_t3(t.inputs(3, 2)));
+    ends(50, |t| take_read_of_t3(t.inputs(3, -1)));
     ends(41, |t| take_read_of_t3(t.new_block(3, 1)));
     ends(0, |t| take_read_of_t3(t.inputs(3, 1)));
 }

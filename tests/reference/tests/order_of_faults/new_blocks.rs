@@ -2,6 +2,7 @@
 
 use crate::programs::{both, ends};
 use reference::builder::Builder;
+use reference::host::{inputs, translated, watched};
 use reference::Answer;
 
 /// let 1 in (1 = turns; while 1 at most 1 do (let 2 in skip; 1 = 1 - 1); the rest): names given
@@ -77,15 +78,35 @@ fn a_let_without_a_name_or_a_cell_names_the_let_with_31_before_30() {
     });
 }
 
-#[test]
-fn a_new_block_whose_store_ends_42_stays() {
-    let mut b = Builder::source();
-    let pointer = b.shifted_variable(0, 2);
+/// A new block of 6 cells for what a variable points to, shifted.
+fn new_at(b: &mut Builder, variable: u8, offset: i64) -> u16 {
+    let pointer = b.shifted_variable(variable, offset);
     let place = b.pointed(pointer);
     let size = b.literal(6);
-    let new = b.take_new(place, size);
-    let (answer, memory) = both(&b, 4);
-    let expected = Answer::ending(42, u32::from(new), 4, 1015);
+    b.take_new(place, size)
+}
+
+/// The new block stands in the execution memory from this cell on, and the observation memory does not know it.
+fn stays(b: &Builder, expected: Answer, name: usize, first: u8) {
+    let (answer, memory) = both(b, 4);
     assert_eq!(answer, expected);
-    assert_eq!(memory[16..24], [2, 0, 3, 0, 6, 0, 0, 0]);
+    let block = 8 * (name - 1)..8 * name;
+    assert_eq!(memory[block.clone()], [2, 0, first, 0, 6, 0, 0, 0]);
+    let target = translated(&b.table()).expect("accepted");
+    let (_, _, observation) = watched(&target, &inputs(&[7, 9]), 4);
+    assert_eq!(observation[block], [0; 8]);
+}
+
+#[test]
+fn a_new_block_whose_store_ends_42_or_50_stays() {
+    for offset in [-1, 2] {
+        let mut b = Builder::source();
+        let new = new_at(&mut b, 0, offset);
+        stays(&b, Answer::ending(50, u32::from(new), 4, 1015), 3, 3);
+    }
+    for offset in [-1, 0, 2] {
+        let mut b = Builder::source();
+        let new = b.with_dead_block(|b| new_at(b, 1, offset));
+        stays(&b, Answer::ending(42, u32::from(new), 4, 1014), 5, 4);
+    }
 }

@@ -1,6 +1,6 @@
 //! Faults at places, at reads and stores, and at frees.
 
-use crate::programs::{both, ends, with_dead_block, zero_divisor};
+use crate::programs::{both, ends, zero_divisor};
 use reference::builder::Builder;
 
 #[test]
@@ -21,9 +21,14 @@ fn a_place_that_is_no_pointer_comes_before_any_b() {
 
 #[test]
 fn a_dead_or_outside_place_is_found_at_the_store_after_b() {
-    for (far, value, expected) in [(0, None, 44), (0, Some(5), 42), (2, None, 44)] {
+    for (far, value, expected) in [
+        (0, None, 44),
+        (0, Some(5), 42),
+        (2, None, 44),
+        (2, Some(5), 42),
+    ] {
         ends(expected, |b| {
-            with_dead_block(b, |b| {
+            b.with_dead_block(|b| {
                 let pointer = b.shifted_variable(1, far);
                 let place = b.pointed(pointer);
                 let value = match value {
@@ -34,7 +39,7 @@ fn a_dead_or_outside_place_is_found_at_the_store_after_b() {
             })
         });
     }
-    for (offset, expected) in [(-1, 42), (0, 0), (1, 0), (2, 42)] {
+    for (offset, expected) in [(-1, 50), (0, 0), (1, 0), (2, 50)] {
         let mut b = Builder::source();
         let pointer = b.shifted_variable(0, offset);
         let place = b.pointed(pointer);
@@ -47,14 +52,14 @@ fn a_dead_or_outside_place_is_found_at_the_store_after_b() {
 #[test]
 fn a_read_of_a_dead_block_is_42_and_its_address_asks_nothing() {
     ends(42, |b| {
-        with_dead_block(b, |b| {
+        b.with_dead_block(|b| {
             let place = b.variable(0);
             let value = b.read_pointed(1);
             b.take(place, value)
         })
     });
     ends(0, |b| {
-        with_dead_block(b, |b| {
+        b.with_dead_block(|b| {
             let place = b.variable(0);
             let pointer = b.read_variable(1);
             let pointed = b.pointed(pointer);
@@ -83,7 +88,7 @@ fn a_free_takes_a_pointer_to_the_first_cell_of_a_live_freeable_block() {
         b.let_in(1, free);
         free
     });
-    ends(46, |b| with_dead_block(b, |b| b.free_variable(1)));
+    ends(46, |b| b.with_dead_block(|b| b.free_variable(1)));
     for (offset, expected) in [(0, 0), (1, 46), (2, 46), (-1, 46)] {
         let mut b = Builder::source();
         let new = b.new_in(0, 2);

@@ -42,13 +42,3 @@ pub fn with_expression(b: &mut Builder, build: impl FnOnce(&mut Builder) -> u16)
     b.let_in(1, take);
     take
 }
-
-/// let 1 in (1 = new 2; free 1; the rest), where variable 1 points to a dead block.
-pub fn with_dead_block(b: &mut Builder, build: impl FnOnce(&mut Builder) -> u16) -> u16 {
-    let new = b.new_in(1, 2);
-    let free = b.free_variable(1);
-    let rest = build(b);
-    let body = b.sequence(&[new, free, rest]);
-    b.let_in(1, body);
-    rest
-}
