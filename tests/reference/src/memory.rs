@@ -28,10 +28,12 @@ pub struct Cell {
 }
 
 /// The block of name n stands at n - 1, so names come "in rising order and never again".
-#[derive(Debug, Clone, PartialEq, Eq)]
+#[derive(Debug, Clone)]
 pub struct Memory {
     blocks: Vec<Block>,
     cells: Vec<Option<Cell>>,
+    /// Kept for the one who asks why a run ended; the memory is the same without it.
+    astray: std::cell::Cell<Option<Pointer>>,
 }
 
 impl Memory {
@@ -39,6 +41,7 @@ impl Memory {
         Memory {
             blocks: Vec::new(),
             cells: vec![None; CELLS],
+            astray: std::cell::Cell::new(None),
         }
     }
 
@@ -60,6 +63,11 @@ impl Memory {
 
     pub fn cells(&self) -> &[Option<Cell>] {
         &self.cells
+    }
+
+    /// The pointer of the last read or store that led to no cell, as it was when tried.
+    pub fn astray(&self) -> Option<Pointer> {
+        self.astray.get()
     }
 
     pub fn free_cells(&self) -> u32 {
@@ -119,7 +127,7 @@ impl Memory {
     }
 
     pub fn read(&self, pointer: Pointer) -> Result<Value, u32> {
-        let place = self.place(pointer)?;
+        let place = self.tried(pointer)?;
         match self.contents(place) {
             Value::Undefined => Err(UNDEFINED_READ),
             value => Ok(value),
@@ -127,7 +135,7 @@ impl Memory {
     }
 
     pub fn store(&mut self, pointer: Pointer, value: Value) -> Result<(), u32> {
-        let place = self.place(pointer)?;
+        let place = self.tried(pointer)?;
         self.cells[place] = Some(Cell {
             owner: pointer.name,
             value,
@@ -179,6 +187,12 @@ impl Memory {
             Ok(offset) if offset < block.length => Ok(block.first + offset),
             _ => Err(OUTSIDE_BLOCK),
         }
+    }
+
+    /// The cell of a read or store, whose pointer is remembered where there is none.
+    fn tried(&self, pointer: Pointer) -> Result<usize, u32> {
+        let place = self.place(pointer);
+        place.inspect_err(|_| self.astray.set(Some(pointer)))
     }
 
     /// "255 block records of 8 bytes .., then 1,024 cells of 16."

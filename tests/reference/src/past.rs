@@ -24,7 +24,7 @@ pub struct Reached {
     pub fuel: u32,
 }
 
-#[derive(Debug, Clone, PartialEq, Eq)]
+#[derive(Debug, Clone)]
 pub struct Past {
     /// Every assertion reached, in the order of arrival.
     pub reached: Vec<Reached>,

@@ -10,6 +10,7 @@ use crate::predicates::holds;
 use crate::record::Record;
 use crate::room::with_room;
 use crate::statements::{run, Own};
+use crate::value::Pointer;
 
 /// Statement 48, stopping at the first assertion that is false.
 struct Asserting;
@@ -36,6 +37,13 @@ pub fn run_plain(table: &[u8], inputs: &[u8], fuel: u32, memory: &mut [u8]) -> A
     let (answer, after) = run_accepted(&records, &inputs, fuel, &mut Asserting);
     memory.copy_from_slice(&after.image());
     answer
+}
+
+/// The pointer with which a plain run that ended 42 or 50 tried its last read or store.
+pub fn used_pointer(table: &[u8], inputs: &[u8], fuel: u32) -> Option<Pointer> {
+    let (records, inputs) = admit(table, inputs, Language::Source).ok()?;
+    let (_, after) = run_accepted(&records, &inputs, fuel, &mut Asserting);
+    after.astray()
 }
 
 /// The records and inputs of a run, or its refusal by 1–9.

@@ -121,6 +121,13 @@ pub fn run_watched(
     answer
 }
 
+/// The pointer with which a watched run that ended 42 or 50 tried its last read or store.
+pub fn used_pointer(table: &[u8], inputs: &[u8], fuel: u32) -> Option<Pointer> {
+    let (records, inputs) = admit(table, inputs, Language::Target).ok()?;
+    let (_, after, _) = watch_accepted(&records, &inputs, fuel);
+    after.astray()
+}
+
 /// Runs an accepted target table from its cleared start to its ending.
 pub fn watch_accepted(
     records: &[Record],
