@@ -47,6 +47,8 @@ pub struct Grower<'random> {
     pub in_target: bool,
     /// Percent of choices that ask nothing of what is held.
     pub wild: u64,
+    /// Percent of numbers and places that are looked for where no cell is.
+    pub astray: u64,
     /// Beyond this many records only small parts are grown.
     pub limit: usize,
 }
@@ -62,6 +64,7 @@ impl<'random> Grower<'random> {
             temporaries: [Holds::Nothing; TEMPORARIES],
             in_target,
             wild,
+            astray: 0,
             limit,
         }
     }
@@ -92,6 +95,10 @@ impl<'random> Grower<'random> {
     pub fn integer(&mut self, depth: u32) -> u16 {
         if self.random.chance(self.wild) {
             return self.any_expression(depth);
+        }
+        if self.goes_astray() {
+            let place = self.place_astray();
+            return self.builder.read(place);
         }
         if depth == 0 || self.full() {
             return self.number();

@@ -1,5 +1,6 @@
 //! Seeded tables, inputs and buffers for comparing one implementation with another.
 
+mod astray;
 pub mod damage;
 mod divisions;
 mod grow;
@@ -54,7 +55,7 @@ impl Generator {
 
     pub fn child_first_source(&mut self) -> Vec<u8> {
         loop {
-            let mut grown = self.grown(false);
+            let mut grown = self.grown(false, 0);
             if self.random.chance(4) {
                 let size = SOURCE_RECORDS - self.random.index(3);
                 pad(&mut grown, size);
@@ -82,7 +83,7 @@ impl Generator {
 
     pub fn hand_made_target(&mut self) -> Vec<u8> {
         loop {
-            let mut grown = self.grown(true);
+            let mut grown = self.grown(true, 0);
             if self.random.chance(1) {
                 let size = TARGET_RECORDS - self.random.index(3);
                 pad(&mut grown, size);
@@ -186,8 +187,9 @@ impl Generator {
     }
 
     /// The records of a program as it grew, in child-first order.
-    fn grown(&mut self, in_target: bool) -> Vec<Record> {
+    fn grown(&mut self, in_target: bool, astray: u64) -> Vec<Record> {
         let mut grower = Grower::new(&mut self.random, in_target);
+        grower.astray = astray;
         grower.program();
         grower.builder.records().to_vec()
     }

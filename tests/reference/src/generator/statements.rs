@@ -83,8 +83,12 @@ impl Grower<'_> {
         let some = self.variable_that(|holds| holds.is_block() || holds == Holds::Inputs);
         let variable = some.unwrap_or(0);
         let far = if self.random.chance(8) { 1 } else { 0 };
-        let pointer = self.builder.shifted_variable(variable, far);
-        let place = self.builder.pointed(pointer);
+        let place = if self.goes_astray() {
+            self.place_astray()
+        } else {
+            let pointer = self.builder.shifted_variable(variable, far);
+            self.builder.pointed(pointer)
+        };
         let expression = self.integer(2);
         if let Holds::Block { length, .. } = self.holds(variable) {
             self.set_holds(
@@ -114,6 +118,8 @@ impl Grower<'_> {
         let variable = some.unwrap_or(0);
         let place = if self.random.chance(8) {
             self.any_place(2)
+        } else if self.goes_astray() {
+            self.place_astray()
         } else {
             self.builder.variable(variable)
         };
@@ -225,6 +231,9 @@ impl Grower<'_> {
         let mut parts = Vec::new();
         if self.in_target && self.random.chance(70) {
             parts.push(self.record_let(variable));
+        }
+        if self.astray > 0 && self.random.chance(50) {
+            parts.push(self.new_and_freed(variable));
         }
         match self.random.below(10) {
             0..=3 => parts.push(self.take_integer()),
