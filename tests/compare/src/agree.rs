@@ -2,7 +2,7 @@
 //! every byte of every lent buffer are equal. Each function returns the answer's number.
 
 use crate::lent::Lent;
-use crate::library;
+use crate::{host, library};
 use reference::generator::Case;
 use reference::{checker, plain, translator, watched, Answer};
 use std::fmt::Arguments;
@@ -66,6 +66,19 @@ pub fn run_plain(case: &Case, margin: usize, what: Arguments) -> u32 {
     table.assert_is(&case.table, "table", what);
     inputs.assert_is(&case.inputs, "inputs", what);
     memory.assert_is(&expected, "memory", what);
+    answer.number
+}
+
+/// The pointer with which the plain run of an unrefused case ended 42 or 50, worked out again by the C host; none at
+/// every other ending.
+pub fn used_pointer(case: &Case, margin: usize, what: Arguments) -> u32 {
+    let table = Lent::new(&case.table, margin);
+    let mut memory = Lent::new(&case.memory, margin);
+    let answer = library::run_plain(table.bytes(), &case.inputs, case.fuel, memory.bytes_mut());
+    let worked_out = host::used_pointer(table.bytes(), answer, memory.bytes());
+    let remembered = plain::used_pointer(&case.table, &case.inputs, case.fuel);
+    assert_eq!(worked_out, remembered, "{what}: {answer:?}");
+    assert_eq!(remembered.is_some(), answer.led_nowhere(), "{what}");
     answer.number
 }
 

@@ -1,12 +1,24 @@
-//! The compiled library beside the second implementation.
+//! The compiled library, and a function of the C host, beside the second implementation.
 
 pub mod agree;
+pub mod host;
 pub mod lent;
 pub mod library;
 
-use reference::generator::Generator;
+use reference::generator::{Case, Generator};
 use std::collections::BTreeSet;
 use std::fmt::Arguments;
+
+/// The table with inputs, fuel and memories that are not refused.
+pub fn unrefused(table: Vec<u8>, generator: &mut Generator) -> Case {
+    Case {
+        fuel: generator.fuel_for(&table),
+        table,
+        inputs: generator.inputs(),
+        memory: generator.memory(),
+        observation: generator.observation(),
+    }
+}
 
 /// Compares on seeded cases and returns the numbers that came.
 pub fn numbers<Found>(

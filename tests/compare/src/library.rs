@@ -4,7 +4,7 @@ use reference::Answer;
 
 #[repr(C)]
 #[derive(Clone, Copy)]
-struct Returned {
+pub(crate) struct Returned {
     number: u32,
     record: u32,
     fuel: u32,
@@ -40,6 +40,17 @@ extern "C" {
         observation: *mut u8,
         observation_len: usize,
     ) -> Returned;
+}
+
+impl From<Answer> for Returned {
+    fn from(answer: Answer) -> Returned {
+        Returned {
+            number: answer.number,
+            record: answer.record,
+            fuel: answer.fuel,
+            free_cells: answer.free_cells,
+        }
+    }
 }
 
 fn answer(returned: Returned) -> Answer {

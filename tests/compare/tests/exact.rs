@@ -2,7 +2,7 @@
 //! these cases under one, which then knows every byte that a call may touch.
 
 use compare::lent::EXACT;
-use compare::{agree, numbers};
+use compare::{agree, numbers, unrefused};
 use reference::translator::translation;
 
 const CASES: u64 = 300;
@@ -40,5 +40,14 @@ fn plain_run() {
 fn watched_run() {
     numbers(54, CASES, |generator, what| {
         [agree::run_watched(&generator.target_case(), EXACT, what)]
+    });
+}
+
+/// The C host's function is told no length of the table.
+#[test]
+fn used_pointer() {
+    numbers(55, CASES, |generator, what| {
+        let case = unrefused(generator.astray_source(), generator);
+        [agree::used_pointer(&case, EXACT, what)]
     });
 }

@@ -1,32 +1,31 @@
 //! The compiled plain run answers and leaves the memory as the second implementation does.
 
 use compare::lent::GUARDED;
-use compare::{agree, numbers};
-use reference::generator::{Case, Generator};
+use compare::{agree, numbers, unrefused};
+use reference::answer::PLAIN_ENDINGS;
+use reference::generator::Generator;
 use std::collections::BTreeSet;
 
 const CASES: u64 = 100_000;
 
-/// An accepted program with inputs, fuel and a memory that are not refused.
-fn accepted(generator: &mut Generator) -> Case {
-    let table = generator.accepted_source();
-    let fuel = generator.fuel_for(&table);
-    Case {
-        fuel,
-        table,
-        inputs: generator.inputs(),
-        memory: generator.memory(),
-        observation: Vec::new(),
-    }
+/// The endings of accepted programs.
+fn compare(make: fn(&mut Generator) -> Vec<u8>, seed: u64) -> BTreeSet<u32> {
+    numbers(seed, CASES, |generator, what| {
+        let case = unrefused(make(generator), generator);
+        [agree::run_plain(&case, GUARDED, what)]
+    })
 }
 
 #[test]
 fn accepted_programs_reach_every_ending() {
-    let found = numbers(31, CASES, |generator, what| {
-        [agree::run_plain(&accepted(generator), GUARDED, what)]
-    });
-    let endings = BTreeSet::from([0, 30, 31, 32, 33, 40, 41, 42, 43, 44, 45, 46, 47]);
-    assert_eq!(found, endings);
+    let found = compare(Generator::accepted_source, 31);
+    assert_eq!(found, BTreeSet::from(PLAIN_ENDINGS));
+}
+
+#[test]
+fn programs_that_go_astray() {
+    let found = compare(Generator::astray_source, 33);
+    assert_eq!(found, BTreeSet::from(PLAIN_ENDINGS));
 }
 
 #[test]

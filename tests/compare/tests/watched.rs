@@ -1,9 +1,10 @@
 //! The compiled watched run answers and leaves both memories as the second implementation does.
 
 use compare::lent::GUARDED;
-use compare::{agree, library, numbers};
-use reference::generator::{Case, Generator};
-use reference::host::mirror;
+use compare::{agree, library, numbers, unrefused};
+use reference::answer::PLAIN_ENDINGS;
+use reference::generator::Generator;
+use reference::host::is_mirrored;
 use reference::limits::{EXECUTION_BYTES, OBSERVATION_BYTES, SOURCE_RECORDS};
 use std::collections::BTreeSet;
 
@@ -11,42 +12,42 @@ const CASES: u64 = 50_000;
 
 type Make = fn(&mut Generator) -> Vec<u8>;
 
-/// A target table with inputs, fuel and memories that are not refused.
+/// The endings of accepted targets.
 fn compare(make: Make, seed: u64) -> BTreeSet<u32> {
     numbers(seed, CASES, |generator, what| {
-        let table = make(generator);
-        let case = Case {
-            fuel: generator.fuel_for(&table),
-            table,
-            inputs: generator.inputs(),
-            memory: generator.memory(),
-            observation: generator.observation(),
-        };
+        let case = unrefused(make(generator), generator);
         [agree::run_watched(&case, GUARDED, what)]
     })
 }
 
-fn endings(last: u32) -> BTreeSet<u32> {
-    [0].into_iter().chain(30..=33).chain(40..=last).collect()
+/// 48 and 49 are a target's own.
+fn target_endings() -> BTreeSet<u32> {
+    PLAIN_ENDINGS.into_iter().chain([48, 49]).collect()
 }
 
 /// "From translated programs 48 and 49 never come."
 #[test]
 fn translations_reach_every_ending_of_a_plain_run() {
     let found = compare(|generator| generator.translated_target(), 41);
-    assert_eq!(found, endings(47));
+    assert_eq!(found, BTreeSet::from(PLAIN_ENDINGS));
 }
 
 #[test]
 fn hand_made_targets_reach_every_ending() {
     let found = compare(|generator| generator.hand_made_target(), 42);
-    assert_eq!(found, endings(49));
+    assert_eq!(found, target_endings());
+}
+
+#[test]
+fn targets_that_go_astray() {
+    let found = compare(|generator| generator.astray_target(), 47);
+    assert_eq!(found, target_endings());
 }
 
 #[test]
 fn changed_translations() {
     let found = compare(|generator| generator.changed_target(), 43);
-    assert!(found.is_subset(&endings(49)), "reached {found:?}");
+    assert!(found.is_subset(&target_endings()), "reached {found:?}");
 }
 
 /// Damaged tables, wrong inputs, and memories of wrong lengths.
@@ -83,7 +84,7 @@ fn the_order_of_refusals() {
 }
 
 /// The library alone: the watched run of its own translation is its plain run over again, and the
-/// observation memory mirrors the execution memory at every ending but 42.
+/// observation memory mirrors the execution memory at every ending but 42 and 50.
 #[test]
 fn both_runs_of_the_library_agree() {
     let mut target = vec![0; SOURCE_RECORDS * 14 * 16];
@@ -100,9 +101,10 @@ fn both_runs_of_the_library_agree() {
         let other = library::run_watched(target, &inputs, fuel, &mut watched, &mut observation);
         assert_eq!(other, answer, "{what}");
         assert!(watched == plain, "{what}: the memories part");
-        if answer.number != 42 {
-            assert!(observation == mirror(&plain), "{what}: no mirror");
-        }
+        assert!(
+            is_mirrored(answer, &plain, &observation),
+            "{what}: no mirror"
+        );
         [answer.number]
     });
 }
