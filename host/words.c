@@ -26,7 +26,7 @@ static const struct {
     {RECORDER_ASSERTION_FALSE, "assertion false"},
     {RECORDER_WRONG_SORT, "wrong sort of value"},
     {RECORDER_UNDEFINED_READ, "undefined cell read"},
-    {RECORDER_NO_CELL, "cell in a dead block or outside"},
+    {RECORDER_DEAD_BLOCK, "cell of a dead block"},
     {RECORDER_OVERFLOW, "overflow"},
     {RECORDER_ZERO_DIVISOR, "zero divisor"},
     {RECORDER_BAD_SIZE, "size below 1"},
@@ -34,6 +34,7 @@ static const struct {
     {RECORDER_NOT_LIVE, "base, offset or length of a block not live"},
     {RECORDER_CONTRADICTION, "call that contradicts the observation memory"},
     {RECORDER_EMPTY_TEMPORARY, "empty temporary"},
+    {RECORDER_OUTSIDE_BLOCK, "offset outside a live block"},
 };
 
 static const char *in_words(uint32_t number)

@@ -122,7 +122,7 @@ enum recorder_number {
     RECORDER_ASSERTION_FALSE = 33,
     RECORDER_WRONG_SORT = 40,      /* wrong sort of value */
     RECORDER_UNDEFINED_READ = 41,  /* undefined cell read */
-    RECORDER_NO_CELL = 42,         /* cell in a dead block or outside */
+    RECORDER_DEAD_BLOCK = 42,      /* read or store in a dead block */
     RECORDER_OVERFLOW = 43,
     RECORDER_ZERO_DIVISOR = 44,
     RECORDER_BAD_SIZE = 45,        /* size below 1 */
@@ -131,7 +131,10 @@ enum recorder_number {
 
     /* Endings of a watched run only, and never of a translation's. */
     RECORDER_CONTRADICTION = 48,   /* call that contradicts the observation memory's record */
-    RECORDER_EMPTY_TEMPORARY = 49
+    RECORDER_EMPTY_TEMPORARY = 49,
+
+    /* An ending of both runs again, found after 42. */
+    RECORDER_OUTSIDE_BLOCK = 50    /* read or store at an offset outside a live block */
 };
 
 /* Checks a source or a target table: 0 with record 0 where it is accepted.
@@ -149,18 +152,18 @@ recorder_answer recorder_translate(const uint8_t *table, size_t table_len, uint8
 /* Runs a source table on 1 to 256 inputs, with fuel for its while tests: one unit goes for each. The run clears the
  * memory first, so what it held counts for nothing; afterwards it is as the run left it at its ending. Operator 5 divides
  * to the nearest whole number, and an exact half goes to the even one: 5 by 2 is 2, 7 by 2 is 4.
- * Refusals: 1 to 8, 9, then 21. Endings: 0, 30 to 33, 40 to 47.
+ * Refusals: 1 to 8, 9, then 21. Endings: 0, 30 to 33, 40 to 47, 50.
  */
 recorder_answer recorder_run_plain(const uint8_t *table, size_t table_len, const uint8_t *inputs, size_t inputs_len,
                                    uint32_t fuel, uint8_t *memory, size_t memory_len);
 
 /* Runs a target table, a translation or any other, on both memories, which it clears first.
- * Refusals: 1 to 7, 9, 21, then 22. Endings: 0, 30 to 33, 40 to 49.
+ * Refusals: 1 to 7, 9, 21, then 22. Endings: 0, 30 to 33, 40 to 50.
  *
  * With the translation of an accepted source table, equal inputs and equal fuel the answer and the execution memory are
- * those of the plain run. At every ending but 42 the observation memory mirrors the execution memory: block states 0,
- * 1, 2, 3 there are 0, 1, 1, 2 here with equal first and length, and a mark is 1 where the cell holds an integer or a
- * pointer.
+ * those of the plain run. At every ending but 42 and 50 the observation memory mirrors the execution memory: block
+ * states 0, 1, 2, 3 there are 0, 1, 1, 2 here with equal first and length, and a mark is 1 where the cell holds an
+ * integer or a pointer. A new block whose own store ends 42 or 50 stands in the execution memory alone.
  */
 recorder_answer recorder_run_watched(const uint8_t *table, size_t table_len, const uint8_t *inputs, size_t inputs_len,
                                      uint32_t fuel, uint8_t *memory, size_t memory_len, uint8_t *observation,
