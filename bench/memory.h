@@ -54,11 +54,17 @@ static inline cell *cell_at(const machine *m, value p)
     return live(b) && (uint64_t)p.number < b->length ? &m->memory->cells[b->first + p.number] : NULL;
 }
 
+/* The ending where a pointer leads to no cell. Asked only then, so that cell_at stays one test. */
+static inline uint32_t no_cell(const machine *m, value p)
+{
+    return live(&m->memory->blocks[p.name - 1]) ? 50 : 42;
+}
+
 static inline value load(const machine *m, value p)
 {
     const cell *c = cell_at(m, p);
     if (!c)
-        return stopped(42);
+        return stopped(no_cell(m, p));
     if (c->kind == UNDEFINED)
         return stopped(41);
     return (value){c->kind, c->name, c->number};
@@ -68,7 +74,7 @@ static inline uint32_t store(machine *m, value p, value v)
 {
     cell *c = cell_at(m, p);
     if (!c)
-        return 42;
+        return no_cell(m, p);
     *c = (cell){.kind = v.kind, .owner = p.name, .name = v.name, .number = v.number};
     return 0;
 }
