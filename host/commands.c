@@ -100,7 +100,7 @@ int run_command(const struct arguments *given)
     recorder_answer answer = run_plain(given);
     if (!is_refusal(answer))
         print_execution_memory(plain_memory);
-    return tell_run("plain run", answer);
+    return tell_run("plain run", answer, read_in.bytes, plain_memory);
 }
 
 int watch_command(const struct arguments *given)
@@ -122,18 +122,18 @@ int watch_command(const struct arguments *given)
         print_execution_memory(watched_memory);
         print_observation_memory(observation);
     }
-    return tell_run("watched run", answer);
+    return tell_run("watched run", answer, given->target ? NULL : read_in.bytes, watched_memory);
 }
 
 /* Both runs of the table and of its translation, which must not part. */
 static int run_both(const struct arguments *given, size_t target_length)
 {
     recorder_answer plain = run_plain(given);
-    tell_run("plain run", plain);
+    tell_run("plain run", plain, read_in.bytes, plain_memory);
     if (is_refusal(plain))
         return (int)plain.number;
     recorder_answer watched = run_watched(target, target_length, given);
-    tell_run("watched run", watched);
+    tell_run("watched run", watched, read_in.bytes, watched_memory);
     printf("\n");
     print_execution_memory(plain_memory);
     print_observation_memory(observation);

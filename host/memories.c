@@ -89,6 +89,11 @@ static const uint8_t *block_of(const uint8_t *memory, size_t name)
     return memory + (name - 1) * RECORDER_BLOCK_BYTES;
 }
 
+size_t block_length(const uint8_t *memory, size_t name)
+{
+    return number_from_bytes(block_of(memory, name) + 4, 2);
+}
+
 static void print_block(const struct layout *layout, const uint8_t *memory, size_t name)
 {
     const uint8_t *block = block_of(memory, name);
@@ -96,7 +101,7 @@ static void print_block(const struct layout *layout, const uint8_t *memory, size
     if (state == NULL)
         return;
     size_t first = number_from_bytes(block + 2, 2);
-    size_t end = first + number_from_bytes(block + 4, 2);
+    size_t end = first + block_length(memory, name);
     /* No run leaves a block that passes the end; nothing beyond it is read all the same. */
     if (first >= end || end > RECORDER_CELLS) {
         printf("  block %zu: %s, not within the memory\n", name, state);

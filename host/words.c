@@ -3,6 +3,9 @@
 #include <inttypes.h>
 #include <stdio.h>
 
+#include "memories.h"
+#include "used_pointer.h"
+
 static const struct {
     uint32_t number;
     const char *words;
@@ -61,11 +64,28 @@ int tell_refusal(const char *what, recorder_answer answer)
     return (int)answer.number;
 }
 
-int tell_run(const char *what, recorder_answer answer)
+/* Prints why a run ended: where its table is known, with the pointer that 42 and 50 come from. */
+static void print_reason(recorder_answer answer, const uint8_t *table, const uint8_t *memory)
+{
+    struct used_pointer used;
+    if (table == NULL || !used_pointer(table, answer, memory, &used)) {
+        printf("%s", in_words(answer.number));
+    } else if (answer.number == RECORDER_DEAD_BLOCK) {
+        printf("block %" PRIu32 " is dead; its offset %" PRId64 " was used", used.name, used.offset);
+    } else {
+        size_t length = block_length(memory, used.name);
+        printf("offset %" PRId64 " is outside block %" PRIu32 ", which has %zu cell%s", used.offset, used.name, length,
+               length == 1 ? "" : "s");
+    }
+}
+
+int tell_run(const char *what, recorder_answer answer, const uint8_t *table, const uint8_t *memory)
 {
     if (is_refusal(answer))
         return tell_refusal(what, answer);
-    printf("%s: ending %" PRIu32 " (%s)", what, answer.number, in_words(answer.number));
+    printf("%s: ending %" PRIu32 " (", what, answer.number);
+    print_reason(answer, table, memory);
+    printf(")");
     if (answer.number != RECORDER_DONE)
         printf(" at statement %" PRIu32, answer.record);
     printf(", fuel left %" PRIu32 ", free cells %" PRIu32 "\n", answer.fuel, answer.free_cells);
