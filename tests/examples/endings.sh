@@ -28,6 +28,30 @@ diff tests/examples/P1.listing <("$program" list "$scratch/P1")
 expect 0 'accepted' check --target "$scratch/target"
 expect 33 'at statement 29' watch --target "$scratch/target"
 
+# told NUMBER WORDS EXAMPLE WORD..: both runs, and the demo of both, tell the ending of a source table in these words.
+told() {
+    local run
+    for run in run watch; do
+        expect "$1" " run: ending $1 ($2) at statement " "$run" "examples/$3.txt" "${@:4}"
+    done
+    shows "plain run: ending $1 ($2) at statement " demo "examples/$3.txt" "${@:4}"
+    shows "watched run: ending $1 ($2) at statement " demo "examples/$3.txt" "${@:4}"
+}
+told 42 'block 4 is dead; its offset 0 was used' read-after-free
+told 42 'block 4 is dead; its offset 0 was used' read-after-free-asserted
+told 42 'block 4 is dead; its offset 1 was used' store-after-free
+told 50 'offset 3 is outside block 5, which has 3 cells' one-past-the-end
+told 50 'offset 2 is outside block 2, which has 2 cells' one-past-the-end-asserted
+told 50 'offset 2 is outside block 2, which has 1 cell' one-past-the-end-asserted --inputs 7
+told 50 'offset -1 is outside block 2, which has 2 cells' offset-below-zero
+told 50 'offset -1 is outside block 2, which has 2 cells' offset-below-zero-asserted
+
+# A target table's temporaries stand in no buffer, so that it is told in general words, a translation too.
+"$program" translate examples/read-after-free.txt "$scratch/dead" >"$scratch/said" || fail "translate"
+expect 42 'ending 42 (cell of a dead block) at statement 19' watch --target "$scratch/dead"
+"$program" translate examples/one-past-the-end.txt "$scratch/outside" >"$scratch/said" || fail "translate"
+expect 50 'ending 50 (offset outside a live block) at statement 18' watch --target "$scratch/outside"
+
 # What the runs left in the memories.
 shows $'  block 2: live and fixed\n    cell 1: 4\n    cell 2: -4\n    cell 3: 2\n    cell 4: -2\n    cell 5: 0\n' \
     run examples/P2.txt --inputs 0,0,0,0,0
