@@ -150,8 +150,8 @@ recorder_answer recorder_check_target(const uint8_t *table, size_t table_len);
 recorder_answer recorder_translate(const uint8_t *table, size_t table_len, uint8_t *out, size_t out_len);
 
 /* Runs a source table on 1 to 256 inputs, with fuel for its while tests: one unit goes for each. The run clears the
- * memory first, so what it held counts for nothing; afterwards it is as the run left it at its ending. Operator 5 divides
- * to the nearest whole number, and an exact half goes to the even one: 5 by 2 is 2, 7 by 2 is 4.
+ * memory first, so what it held counts for nothing; afterwards it is as the run left it at its ending. Operator 5
+ * divides to the nearest whole number, and an exact half goes to the even one: 5 by 2 is 2, 7 by 2 is 4.
  * Refusals: 1 to 8, 9, then 21. Endings: 0, 30 to 33, 40 to 47, 50.
  */
 recorder_answer recorder_run_plain(const uint8_t *table, size_t table_len, const uint8_t *inputs, size_t inputs_len,

@@ -52,6 +52,21 @@ expect 42 'ending 42 (cell of a dead block) at statement 19' watch --target "$sc
 "$program" translate examples/one-past-the-end.txt "$scratch/outside" >"$scratch/said" || fail "translate"
 expect 50 'ending 50 (offset outside a live block) at statement 18' watch --target "$scratch/outside"
 
+# A new block whose own store is turned away: the execution memory alone knows it.
+unrecorded=$(table unrecorded <<'END'
+1 10 0 0 0 0 0   # v0
+2  2 0 1 0 0 0   # value of v0
+3  1 0 0 0 0 2   # 2
+4  5 0 2 3 0 0   # v0 + 2
+5 11 0 4 0 0 0   # the place *(v0 + 2)
+6  1 0 0 0 0 1   # 1
+7 42 0 5 6 0 0   # *(v0 + 2) = new 1
+END
+)
+expect 50 'ending 50 (offset 2 is outside block 2, which has 2 cells) at statement 7' watch "$unrecorded"
+shows $'  block 3: live and freeable\n    cell 3: undefined\n  dead names: none\n' watch "$unrecorded"
+shows $'  block 2: live\n    marks 1 to 2: initialised\n  dead names: none\n' watch "$unrecorded"
+
 # What the runs left in the memories.
 shows $'  block 2: live and fixed\n    cell 1: 4\n    cell 2: -4\n    cell 3: 2\n    cell 4: -2\n    cell 5: 0\n' \
     run examples/P2.txt --inputs 0,0,0,0,0
