@@ -27,7 +27,7 @@ exists() {
     */*) [ -f "crates/${name%%/*}/must-fail/${name#*/}.edit" ] ;;
     [A-Z]*.*)
         grep -qE "^ *((pub|abbrev|unfoldable|record|data) )*${name#*.} *[:(]" \
-            "crates/rules/specs/${name%%.*}.antt" crates/rules*/proofs{,/*}/"${name%%.*}.antt"
+            crates/rules*/specs/"${name%%.*}.antt" crates/rules*/proofs{,/*}/"${name%%.*}.antt"
         ;;
     [A-Z]*)
         compgen -G "crates/rules*/proofs/$name.antt" >/dev/null ||
@@ -76,7 +76,7 @@ theorems_stand() {
 # every_module_named PAGE DEFINITIONS: each section names a definition, and each module of the definitions has one named.
 every_module_named() {
     local file module section
-    for file in crates/rules/specs/*.antt; do
+    for file in crates/rules*/specs/*.antt; do
         module=$(basename "$file" .antt)
         [ "$module" = Lib ] || [ "$module" = Types ] || grep -q "^$module\." <<<"$2" || miss "$1 names nothing of $module"
     done
