@@ -21,11 +21,6 @@ recordedOf (Block.Fixed first n) = Recorded.Live first n
 recordedOf (Block.Freeable first n) = Recorded.Live first n
 recordedOf Block.Dead = Recorded.Dead
 
-abbrev pub isLive : Recorded → Bool
-isLive Recorded.Unused = false
-isLive (Recorded.Live first n) = true
-isLive Recorded.Dead = false
-
 -- a list's element by a name: names count from 1, and d stands for a name that has no record
 abbrev pub named : {A : Type 0} → List A → ℕ → A → A
 named l zero d = d

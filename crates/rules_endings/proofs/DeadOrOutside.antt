@@ -1,208 +1,188 @@
--- 02 §2: a run ends 42 only where the block of the pointer that it used is not live, and 50 only where it is live and
--- the offset is negative or not below its length, in the memory that the run leaves.
-use Prim.Native.Nat.{ℕ, suc}
+-- 02 §2: a run of an accepted table ends 42 only where the block of the pointer that it used is dead, and 50 only where
+-- it is live and the offset is negative or not below its length, in the memory that the run leaves.
+use Prim.Native.Nat.{ℕ}
 use native.Mathlib.Omega.{arith}
 use mathlib.Core.Bool.{false}
 use mathlib.Core.List.{List}
 use mathlib.Core.Option.{none}
-use mathlib.Core.Path.{_≡_, refl}
-use Rattle.rules.specs.Trees.{Statement, Expression, Query, Operator}
+use mathlib.Core.Path.{_≡_}
+use Rattle.rules.specs.Trees.{Statement, letIn}
 use Rattle.rules.specs.TargetTrees.{TargetStatement}
-use Rattle.rules.specs.TargetTrees as target
+use Rattle.rules.specs.TargetTrees as tree
+use Rattle.rules.specs.Kinds.{source, target}
 use Rattle.rules.specs.Nodes.{sourceProgram, targetProgram}
-use Rattle.rules.specs.Memory.{Memory, Change, changed, stopped, changeIn, fixed, makeBlock, startMemory}
-use Rattle.rules.specs.Memory.{assigned, allocated, freed}
-use Rattle.rules.specs.Evaluation.{Variables, noTemporaries, addressOf, evaluateSource, evaluatePredicate}
-use Rattle.rules.specs.Evaluation.{condition, opposite}
-use Rattle.rules.specs.Flow.{parts}
-use Rattle.rules.specs.Plain.{plainMeaning, run, startVariables}
-use Rattle.rules.specs.Observation.{Noted, noted, refused, recordOf, isMarked}
-use Rattle.rules.specs.Watched.{targetParts, WatchedState, temporaryOf, withMemory, valueIn, placeIn, holding, taken}
-use Rattle.rules.specs.Watched.{observed, watch}
-use Rattle.rules.specs.Checker.{inputsFault}
-use Rattle.rules.specs.Answers.{operationEndings, inputsOf, plainOutcome, watchedStart, watchedOutcome}
-use Rattle.rules_endings.specs.UsedPointers.{usedBy, usedTo, usedByPredicate, usedIn, usedInTarget, ToldApart}
-use Rattle.rules.proofs.lists.Among.{Among}
-use Rattle.rules.proofs.runs.Keeping.{AnyValue, AnyState, Gives, TestStops, on-value, on-pointer}
-use Rattle.rules.proofs.runs.Operations.{operated-gives, queried-gives, opposite-gives}
+use Rattle.rules.specs.Memory.{Memory, fixed, makeBlock, startMemory, assigned}
+use Rattle.rules.specs.Memory.{allocated, freed}
+use Rattle.rules.specs.Evaluation.{Variables, noTemporaries, addressOf, evaluateSource, findSource, evaluatePredicate}
+use Rattle.rules.specs.Evaluation.{condition, extend}
+use Rattle.rules.specs.Flow.{parts, ending}
+use Rattle.rules.specs.Plain.{plainMeaning, startVariables}
+use Rattle.rules.specs.Watched.{targetParts, WatchedState, temporaryOf, withMemory, valueIn, placeIn, holding}
+use Rattle.rules.specs.Checker.{check, inputsFault}
+use Rattle.rules.specs.Answers.{inputsOf, plainOutcome, watchedStart, watchedOutcome}
 use Rattle.rules.proofs.runs.Outcomes.{made-in}
-use Rattle.rules.proofs.runs.TargetRuns.{NotedKeeps, operating, querying, negating, storing, deleting, initialising}
-use Rattle.rules.proofs.runs.Calls.{store-called, delete-called, initialise-called}
-use Rattle.rules.proofs.memory.Invariant.{Invariant}
+use Rattle.rules.proofs.runs.TargetRuns.{operating, querying, negating, storing, deleting, initialising}
+use Rattle.rules.proofs.runs.EndedAt.{EndsAt, ends-map, SourceEnds, run-ends-at, TargetEnds}
+use Rattle.rules.proofs.runs.EndedAt.{watch-ends-at}
+use Rattle.rules.proofs.memory.Changes.{onward-assigned, onward-allocated, onward-freed}
 use Rattle.rules.proofs.memory.PlainKept.{plain-onward}
 use Rattle.rules.proofs.memory.WatchedKept.{watched-onward}
 use Rattle.rules.proofs.claim.Inputs.{inputs-few}
 use Rattle.rules.proofs.claim.Start.{start-invariant}
-use Rattle.rules.proofs.runs.EndedAt.{ChangeStops, EndsAt, SourceEnds, run-ends-at, TargetEnds, watch-ends-at}
-use Rattle.rules_endings.proofs.UsedLaws.{other, operations, held-told, evaluate-told, findPlace-told}
-use Rattle.rules_endings.proofs.UsedLaws.{address-told, condition-told, predicate-told}
-use Rattle.rules_endings.proofs.UsedChanges.{asserted-told, unmade-told, assigned-told, allocated-told, freed-told}
-use Rattle.rules.specs.declared.{Value.Value, Evaluated.Evaluated}
+use Rattle.rules.proofs.claim.GivenPointers.{plain-given, watched-given}
+use Rattle.rules_endings.specs.UsedPointers.{usedBy, usedTo, usedByPredicate, usedIn, usedInTarget, ToldApart}
+use Rattle.rules_endings.proofs.UsedLaws.{VariablesNamed, PointersNamed, other, Tells}
+use Rattle.rules_endings.proofs.UsedLaws.{evaluate-told, findPlace-told, address-told, condition-told, decided-by}
+use Rattle.rules_endings.proofs.UsedLaws.{any-value, predicate-told}
+use Rattle.rules_endings.proofs.UsedChanges.{assigned-told, allocated-told, freed-told}
+use Rattle.rules_endings.proofs.NamedPointers.{Started, started-on, let-started, start-named}
+use Rattle.rules_endings.proofs.NamedPointers.{cells-named, temporaries-named}
+use Rattle.rules_endings.proofs.StatementsTold.{change-told, test-told, asserted-told, Pointed, WatchStarted}
+use Rattle.rules_endings.proofs.StatementsTold.{changes-told, taken-told, observed-told, given-told}
+use Rattle.rules_endings.proofs.StatementsTold.{operating-silent, querying-silent, negating-silent}
+use Rattle.rules_endings.proofs.StatementsTold.{storing-silent, deleting-silent, initialising-silent}
+use Rattle.rules_endings.proofs.StatementsTold.{deciding-silent, value-told}
+use Rattle.rules.specs.declared.{Checked.Checked}
 
 -- what a plain run's ending tells at statement b
 abbrev pub PlainTold : Statement → ℕ → ℕ → Variables → Memory → Type 0
 PlainTold b c s ρ m = ToldApart c m (usedIn b ρ m)
 
-plain-told : SourceEnds plainMeaning Invariant PlainTold
+-- where every pointer has a name that was given, and the variables' do
+abbrev PlainKept : Statement → ℕ → ℕ → Variables → Memory → Type 0
+PlainKept b c s ρ m = VariablesNamed ρ m × (PointersNamed noTemporaries ρ m → PlainTold b c s ρ m)
+
+plain-told : SourceEnds plainMeaning Started PlainKept
 plain-told = record {
-  keeps = λ a ρ m f y. plain-onward a ρ m f y .invariant;
-  assigns = λ s p e ρ m y. assigned-told noTemporaries ρ m p e;
-  allocates = λ s p e ρ m y. allocated-told noTemporaries ρ m p e y;
-  frees = λ s e ρ m y. freed-told noTemporaries ρ m e;
-  asserts = λ s p ρ m f y.
-      asserted-told (λ c x. ToldApart c x (usedByPredicate p ρ x)) m (condition (evaluatePredicate p ρ m))
-      (other m (usedByPredicate p ρ m) 33 (omega arith) (omega arith))
-      (condition-told m (evaluatePredicate p ρ m) (usedByPredicate p ρ m) (predicate-told m p ρ));
-  branches = λ s e a b ρ m y.
-      condition-told m (evaluateSource e ρ m) (usedBy e noTemporaries ρ m) (evaluate-told m e noTemporaries ρ);
-  turns-on = λ s e b ρ m y.
-      condition-told m (evaluateSource e ρ m) (usedBy e noTemporaries ρ m) (evaluate-told m e noTemporaries ρ);
-  out-of-fuel = λ s e b ρ m y. other m (usedBy e noTemporaries ρ m) 32 (omega arith) (omega arith);
-  makes = λ s z b ρ m y. unmade-told none m fixed 1 y;
+  keeps = λ a ρ m f j. started-on ρ (plain-onward a ρ m f (j .0)) j;
+  assigns = λ s p e ρ m j.
+      let f = findSource p ρ m in
+      let r = evaluateSource e ρ m in
+      change-told ρ _ m (assigned m f r) (onward-assigned m f r (j .0)) (j .1) (assigned-told noTemporaries ρ p e m);
+  allocates = λ s p e ρ m j.
+      let f = findSource p ρ m in
+      let r = evaluateSource e ρ m in
+      change-told ρ _ m (allocated m f r) (onward-allocated m f r (j .0)) (j .1)
+      (allocated-told noTemporaries ρ p e m (j .0));
+  frees = λ s e ρ m j.
+      let r = evaluateSource e ρ m in
+      change-told ρ _ m (freed m r) (onward-freed m r (j .0)) (j .1) (freed-told noTemporaries ρ e m);
+  asserts = λ s p ρ m f j.
+      let u = usedByPredicate p ρ m in
+      let r = evaluatePredicate p ρ m in
+      asserted-told (λ c x. VariablesNamed ρ x × Tells noTemporaries ρ x (usedByPredicate p ρ x) c) m (condition r)
+      (j .1, λ n. other m u 33 (omega arith) (omega arith))
+      (test-told (Tells noTemporaries ρ m u) (condition r) (j .1)
+      (condition-told noTemporaries ρ m u r (predicate-told ρ m p)));
+  branches = λ s e a b ρ m j.
+      test-told (Tells noTemporaries ρ m (usedBy e noTemporaries ρ m)) (condition (evaluateSource e ρ m)) (j .1)
+      (decided-by noTemporaries ρ m e);
+  turns-on = λ s e b ρ m j.
+      test-told (Tells noTemporaries ρ m (usedBy e noTemporaries ρ m)) (condition (evaluateSource e ρ m)) (j .1)
+      (decided-by noTemporaries ρ m e);
+  out-of-fuel = λ s e b ρ m j. (j .1, λ n. other m (usedBy e noTemporaries ρ m) 32 (omega arith) (omega arith));
+  makes = λ s z b ρ m j.
+      let-started (λ c. PlainKept (letIn s z b) c s ρ m) ρ z m j (j .1, λ n. other m none 31 (omega arith) (omega arith))
+      (j .1, λ n. other m none 30 (omega arith) (omega arith));
 }
 
-pub run-told-apart : (a : Statement) (ρ : Variables) (m : Memory) (f : ℕ) → Invariant m
-    → EndsAt parts PlainTold a (run a ρ m f)
-run-told-apart a ρ m f y = run-ends-at plain-told a ρ m f y
+-- every accepted source table
+pub plain-dead-or-outside : (t i : List ℕ) (f : ℕ) → check source t ≡ Checked.Accepted → inputsFault i ≡ false
+    → EndsAt parts PlainTold (sourceProgram t) (plainOutcome t i f)
+plain-dead-or-outside t i f c e =
+    ends-map parts PlainKept PlainTold (sourceProgram t) (plainOutcome t i f)
+    (λ b k s ρ h. h .1 (record {
+      cells = cells-named (ending (plainOutcome t i f) .state) (plain-given t i f c e);
+      temporaries = λ t. elim t [ ];
+      variables = h .0;
+    }))
+    (run-ends-at plain-told (sourceProgram t) startVariables (startMemory (inputsOf i)) f
+    (start-invariant (inputsOf i) (inputs-few i e), start-named (inputsOf i)))
 
--- a watched run's
+-- what a watched run's ending tells
 abbrev pub WatchedTold : TargetStatement → ℕ → ℕ → Variables → WatchedState → Type 0
 WatchedTold b c s ρ x = ToldApart c (x .memory) (usedInTarget b ρ x)
 
-abbrev Sound : WatchedState → Type 0
-Sound x = Invariant (x .memory)
+abbrev WatchedKept : TargetStatement → ℕ → ℕ → Variables → WatchedState → Type 0
+WatchedKept b c s ρ x = VariablesNamed ρ (x .memory) × (Pointed ρ x → WatchedTold b c s ρ x)
 
-changes-told : (P : ℕ → WatchedState → Type 0) (x : WatchedState) (c : Change Memory)
-    → ChangeStops (λ k m. P k (withMemory x m)) c → ChangeStops P (changeIn (withMemory x) c)
-changes-told P x (changed m) h = tt
-changes-told P x (stopped k m) h = h
-
-taken-told : (P : ℕ → WatchedState → Type 0) (x : WatchedState) (n : ℕ) (e : Evaluated)
-    → Gives AnyValue (λ c. P c x) e → ChangeStops P (taken x n e)
-taken-told P x n (Evaluated.Value v) h = tt
-taken-told P x n (Evaluated.Stopped c) h = h
-
-observed-told : (P : ℕ → WatchedState → Type 0) (x : WatchedState) (r : Noted)
-    → NotedKeeps AnyState (λ c. P c x) r → ChangeStops P (observed x r)
-observed-told P x (noted o) h = tt
-observed-told P x (refused c) h = h
-
--- what uses temporaries and the observation memory alone uses no pointer
-module _ (x : WatchedState) where
-  abbrev Silent : ℕ → Type 0
-  Silent c = ToldApart c (x .memory) none
-
-  held-silent : (n : ℕ) → Gives AnyValue Silent (holding x n)
-  held-silent n = held-told (x .memory) none (temporaryOf (x .temporaries) n)
-
-  silent : (c : ℕ) → Among operationEndings c → Silent c
-  silent c h = operations (x .memory) none c h
-
-  -- 48, of a call that is refused
-  contradicted : Silent 48
-  contradicted = other (x .memory) none 48 (omega arith) (omega arith)
-
-  operating-silent : (q : Operator) (n : ℕ) → Gives AnyValue Silent (operating q n x)
-  operating-silent q n =
-      operated-gives AnyValue Silent (λ z e. tt) (λ p z k e. tt) silent q (holding x (suc n)) (holding x (suc (suc n)))
-      (held-silent (suc n)) (held-silent (suc (suc n)))
-
-  querying-silent : (q : Query) (n : ℕ) → Gives AnyValue Silent (querying q n x)
-  querying-silent q n =
-      on-value (Gives AnyValue Silent) Silent Evaluated.Stopped (λ c k. k) (holding x (suc n)) _ (held-silent (suc n))
-      (λ v u. on-pointer (Gives AnyValue Silent) Silent Evaluated.Stopped (λ c k. k) AnyValue v _ (silent 40 refl) tt
-      (λ p w. queried-gives AnyValue Silent (λ z. tt) (λ p. tt) silent q (recordOf (x .observation) (p .name))
-      (λ i. isMarked (x .observation) i) p))
-
-  negating-silent : (n : ℕ) → Gives AnyValue Silent (negating n x)
-  negating-silent n =
-      on-value (Gives AnyValue Silent) Silent Evaluated.Stopped (λ c k. k) (holding x (suc n)) opposite
-      (held-silent (suc n)) (λ v u. opposite-gives AnyValue Silent (λ z e. tt) (λ p z k e. tt) silent v)
-
-  storing-silent : (n : ℕ) → NotedKeeps AnyState Silent (storing n x)
-  storing-silent n =
-      store-called AnyState Silent (silent 40 refl) contradicted (x .observation) (holding x n) (holding x (suc n))
-      (held-silent n) (held-silent (suc n)) (λ k l first y z. tt)
-
-  deleting-silent : (n : ℕ) → NotedKeeps AnyState Silent (deleting n x)
-  deleting-silent n =
-      delete-called AnyState Silent (silent 40 refl) contradicted (x .observation) (holding x n) (held-silent n)
-      (λ k first l y. tt)
-
-  initialising-silent : (n : ℕ) → NotedKeeps AnyState Silent (initialising n x)
-  initialising-silent n =
-      initialise-called AnyState Silent (silent 40 refl) contradicted (x .observation) (holding x n) (held-silent n)
-      (λ p i y. tt)
-
-value-told : (e : Expression ℕ) (ρ : Variables) (x : WatchedState)
-    → TestStops (λ c. ToldApart c (x .memory) (usedBy e (temporaryOf (x .temporaries)) ρ (x .memory)))
-    (condition (valueIn e ρ x))
-value-told e ρ x =
-    let τ = temporaryOf (x .temporaries) in
-    condition-told (x .memory) (valueIn e ρ x) (usedBy e τ ρ (x .memory)) (evaluate-told (x .memory) e τ ρ)
-
-watched-told : TargetEnds Sound WatchedTold
+watched-told : TargetEnds WatchStarted WatchedKept
 watched-told = record {
-  keeps = λ a ρ x f y. watched-onward a ρ x f y .invariant;
-  assigns = λ s p e ρ x y.
-      changes-told (λ c z. WatchedTold (target.assign s p e) c s ρ z) x
-      (assigned (x .memory) (placeIn p ρ x) (valueIn e ρ x))
-      (assigned-told (temporaryOf (x .temporaries)) ρ (x .memory) p e);
-  allocates = λ s p e ρ x y.
-      changes-told (λ c z. WatchedTold (target.new s p e) c s ρ z) x
-      (allocated (x .memory) (placeIn p ρ x) (valueIn e ρ x))
-      (allocated-told (temporaryOf (x .temporaries)) ρ (x .memory) p e y);
-  frees = λ s e ρ x y.
-      changes-told (λ c z. WatchedTold (target.free s e) c s ρ z) x (freed (x .memory) (valueIn e ρ x))
-      (freed-told (temporaryOf (x .temporaries)) ρ (x .memory) e);
-  branches = λ s e a b ρ x y. value-told e ρ x;
-  turns-on = λ s e b ρ x y. value-told e ρ x;
-  out-of-fuel = λ s e b ρ x y.
-      other (x .memory) (usedBy e (temporaryOf (x .temporaries)) ρ (x .memory)) 32 (omega arith) (omega arith);
-  makes = λ s z b ρ x y.
-      made-in (λ k m. Invariant m) (λ k w. Sound w) (λ c. ToldApart c (x .memory) none) (withMemory x)
-      (makeBlock (x .memory) fixed 1) (λ k m h. h) (unmade-told none (x .memory) fixed 1 y);
-  takes-address = λ s n p ρ x y.
+  keeps = λ a ρ x f j. started-on ρ (watched-onward a ρ x f (j .0)) j;
+  assigns = λ s p e ρ x j.
+      let m = x .memory in
+      let c = assigned m (placeIn p ρ x) (valueIn e ρ x) in
+      changes-told (λ k y. WatchedKept (tree.assign s p e) k s ρ y) x c
+      (change-told ρ _ m c (onward-assigned m (placeIn p ρ x) (valueIn e ρ x) (j .0)) (j .1)
+      (assigned-told (temporaryOf (x .temporaries)) ρ p e m));
+  allocates = λ s p e ρ x j.
+      let m = x .memory in
+      let c = allocated m (placeIn p ρ x) (valueIn e ρ x) in
+      changes-told (λ k y. WatchedKept (tree.new s p e) k s ρ y) x c
+      (change-told ρ _ m c (onward-allocated m (placeIn p ρ x) (valueIn e ρ x) (j .0)) (j .1)
+      (allocated-told (temporaryOf (x .temporaries)) ρ p e m (j .0)));
+  frees = λ s e ρ x j.
+      let m = x .memory in
+      let c = freed m (valueIn e ρ x) in
+      changes-told (λ k y. WatchedKept (tree.free s e) k s ρ y) x c
+      (change-told ρ _ m c (onward-freed m (valueIn e ρ x) (j .0)) (j .1)
+      (freed-told (temporaryOf (x .temporaries)) ρ e m));
+  branches = λ s e a b ρ x j. value-told ρ x j e;
+  turns-on = λ s e b ρ x j. value-told ρ x j e;
+  out-of-fuel = λ s e b ρ x j.
+      (j .1, λ n. other (x .memory) (usedInTarget (tree.while s e b) ρ x) 32 (omega arith) (omega arith));
+  makes = λ s z b ρ x j.
+      made-in (λ k m. Started (extend ρ z k) m) (λ k y. WatchStarted (extend ρ z k) y)
+      (λ c. WatchedKept (tree.letIn s z b) c s ρ x) (withMemory x) (makeBlock (x .memory) fixed 1) (λ k m h. h)
+      (let-started (λ c. WatchedKept (tree.letIn s z b) c s ρ x) ρ z (x .memory) j
+      (j .1, λ n. other (x .memory) none 31 (omega arith) (omega arith))
+      (j .1, λ n. other (x .memory) none 30 (omega arith) (omega arith)));
+  takes-address = λ s n p ρ x j.
       let τ = temporaryOf (x .temporaries) in
-      taken-told (λ c z. WatchedTold (target.takeAddress s n p) c s ρ z) x n (addressOf (placeIn p ρ x))
-      (address-told (x .memory) (placeIn p ρ x) (usedTo p τ ρ (x .memory)) (findPlace-told (x .memory) p τ ρ));
-  takes-value = λ s n e ρ x y.
-      taken-told (λ c z. WatchedTold (target.takeValue s n e) c s ρ z) x n (valueIn e ρ x)
-      (evaluate-told (x .memory) e (temporaryOf (x .temporaries)) ρ);
-  takes-operation = λ s n q ρ x y.
-      taken-told (λ c z. WatchedTold (target.takeOperation s n q) c s ρ z) x n (operating q n x)
-      (operating-silent x q n);
-  takes-query = λ s n q ρ x y.
-      taken-told (λ c z. WatchedTold (target.takeQuery s n q) c s ρ z) x n (querying q n x) (querying-silent x q n);
-  takes-not = λ s n ρ x y.
-      taken-told (λ c z. WatchedTold (target.takeNot s n) c s ρ z) x n (negating n x) (negating-silent x n);
-  branches-on = λ s n a b ρ x y. condition-told (x .memory) (holding x n) none (held-silent x n);
-  asserts-on = λ s n ρ x y.
-      asserted-told (λ c z. WatchedTold (target.assertOn s n) c s ρ z) x (condition (holding x n))
-      (other (x .memory) none 33 (omega arith) (omega arith))
-      (condition-told (x .memory) (holding x n) none (held-silent x n));
-  stores = λ s n ρ x y.
-      observed-told (λ c z. WatchedTold (target.storeBlock s n) c s ρ z) x (storing n x) (storing-silent x n);
-  deletes = λ s n ρ x y.
-      observed-told (λ c z. WatchedTold (target.deleteBlock s n) c s ρ z) x (deleting n x) (deleting-silent x n);
-  initialises = λ s n ρ x y.
-      observed-told (λ c z. WatchedTold (target.initialise s n) c s ρ z) x (initialising n x)
-      (initialising-silent x n);
+      let u = usedTo p τ ρ (x .memory) in
+      let r = addressOf (placeIn p ρ x) in
+      taken-told (λ c y. WatchedKept (tree.takeAddress s n p) c s ρ y) x n r
+      (given-told (Tells τ ρ (x .memory) u) r (j .1)
+      (any-value τ ρ (x .memory) u r
+      (address-told τ ρ (x .memory) (placeIn p ρ x) u (findPlace-told τ ρ (x .memory) p))));
+  takes-value = λ s n e ρ x j.
+      let τ = temporaryOf (x .temporaries) in
+      let u = usedBy e τ ρ (x .memory) in
+      taken-told (λ c y. WatchedKept (tree.takeValue s n e) c s ρ y) x n (valueIn e ρ x)
+      (given-told (Tells τ ρ (x .memory) u) (valueIn e ρ x) (j .1)
+      (any-value τ ρ (x .memory) u (valueIn e ρ x) (evaluate-told τ ρ (x .memory) e)));
+  takes-operation = λ s n q ρ x j.
+      taken-told (λ c y. WatchedKept (tree.takeOperation s n q) c s ρ y) x n (operating q n x)
+      (operating-silent ρ x j q n);
+  takes-query = λ s n q ρ x j.
+      taken-told (λ c y. WatchedKept (tree.takeQuery s n q) c s ρ y) x n (querying q n x)
+      (querying-silent ρ x j q n);
+  takes-not = λ s n ρ x j.
+      taken-told (λ c y. WatchedKept (tree.takeNot s n) c s ρ y) x n (negating n x) (negating-silent ρ x j n);
+  branches-on = λ s n a b ρ x j. deciding-silent ρ x j n;
+  asserts-on = λ s n ρ x j.
+      asserted-told (λ c y. WatchedKept (tree.assertOn s n) c s ρ y) x (condition (holding x n))
+      (j .1, λ k. other (x .memory) none 33 (omega arith) (omega arith)) (deciding-silent ρ x j n);
+  stores = λ s n ρ x j.
+      observed-told (λ c y. WatchedKept (tree.storeBlock s n) c s ρ y) x (storing n x) (storing-silent ρ x j n);
+  deletes = λ s n ρ x j.
+      observed-told (λ c y. WatchedKept (tree.deleteBlock s n) c s ρ y) x (deleting n x) (deleting-silent ρ x j n);
+  initialises = λ s n ρ x j.
+      observed-told (λ c y. WatchedKept (tree.initialise s n) c s ρ y) x (initialising n x)
+      (initialising-silent ρ x j n);
 }
 
-pub watch-told-apart : (a : TargetStatement) (ρ : Variables) (x : WatchedState) (f : ℕ) → Invariant (x .memory)
-    → EndsAt targetParts WatchedTold a (watch a ρ x f)
-watch-told-apart a ρ x f y = watch-ends-at watched-told a ρ x f y
-
--- so of every table's runs from their cleared starts, a hand-made target's too
-pub plain-dead-or-outside : (t i : List ℕ) (f : ℕ) → inputsFault i ≡ false
-    → EndsAt parts PlainTold (sourceProgram t) (plainOutcome t i f)
-plain-dead-or-outside t i f e =
-    run-told-apart (sourceProgram t) startVariables (startMemory (inputsOf i)) f
-    (start-invariant (inputsOf i) (inputs-few i e))
-
-pub watched-dead-or-outside : (t i : List ℕ) (f : ℕ) → inputsFault i ≡ false
+-- every accepted target table, a hand-made one too
+pub watched-dead-or-outside : (t i : List ℕ) (f : ℕ) → check target t ≡ Checked.Accepted → inputsFault i ≡ false
     → EndsAt targetParts WatchedTold (targetProgram t) (watchedOutcome t i f)
-watched-dead-or-outside t i f e =
-    watch-told-apart (targetProgram t) startVariables (watchedStart (inputsOf i)) f
-    (start-invariant (inputsOf i) (inputs-few i e))
+watched-dead-or-outside t i f c e =
+    let x = ending (watchedOutcome t i f) .state in
+    let given = watched-given t i f c e in
+    ends-map targetParts WatchedKept WatchedTold (targetProgram t) (watchedOutcome t i f)
+    (λ b k s ρ h. h .1 (record {
+      cells = cells-named (x .memory) (given .0);
+      temporaries = temporaries-named (x .memory) (x .temporaries) (given .1);
+      variables = h .0;
+    }))
+    (watch-ends-at watched-told (targetProgram t) startVariables (watchedStart (inputsOf i)) f
+    (start-invariant (inputsOf i) (inputs-few i e), start-named (inputsOf i)))

@@ -2,4 +2,6 @@
 pub mod KeptEvaluations
 pub mod UsedLaws
 pub mod UsedChanges
+pub mod NamedPointers
+pub mod StatementsTold
 pub mod DeadOrOutside

@@ -1,10 +1,10 @@
 -- Where evaluating stops with 42 or 50, the pointer that was used tells why.
 use Prim.Native.Nat.{ℕ, _+_}
 use native.Mathlib.Omega.{arith}
-use mathlib.Core.Bool.{Bool, true, false, cond}
+use mathlib.Core.Bool.{Bool, true, false, cond, true≢false}
 use mathlib.Core.Logic.{_≢_}
 use mathlib.Core.Option.{Option, none, some}
-use mathlib.Core.Path.{_≡_, refl, ap}
+use mathlib.Core.Path.{_≡_, refl, sym, ap, _∙_}
 use lib.Dec.{ltb}
 use lib.IntN.{ℤ, pos, negsuc}
 use borrow.Author.Tests.{ltb-false}
@@ -12,42 +12,64 @@ use Rattle.rules.specs.Trees.{Operator, shift, Query, Expression, literal, read
 use Rattle.rules.specs.Trees.{variable, pointed, temporary, Term, value, asked, combined, Predicate, holds, compared}
 use Rattle.rules.specs.Trees.{negated, both, either}
 use Rattle.rules.specs.Numbers.{tested}
-use Rattle.rules.specs.Memory.{Memory, recordedOf, isLive, blockOf, cellOf, locatedIn, locate, atCell, defined}
-use Rattle.rules.specs.Memory.{readCell, onValue, onPlace}
+use Rattle.rules.specs.Memory.{Memory, recordedOf, blockOf, cellOf, locatedIn, locate, atCell, defined, readCell}
+use Rattle.rules.specs.Memory.{isUnused, onValue, onPlace}
 use Rattle.rules.specs.Evaluation.{Variables, Holding, noTemporaries, held, pointedBy, addressOf, operated, evaluate}
 use Rattle.rules.specs.Evaluation.{findPlace, evaluateTerm, evaluatePredicate, queryMemory, onTest, opposite, condition}
 use Rattle.rules.specs.Answers.{operationEndings}
-use Rattle.rules_endings.specs.UsedPointers.{astray, inTurn, usedBy, usedTo, usedByTerm, unlessDecided, usedByPredicate, IsDead}
-use Rattle.rules_endings.specs.UsedPointers.{IsOutside, ToldApart}
 use Rattle.rules.proofs.lists.Among.{Among, among-not}
-use Rattle.rules.proofs.runs.Keeping.{AnyValue, AnyPlace, Gives, Finds, TestStops, on-value, on-pointer}
+use Rattle.rules.proofs.runs.EvaluatedValues.{CellHas, TemporaryHas}
+use Rattle.rules.proofs.runs.Keeping.{AnyValue, Gives, Finds, TestStops, on-value, on-pointer}
 use Rattle.rules.proofs.runs.Operations.{operate-gives, queryMemory-gives, tested-stops, condition-stops}
 use Rattle.rules.proofs.runs.Operations.{opposite-gives}
+use Rattle.rules_endings.specs.UsedPointers.{astray, inTurn, usedBy, usedTo, usedByTerm, unlessDecided}
+use Rattle.rules_endings.specs.UsedPointers.{usedByPredicate, IsDead, Outside, IsOutside, ToldApart}
 use Rattle.rules.specs.declared.{Pointer.Pointer, Value.Value, Evaluated.Evaluated, Found.Found, Test.Test}
-use Rattle.rules.specs.declared.{Located.Located, Recorded.Recorded, Cell.Cell, Temporary.Temporary}
+use Rattle.rules.specs.declared.{Located.Located, Block.Block, Recorded.Recorded, Cell.Cell, Temporary.Temporary}
+
+-- a name was given: its block is not unused
+abbrev pub IsNamed : Memory → ℕ → Type 0
+IsNamed m k = isUnused (blockOf m k) ≡ false
+
+abbrev pub NamedValue : Memory → Value → Type 0
+NamedValue m Value.Undefined = Unit {0}
+NamedValue m (Value.Integer z) = Unit {0}
+NamedValue m (Value.Pointer p) = IsNamed m (p .name)
+
+abbrev pub VariablesNamed : Variables → Memory → Type 0
+VariablesNamed ρ m = (x : ℕ) → IsNamed m (ρ x)
+
+-- every pointer that evaluating can find has a name that was given
+pub record PointersNamed {T : Type 0} (τ : Holding T) (ρ : Variables) (m : Memory) : Type 0 where
+  pub cells : (i : ℕ) → CellHas (NamedValue m) (cellOf m i)
+  pub temporaries : (t : T) → TemporaryHas (NamedValue m) (τ t)
+  pub variables : VariablesNamed ρ m
 
 -- why a pointer leads to no cell
 pub data Whereabouts (m : Memory) (p : Pointer) : Located → Type 0 where
   at : (i : ℕ) → Whereabouts m p (Located.At i)
-  dead : IsDead m p → Whereabouts m p Located.Dead
+  dead : (IsNamed m (p .name) → IsDead m p) → Whereabouts m p Located.Dead
   outside : IsOutside m p → Whereabouts m p Located.Outside
 
 pub whereabouts : (m : Memory) (p : Pointer) → Whereabouts m p (locate m p)
 unfolding locate
-whereabouts m p = go (recordedOf (blockOf m (p .name))) (p .offset) refl refl
+whereabouts m p = go (blockOf m (p .name)) (p .offset) refl refl
   where
-    go : (b : Recorded) (z : ℤ) → recordedOf (blockOf m (p .name)) ≡ b → p .offset ≡ z
-        → Whereabouts m p (locatedIn b z)
-    go Recorded.Unused z e d = dead (ap isLive e)
-    go Recorded.Dead z e d = dead (ap isLive e)
-    go (Recorded.Live first n) (negsuc o) e d =
-        outside (record { first = first; length = n; live = e; outside = rw d tt })
-    go (Recorded.Live first n) (pos o) e d = inner (ltb o n) refl
+    inner : (first n : ℕ) (z : ℤ) → recordedOf (blockOf m (p .name)) ≡ Recorded.Live first n → p .offset ≡ z
+        → Whereabouts m p (locatedIn (Recorded.Live first n) z)
+    inner first n (negsuc o) e d = outside (record { first = first; length = n; live = e; outside = rw d tt })
+    inner first n (pos o) e d = pick (ltb o n) refl
       where
-        inner : (b : Bool) → ltb o n ≡ b → Whereabouts m p (cond b (Located.At (first + o)) Located.Outside)
-        inner true h = at (first + o)
-        inner false h =
+        pick : (b : Bool) → ltb o n ≡ b → Whereabouts m p (cond b (Located.At (first + o)) Located.Outside)
+        pick true h = at (first + o)
+        pick false h =
             outside (record { first = first; length = n; live = e; outside = rw d (ltb-false o n h) })
+
+    go : (b : Block) (z : ℤ) → blockOf m (p .name) ≡ b → p .offset ≡ z → Whereabouts m p (locatedIn (recordedOf b) z)
+    go Block.Unused z e d = dead (λ n. absurd (true≢false (sym (ap isUnused e) ∙ n)))
+    go (Block.Fixed first n) z e d = inner first n z (ap recordedOf e) d
+    go (Block.Freeable first n) z e d = inner first n z (ap recordedOf e) d
+    go Block.Dead z e d = dead (λ n. e)
 
 module _ (m : Memory) where
   -- other numbers tell nothing
@@ -66,126 +88,166 @@ module _ (m : Memory) where
     outside = λ e. record { pointer = p; used = refl; is = h };
   }
 
-  -- an evaluation that used u
+-- where every pointer has such a name
+module _ {T : Type 0} (τ : Holding T) (ρ : Variables) (m : Memory) where
+  -- a stop with a number, where u was used
+  abbrev pub Tells : Option Pointer → ℕ → Type 0
+  Tells u c = PointersNamed τ ρ m → ToldApart c m u
+
+  abbrev pub Named : Value → Type 0
+  Named v = PointersNamed τ ρ m → NamedValue m v
+
   abbrev pub Told : Option Pointer → Evaluated → Type 0
-  Told u e = Gives AnyValue (λ c. ToldApart c m u) e
+  Told u e = Gives Named (Tells u) e
 
   abbrev pub FoundTold : Option Pointer → Found → Type 0
-  FoundTold u f = Finds AnyPlace (λ c. ToldApart c m u) f
+  FoundTold u f = Finds (λ p. Named (Value.Pointer p)) (Tells u) f
 
-  pub operations : (u : Option Pointer) (c : ℕ) → Among operationEndings c → ToldApart c m u
-  operations u c h = other u c (among-not operationEndings c 42 refl h) (among-not operationEndings c 50 refl h)
+  pub operations : (u : Option Pointer) (c : ℕ) → Among operationEndings c → Tells u c
+  operations u c h n = other m u c (among-not operationEndings c 42 refl h) (among-not operationEndings c 50 refl h)
 
-  operated-told : (o : Operator) (a b : Evaluated) (u v : Option Pointer) → Told u a → Told v b
-      → Told (inTurn a u v) (operated o a b)
-  operated-told o (Evaluated.Stopped c) b u v h g = h
-  operated-told o (Evaluated.Value x) (Evaluated.Stopped c) u v h g = g
-  operated-told o (Evaluated.Value x) (Evaluated.Value y) u v h g =
-      operate-gives AnyValue (λ c. ToldApart c m v) (λ z e. tt) (λ p z k e. tt) (operations v) o x y tt
+  -- G is of values, pointers with other offsets among them
+  operated-told : (G : Value → Type 0) → ((z : ℤ) → G (Value.Integer z))
+      → ((p : Pointer) (z : ℤ) → G (Value.Pointer p) → G (Value.Pointer (record { name = p .name; offset = z })))
+      → (o : Operator) (a b : Evaluated) (u v : Option Pointer) → Gives G (Tells u) a → Gives G (Tells v) b
+      → Gives G (Tells (inTurn a u v)) (operated o a b)
+  operated-told G integers moves o (Evaluated.Stopped c) b u v h g = h
+  operated-told G integers moves o (Evaluated.Value x) (Evaluated.Stopped c) u v h g = g
+  operated-told G integers moves o (Evaluated.Value x) (Evaluated.Value y) u v h g =
+      operate-gives G (Tells v) (λ z e. integers z) (λ p z k e. moves p z k) (operations v) o x y h
 
-  defined-told : (u : Option Pointer) (c : Cell) → Told u (defined c)
-  defined-told u Cell.Free = other u 41 (omega arith) (omega arith)
-  defined-told u (Cell.Holds o Value.Undefined) = other u 41 (omega arith) (omega arith)
-  defined-told u (Cell.Holds o (Value.Integer z)) = tt
-  defined-told u (Cell.Holds o (Value.Pointer p)) = tt
+  defined-told : (u : Option Pointer) (c : Cell) → (PointersNamed τ ρ m → CellHas (NamedValue m) c)
+      → Told u (defined c)
+  defined-told u Cell.Free h = λ n. other m u 41 (omega arith) (omega arith)
+  defined-told u (Cell.Holds o Value.Undefined) h = λ n. other m u 41 (omega arith) (omega arith)
+  defined-told u (Cell.Holds o (Value.Integer z)) h = λ n. tt
+  defined-told u (Cell.Holds o (Value.Pointer p)) h = h
 
-  read-told : (p : Pointer) → Told (astray m p) (readCell m p)
-  read-told p = go (locate m p) (whereabouts m p)
+  read-told : (p : Pointer) → Named (Value.Pointer p) → Told (astray m p) (readCell m p)
+  read-told p h = go (locate m p) (whereabouts m p)
     where
       go : (l : Located) → Whereabouts m p l
           → Told (atCell (λ i. none) (λ c. some p) l) (atCell (λ i. defined (cellOf m i)) Evaluated.Stopped l)
-      go _ (at i) = defined-told none (cellOf m i)
-      go _ (dead h) = used-dead p h
-      go _ (outside h) = used-outside p h
+      go _ (at i) = defined-told none (cellOf m i) (λ n. n .cells i)
+      go _ (dead d) = λ n. used-dead m p (d (h n))
+      go _ (outside d) = λ n. used-outside m p d
 
   reading-told : (f : Found) (u : Option Pointer) → FoundTold u f
       → Told (onPlace f (λ c. u) (astray m)) (onPlace f Evaluated.Stopped (readCell m))
   reading-told (Found.Stopped c) u h = h
-  reading-told (Found.Place p) u h = read-told p
+  reading-told (Found.Place p) u h = read-told p h
 
   pub address-told : (f : Found) (u : Option Pointer) → FoundTold u f → Told u (addressOf f)
   address-told (Found.Stopped c) u h = h
-  address-told (Found.Place p) u h = tt
+  address-told (Found.Place p) u h = h
 
   pointed-told : (e : Evaluated) (u : Option Pointer) → Told u e → FoundTold u (pointedBy e)
   pointed-told e u h =
-      on-value (FoundTold u) (λ c. ToldApart c m u) Found.Stopped (λ c x. x) e _ h (λ v k.
-      on-pointer (FoundTold u) (λ c. ToldApart c m u) Found.Stopped (λ c x. x) AnyValue v Found.Place
-      (operations u 40 refl) tt (λ p l. tt))
+      on-value (FoundTold u) (Tells u) Found.Stopped (λ c x. x) e _ h (λ v k.
+      on-pointer (FoundTold u) (Tells u) Found.Stopped (λ c x. x) Named v Found.Place (operations u 40 refl) k
+      (λ p l. l))
 
-  pub held-told : (u : Option Pointer) (t : Temporary) → Told u (held t)
-  held-told u Temporary.Empty = other u 49 (omega arith) (omega arith)
-  held-told u (Temporary.Holds v) = tt
+  -- "49 empty temporary"
+  held-told : (G : Value → Type 0) (u : Option Pointer) (t : Temporary) → TemporaryHas G t
+      → Gives G (Tells u) (held t)
+  held-told G u Temporary.Empty h = λ n. other m u 49 (omega arith) (omega arith)
+  held-told G u (Temporary.Holds v) h = h
+
+  temporary-named : (t : Temporary) → (PointersNamed τ ρ m → TemporaryHas (NamedValue m) t) → TemporaryHas Named t
+  temporary-named Temporary.Empty h = tt
+  temporary-named (Temporary.Holds v) h = h
+
+  pub any-held : (u : Option Pointer) (t : Temporary) → Gives AnyValue (Tells u) (held t)
+  any-held u Temporary.Empty = held-told AnyValue u Temporary.Empty tt
+  any-held u (Temporary.Holds v) = tt
 
   mutual
     unfolding evaluate usedBy
 
-    pub evaluate-told : {T : Type 0} (e : Expression T) (τ : Holding T) (ρ : Variables)
-        → Told (usedBy e τ ρ m) (evaluate e τ ρ m)
-    evaluate-told (literal z) τ ρ = tt
-    evaluate-told (read p) τ ρ = reading-told (findPlace p τ ρ m) (usedTo p τ ρ m) (findPlace-told p τ ρ)
-    evaluate-told (address p) τ ρ = address-told (findPlace p τ ρ m) (usedTo p τ ρ m) (findPlace-told p τ ρ)
-    evaluate-told (operation o a b) τ ρ =
-        operated-told o (evaluate a τ ρ m) (evaluate b τ ρ m) (usedBy a τ ρ m) (usedBy b τ ρ m)
-        (evaluate-told a τ ρ) (evaluate-told b τ ρ)
-    evaluate-told (shifted a b) τ ρ =
-        operated-told shift (evaluate a τ ρ m) (evaluate b τ ρ m) (usedBy a τ ρ m) (usedBy b τ ρ m)
-        (evaluate-told a τ ρ) (evaluate-told b τ ρ)
+    pub evaluate-told : (e : Expression T) → Told (usedBy e τ ρ m) (evaluate e τ ρ m)
+    evaluate-told (literal z) = λ n. tt
+    evaluate-told (read p) = reading-told (findPlace p τ ρ m) (usedTo p τ ρ m) (findPlace-told p)
+    evaluate-told (address p) = address-told (findPlace p τ ρ m) (usedTo p τ ρ m) (findPlace-told p)
+    evaluate-told (operation o a b) =
+        operated-told Named (λ z n. tt) (λ p z k. k) o (evaluate a τ ρ m) (evaluate b τ ρ m) (usedBy a τ ρ m)
+        (usedBy b τ ρ m) (evaluate-told a) (evaluate-told b)
+    evaluate-told (shifted a b) =
+        operated-told Named (λ z n. tt) (λ p z k. k) shift (evaluate a τ ρ m) (evaluate b τ ρ m) (usedBy a τ ρ m)
+        (usedBy b τ ρ m) (evaluate-told a) (evaluate-told b)
 
-    pub findPlace-told : {T : Type 0} (p : Place T) (τ : Holding T) (ρ : Variables)
-        → FoundTold (usedTo p τ ρ m) (findPlace p τ ρ m)
-    findPlace-told (variable x) τ ρ = tt
-    findPlace-told (pointed e) τ ρ = pointed-told (evaluate e τ ρ m) (usedBy e τ ρ m) (evaluate-told e τ ρ)
-    findPlace-told (temporary t) τ ρ = pointed-told (held (τ t)) none (held-told none (τ t))
+    pub findPlace-told : (p : Place T) → FoundTold (usedTo p τ ρ m) (findPlace p τ ρ m)
+    findPlace-told (variable x) = λ n. n .variables x
+    findPlace-told (pointed e) = pointed-told (evaluate e τ ρ m) (usedBy e τ ρ m) (evaluate-told e)
+    findPlace-told (temporary t) =
+        pointed-told (held (τ t)) none (held-told Named none (τ t) (temporary-named (τ t) (λ n. n .temporaries t)))
 
-  -- whatever a query or a test is of
-  asked-told : (q : Query) (e : Evaluated) (u : Option Pointer) → Told u e
-      → Told u (onValue e Evaluated.Stopped (queryMemory q m))
+  pub any-value : (u : Option Pointer) (e : Evaluated) → Told u e → Gives AnyValue (Tells u) e
+  any-value u (Evaluated.Value v) h = tt
+  any-value u (Evaluated.Stopped c) h = h
+
+  pub condition-told : (u : Option Pointer) (e : Evaluated) → Gives AnyValue (Tells u) e
+      → TestStops (Tells u) (condition e)
+  condition-told u e h = condition-stops AnyValue (Tells u) (λ z k. tt) (λ p z k l. tt) (operations u) e h
+
+  pub decided-by : (e : Expression T) → TestStops (Tells (usedBy e τ ρ m)) (condition (evaluate e τ ρ m))
+  decided-by e =
+      condition-told (usedBy e τ ρ m) (evaluate e τ ρ m)
+      (any-value (usedBy e τ ρ m) (evaluate e τ ρ m) (evaluate-told e))
+
+-- terms and predicates, which read no cell but through expressions
+module _ (ρ : Variables) (m : Memory) where
+  abbrev pub SourceTells : Option Pointer → ℕ → Type 0
+  SourceTells u c = Tells noTemporaries ρ m u c
+
+  abbrev Asserted : Option Pointer → Evaluated → Type 0
+  Asserted u e = Gives AnyValue (SourceTells u) e
+
+  asked-told : (q : Query) (e : Evaluated) (u : Option Pointer) → Asserted u e
+      → Asserted u (onValue e Evaluated.Stopped (queryMemory q m))
   asked-told q e u h =
-      on-value (Told u) (λ c. ToldApart c m u) Evaluated.Stopped (λ c x. x) e _ h (λ v k.
-      queryMemory-gives AnyValue (λ c. ToldApart c m u) (λ z. tt) (λ p. tt) (operations u) q m v)
+      on-value (Asserted u) (SourceTells u) Evaluated.Stopped (λ c x. x) e _ h (λ v k.
+      queryMemory-gives AnyValue (SourceTells u) (λ z. tt) (λ p. tt) (operations noTemporaries ρ m u) q m v)
 
-  pub condition-told : (e : Evaluated) (u : Option Pointer) → Told u e
-      → TestStops (λ c. ToldApart c m u) (condition e)
-  condition-told e u h =
-      condition-stops AnyValue (λ c. ToldApart c m u) (λ z k. tt) (λ p z k l. tt) (operations u) e h
-
-  term-told : (t : Term) (ρ : Variables) → Told (usedByTerm t ρ m) (evaluateTerm t ρ m)
+  term-told : (t : Term) → Asserted (usedByTerm t ρ m) (evaluateTerm t ρ m)
   unfolding evaluateTerm
-  term-told (value e) ρ = evaluate-told e noTemporaries ρ
-  term-told (asked q t) ρ = asked-told q (evaluateTerm t ρ m) (usedByTerm t ρ m) (term-told t ρ)
-  term-told (combined o a b) ρ =
-      operated-told o (evaluateTerm a ρ m) (evaluateTerm b ρ m) (usedByTerm a ρ m) (usedByTerm b ρ m)
-      (term-told a ρ) (term-told b ρ)
+  term-told (value e) =
+      any-value noTemporaries ρ m (usedBy e noTemporaries ρ m) (evaluate e noTemporaries ρ m)
+      (evaluate-told noTemporaries ρ m e)
+  term-told (asked q t) = asked-told q (evaluateTerm t ρ m) (usedByTerm t ρ m) (term-told t)
+  term-told (combined o a b) =
+      operated-told noTemporaries ρ m AnyValue (λ z. tt) (λ p z k. tt) o (evaluateTerm a ρ m) (evaluateTerm b ρ m)
+      (usedByTerm a ρ m) (usedByTerm b ρ m) (term-told a) (term-told b)
 
   -- 'and' and 'or': x where the first is true, y where it is 0
-  decided-told : (a : Evaluated) (x y : Value → Evaluated) (u v w : Option Pointer) → Told u a
-      → ((z : Value) → Told v (x z)) → ((z : Value) → Told w (y z))
-      → Told (unlessDecided a u v w) (onValue a Evaluated.Stopped (λ z. onTest (tested z) Evaluated.Stopped (x z) (y z)))
+  decided-told : (a : Evaluated) (x y : Value → Evaluated) (u v w : Option Pointer) → Asserted u a
+      → ((z : Value) → Asserted v (x z)) → ((z : Value) → Asserted w (y z))
+      → Asserted (unlessDecided a u v w)
+      (onValue a Evaluated.Stopped (λ z. onTest (tested z) Evaluated.Stopped (x z) (y z)))
   decided-told (Evaluated.Stopped c) x y u v w h g k = h
   decided-told (Evaluated.Value z) x y u v w h g k =
-      go (tested z) (tested-stops AnyValue (λ c. ToldApart c m none) (λ z k. tt) (λ p z k l. tt) (operations none) z)
+      go (tested z)
+      (tested-stops AnyValue (SourceTells none) (λ z k. tt) (λ p z k l. tt) (operations noTemporaries ρ m none) z)
     where
-      go : (t : Test) → TestStops (λ c. ToldApart c m none) t
-          → Told (onTest t (λ c. none) v w) (onTest t Evaluated.Stopped (x z) (y z))
+      go : (t : Test) → TestStops (SourceTells none) t
+          → Asserted (onTest t (λ c. none) v w) (onTest t Evaluated.Stopped (x z) (y z))
       go Test.Yes s = g z
       go Test.No s = k z
       go (Test.Stopped c) s = s
 
-  pub predicate-told : (p : Predicate) (ρ : Variables) → Told (usedByPredicate p ρ m) (evaluatePredicate p ρ m)
+  pub predicate-told : (p : Predicate) → Asserted (usedByPredicate p ρ m) (evaluatePredicate p ρ m)
   unfolding evaluatePredicate
-  predicate-told (holds q t) ρ = asked-told q (evaluateTerm t ρ m) (usedByTerm t ρ m) (term-told t ρ)
-  predicate-told (compared o a b) ρ =
-      operated-told o (evaluateTerm a ρ m) (evaluateTerm b ρ m) (usedByTerm a ρ m) (usedByTerm b ρ m)
-      (term-told a ρ) (term-told b ρ)
-  predicate-told (negated a) ρ =
-      on-value (Told (usedByPredicate a ρ m)) (λ c. ToldApart c m (usedByPredicate a ρ m)) Evaluated.Stopped
-      (λ c x. x) (evaluatePredicate a ρ m) opposite (predicate-told a ρ) (λ v k.
-      opposite-gives AnyValue (λ c. ToldApart c m (usedByPredicate a ρ m)) (λ z l. tt) (λ p z l n. tt)
-      (operations (usedByPredicate a ρ m)) v)
-  predicate-told (both a b) ρ =
+  predicate-told (holds q t) = asked-told q (evaluateTerm t ρ m) (usedByTerm t ρ m) (term-told t)
+  predicate-told (compared o a b) =
+      operated-told noTemporaries ρ m AnyValue (λ z. tt) (λ p z k. tt) o (evaluateTerm a ρ m) (evaluateTerm b ρ m)
+      (usedByTerm a ρ m) (usedByTerm b ρ m) (term-told a) (term-told b)
+  predicate-told (negated a) =
+      let u = usedByPredicate a ρ m in
+      on-value (Asserted u) (SourceTells u) Evaluated.Stopped (λ c x. x) (evaluatePredicate a ρ m) opposite
+      (predicate-told a) (λ v k.
+      opposite-gives AnyValue (SourceTells u) (λ z l. tt) (λ p z l n. tt) (operations noTemporaries ρ m u) v)
+  predicate-told (both a b) =
       decided-told (evaluatePredicate a ρ m) (λ z. evaluatePredicate b ρ m) Evaluated.Value (usedByPredicate a ρ m)
-      (usedByPredicate b ρ m) none (predicate-told a ρ) (λ z. predicate-told b ρ) (λ z. tt)
-  predicate-told (either a b) ρ =
+      (usedByPredicate b ρ m) none (predicate-told a) (λ z. predicate-told b) (λ z. tt)
+  predicate-told (either a b) =
       decided-told (evaluatePredicate a ρ m) Evaluated.Value (λ z. evaluatePredicate b ρ m) (usedByPredicate a ρ m)
-      none (usedByPredicate b ρ m) (predicate-told a ρ) (λ z. tt) (λ z. predicate-told b ρ)
+      none (usedByPredicate b ρ m) (predicate-told a) (λ z. tt) (λ z. predicate-told b)

@@ -1,7 +1,6 @@
 -- 02 §2: "Repairers treat a freed block and an overrun as two different repairs". The pointer whose read or store ended
 -- a run, worked out again from the statement of the ending, the variables' blocks and the state as then.
 use Prim.Native.Nat.{ℕ, _≤_}
-use mathlib.Core.Bool.{false}
 use mathlib.Core.Option.{Option, none, some}
 use mathlib.Core.Path.{_≡_}
 use lib.IntN.{ℤ, pos, negsuc}
@@ -11,11 +10,11 @@ use Rattle.rules.specs.Trees.{either, Statement, skip, assign, new, free, seque
 use Rattle.rules.specs.TargetTrees.{TargetStatement}
 use Rattle.rules.specs.TargetTrees as target
 use Rattle.rules.specs.Numbers.{tested}
-use Rattle.rules.specs.Memory.{Memory, recordedOf, isLive, blockOf, locate, atCell, onValue, onPlace}
+use Rattle.rules.specs.Memory.{Memory, recordedOf, blockOf, locate, atCell, onValue, onPlace}
 use Rattle.rules.specs.Evaluation.{Variables, Holding, noTemporaries, evaluate, findPlace, evaluateTerm}
 use Rattle.rules.specs.Evaluation.{evaluatePredicate, onTest}
 use Rattle.rules.specs.Watched.{WatchedState, temporaryOf}
-use Rattle.rules.specs.declared.{Pointer.Pointer, Evaluated.Evaluated, Recorded.Recorded}
+use Rattle.rules.specs.declared.{Pointer.Pointer, Evaluated.Evaluated, Block.Block, Recorded.Recorded}
 
 -- a read or a store with a pointer, where it leads to no cell
 abbrev pub astray : Memory → Pointer → Option Pointer
@@ -99,9 +98,9 @@ usedWith (target.initialise s n) τ ρ m = none
 abbrev pub usedInTarget : TargetStatement → Variables → WatchedState → Option Pointer
 usedInTarget a ρ x = usedWith a (temporaryOf (x .temporaries)) ρ (x .memory)
 
--- "42 means that the block is dead": it is not live
+-- "42 means that the block is dead"
 abbrev pub IsDead : Memory → Pointer → Type 0
-IsDead m p = isLive (recordedOf (blockOf m (p .name))) ≡ false
+IsDead m p = blockOf m (p .name) ≡ Block.Dead
 
 -- "50, offset outside a live block": below 0, or not below its length
 abbrev pub Outside : ℤ → ℕ → Type 0

@@ -67,7 +67,7 @@ module _ {P : Type 0} (h : P) where
   any-made (unmade c) = h
 
 module _ {S : Type 0} (M : Meaning S) where
-  numbered-source : SourceEnds M AnyState (Numbered numberOf)
+  numbered-source : SourceEnds M (λ ρ. AnyState) (Numbered numberOf)
   numbered-source = record {
     keeps = λ a ρ x f j. tt;
     assigns = λ s p e ρ x j. any-change refl (M .assigns p e ρ x);
@@ -84,7 +84,7 @@ module _ {S : Type 0} (M : Meaning S) where
       → EndsAt parts (Numbered numberOf) a (runBy M a ρ x f)
   run-stops-at a ρ x f = run-ends-at numbered-source a ρ x f tt
 
-numbered-target : TargetEnds AnyState (Numbered targetNumber)
+numbered-target : TargetEnds (λ ρ. AnyState) (Numbered targetNumber)
 numbered-target = record {
   keeps = λ a ρ x f j. tt;
   assigns = λ s p e ρ x j. any-change refl (assigning p e ρ x);
