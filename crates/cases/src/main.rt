@@ -1,6 +1,9 @@
 // Cases of document 01 through the compiled leaves: what it prints is held to the file `stdout`.
+ghost use Rattle.rules.specs.Layout.{memoryOf};
+ghost use Rattle.memory_counts.specs.Counted.{Counted};
 use memory_blocks::Making;
 use rules::Block;
+use rules::Counts;
 use rules::Evaluated;
 use rules::ExecutionMemory;
 use rules::Found;
@@ -57,15 +60,22 @@ fn print_p3_p4() {
 }
 
 // The memory with inputs 7 and 9 and one let's block.
-fn begin(mem: &mut ExecutionMemory) {
+fn begin(mem: &mut ExecutionMemory) -> Counts
+    ensures { λ r. ⌜ Counted (memoryOf (now (mem .exit))) r ⌝ }
+{
     let inputs = [7u8, 0, 0, 0, 0, 0, 0, 0, 9, 0, 0, 0, 0, 0, 0, 0];
     memory_start::start(mem, &inputs);
-    memory_blocks::make(mem, false, 1);
+    let mut counts = memory_counts::start(2);
+    memory_blocks::make(mem, &mut counts, false, 1);
+    counts
 }
 
 // Name, first cell and length of a new block, or its ending.
-fn print_new(mem: &mut ExecutionMemory, n: usize) {
-    match memory_blocks::make(mem, true, n) {
+fn print_new(mem: &mut ExecutionMemory, counts: &mut Counts, n: usize)
+    requires { ⌜ Counted (memoryOf (now mem)) (now counts) ⌝ }
+    ensures { λ _. ⌜ Counted (memoryOf (now (mem .exit))) (now (counts .exit)) ⌝ }
+{
+    match memory_blocks::make(mem, counts, true, n) {
         Making::Name(k) => print_block(&*mem, k),
         Making::Stopped(k) => print_natural(k as u64),
     }
@@ -85,31 +95,35 @@ fn print_block(mem: &ExecutionMemory, name: u16) {
 }
 
 // The ending of statement 42 where the let's variable takes a new block of no cells.
-fn print_empty(mem: &mut ExecutionMemory) {
+fn print_empty(mem: &mut ExecutionMemory, counts: &mut Counts)
+    requires { ⌜ Counted (memoryOf (now mem)) (now counts) ⌝ }
+{
     let place = Found::Place(Pointer { name: 3, offset: 0 });
     let size = Evaluated::Value(Value::Integer(0));
-    print_natural(run_allocation::new_at(mem, place, size) as u64);
+    print_natural(run_allocation::new_at(mem, counts, place, size) as u64);
 }
 
 fn print_p8() {
     let mut mem = [0u8; MEMORY_LENGTH];
     io::write_all(1, b"P8");
-    begin(&mut mem);
-    print_new(&mut mem, 1020);
-    begin(&mut mem);
-    print_new(&mut mem, 1021);
-    begin(&mut mem);
-    print_empty(&mut mem);
+    let mut counts = begin(&mut mem);
+    print_new(&mut mem, &mut counts, 1020);
+    counts = begin(&mut mem);
+    print_new(&mut mem, &mut counts, 1021);
+    counts = begin(&mut mem);
+    print_empty(&mut mem, &mut counts);
     end_line();
 }
 
 fn print_p9() {
     let mut mem = [0u8; MEMORY_LENGTH];
     io::write_all(1, b"P9");
-    begin(&mut mem);
-    print_new(&mut mem, 6);
-    print_natural(memory_freeing::free(&mut mem, Pointer { name: 4, offset: 0 }) as u64);
-    print_new(&mut mem, 6);
+    let mut counts = begin(&mut mem);
+    print_new(&mut mem, &mut counts, 6);
+    print_natural(
+        memory_freeing::free(&mut mem, &mut counts, Pointer { name: 4, offset: 0 }) as u64,
+    );
+    print_new(&mut mem, &mut counts, 6);
     print_block(&mem, 4);
     end_line();
 }

@@ -1,9 +1,8 @@
--- Laws of the lowest number that passes, of runs, and of the count of free cells.
+-- Laws of the lowest number that passes, and of runs.
 use Prim.Native.Nat.{ℕ, zero, suc, _+_, _-_, _<_, _≤_}
-use native.Mathlib.Nat.{eq-or-lt-of-le, zero-add}
+use native.Mathlib.Nat.{eq-or-lt-of-le}
 use native.Mathlib.Omega.{arith}
 use native.Mathlib.Decide.{decLt}
-use native.Mathlib.Numerals.{add-one}
 use mathlib.Core.Path.{_≡_, refl, sym, ap, _∙_, subst}
 use mathlib.Core.Logic.{_⊎_, inl, inr, ⊎-elim}
 use mathlib.Core.Bool.{Bool, true, false}
@@ -11,12 +10,8 @@ use mathlib.Core.List.{List}
 use lib.Dec.{T}
 use Rattle.rules.specs.Sizes.{nameCount, cellCount}
 use Rattle.rules.specs.Checker.{lowest}
-use Rattle.rules.specs.Memory.{Memory, cellOf, isFree, isUnused, blockOf, allFree, lowestRun, freeRun, nextName, one}
-use Rattle.rules.specs.Memory.{countFree}
-use Rattle.rules.specs.Layout.{memoryOf, cellAt}
-use Rattle.rules.specs.Words.{tabulate}
+use Rattle.rules.specs.Memory.{Memory, cellOf, isFree, isUnused, blockOf, allFree, lowestRun, freeRun, nextName}
 use Rattle.rules.specs.declared.{Search.Search}
-use Rattle.memory_cells.proofs.Reading.{cell-in}
 
 lt-or-le : (a b : ℕ) → (a < b) ⊎ (b ≤ a)
 lt-or-le a b = pick (decLt a b)
@@ -70,13 +65,6 @@ module _ (q : ℕ → Bool) where
   lowest-none (suc k) j f =
       passed-over (q j) (Search.At j) (lowest q (suc j) k) (f j (omega arith) (omega arith))
       ∙ lowest-none k (suc j) (λ i x y. f i (omega arith) (omega arith))
-
-pub none-more : (p : ℕ → Bool) (s k : ℕ) → ((j : ℕ) → s ≤ j → j < k → p j ≡ false) → p k ≡ false
-    → (j : ℕ) → s ≤ j → j < k + 1 → p j ≡ false
-none-more p s k f t j a b = ⊎-elim (λ e. ap p e ∙ t) (λ l. f j a l) last
-  where
-    last : (j ≡ k) ⊎ (j < k)
-    last = let h : j ≤ k = omega arith in eq-or-lt-of-le h
 
 abbrev Within : ℕ → ℕ → Search → Type 0
 Within j n (Search.At k) = (j ≤ k) × (k < j + n)
@@ -196,35 +184,3 @@ module _ (p : ℕ → Bool) (n : ℕ) where
     where
       under : (j : ℕ) → j < 0 + (suc cellCount - n) → j < cellCount - run
       under j b = omega (arith, s .some, s .short)
-
--- ---- the count: of the cells from i on
-abbrev pub freeFrom : List ℕ → ℕ → ℕ
-freeFrom l i = countFree (tabulate i (cellCount - i) (cellAt l))
-
-pub count-start : (l : List ℕ) → 0 + freeFrom l 0 ≡ countFree (memoryOf l .cells)
-unfolding memoryOf
-count-start l = zero-add (freeFrom l 0)
-
-pub count-end : (l : List ℕ) → freeFrom l cellCount ≡ 0
-unfolding countFree tabulate
-count-end l = refl
-
-count-next : (l : List ℕ) (i : ℕ) → i < cellCount → freeFrom l i ≡ one (isFree (cellAt l i)) + freeFrom l (i + 1)
-unfolding countFree tabulate
-count-next l i h =
-    let k : cellCount - i ≡ suc (cellCount - (i + 1)) = omega arith in
-    rw (k, add-one i) refl
-
-pub count-turn : (l : List ℕ) (i n n′ total : ℕ) (b : Bool) → i < cellCount → b ≡ isFree (cellOf (memoryOf l) i)
-    → n + freeFrom l i ≡ total → ((b ≡ true) × (n′ ≡ n + 1)) ⊎ ((b ≡ false) × (n′ ≡ n))
-    → n′ + freeFrom l (i + 1) ≡ total
-count-turn l i n n′ total b h e f (inl w) =
-    let t : isFree (cellAt l i) ≡ true = ap isFree (cell-in l i h) ∙ sym e ∙ w .0 in
-    let c : freeFrom l i ≡ 1 + freeFrom l (i + 1) =
-    count-next l i h ∙ ap (λ (x : Bool). one x + freeFrom l (i + 1)) t in
-    omega (arith, f, c, w .1)
-count-turn l i n n′ total b h e f (inr w) =
-    let t : isFree (cellAt l i) ≡ false = ap isFree (cell-in l i h) ∙ sym e ∙ w .0 in
-    let c : freeFrom l i ≡ 0 + freeFrom l (i + 1) =
-    count-next l i h ∙ ap (λ (x : Bool). one x + freeFrom l (i + 1)) t in
-    omega (arith, f, c, w .1)

@@ -1,18 +1,18 @@
-// New blocks of the execution memory, and the count of its free cells.
+// New blocks of the execution memory.
 ghost use mathlib.Core.Path.{_≡_};
-ghost use Prim.Native.Nat.{_+_, _*_, _<_, _≤_};
-ghost use Rattle.rules.specs.Sizes.{nameCount, cellCount};
-ghost use Rattle.rules.specs.Memory.{blockOf, cellOf, isFree, isUnused, freeRun, nextName, makeBlock, withBlock};
-ghost use Rattle.rules.specs.Memory.{blockFor, countFree};
+ghost use Prim.Native.Nat.{_<_};
+ghost use Rattle.rules.specs.Sizes.{cellCount};
+ghost use Rattle.rules.specs.Memory.{cellOf, isFree, freeRun, makeBlock, withBlock, blockFor};
 ghost use Rattle.rules.specs.Layout.{memoryOf, nameLimit};
+ghost use Rattle.memory_counts.specs.Counted.{Counted};
 ghost use Rattle.memory_cells.specs.Changes.{Becomes};
 ghost use Rattle.memory_blocks.specs.Blocks.{makingOf, madeMemory, useOf};
 use rules::BLOCKS_LENGTH;
 use rules::Block;
 use rules::CELL_COUNT;
 use rules::Cell;
+use rules::Counts;
 use rules::ExecutionMemory;
-use rules::NAME_COUNT;
 use rules::Search;
 use rules::Value;
 
@@ -27,41 +27,6 @@ fn is_free(mem: &ExecutionMemory, i: usize) -> bool
     ensures { λ r. ⌜ r ≡ isFree (cellOf (memoryOf (now (mem .entry))) i) ⌝ }
 {
     mem[BLOCKS_LENGTH + i * 16] == 0
-}
-
-pub fn count_free(mem: &ExecutionMemory) -> u32
-    ensures { λ r. ⌜ r ≡ countFree (memoryOf (now (mem .entry)) .cells) ⌝ }
-{
-    let mut n: u32 = 0;
-    let mut i: usize = 0;
-    while i < CELL_COUNT {
-        if is_free(mem, i) {
-            n += 1;
-        }
-        i += 1;
-    }
-    n
-}
-
-fn is_unused(mem: &ExecutionMemory, name: usize) -> bool
-    requires { ⌜ (0 < name) × (name ≤ nameCount) ⌝ }
-    ensures { λ r. ⌜ r ≡ isUnused (blockOf (memoryOf (now (mem .entry))) name) ⌝ }
-{
-    mem[(name - 1) * 8] == 0
-}
-
-// The lowest name that was never given.
-fn next_name(mem: &ExecutionMemory) -> Search
-    ensures { λ r. ⌜ r ≡ nextName (memoryOf (now (mem .entry))) ⌝ }
-{
-    let mut k: usize = 1;
-    while k <= NAME_COUNT {
-        if is_unused(mem, k) {
-            return Search::At(k);
-        }
-        k += 1;
-    }
-    Search::Nothing
 }
 
 // The lowest run of n free cells, n from 1 on.
@@ -115,17 +80,20 @@ fn place(mem: &mut ExecutionMemory, freeable: bool, k: u16, first: u16, n: u16)
 }
 
 // A new block of n cells: 31 where all names are given, then 30 where no run of free cells is long enough.
-pub fn make(mem: &mut ExecutionMemory, freeable: bool, n: usize) -> Making
+pub fn make(mem: &mut ExecutionMemory, counts: &mut Counts, freeable: bool, n: usize) -> Making
+    requires { ⌜ Counted (memoryOf (now mem)) (now counts) ⌝ }
     ensures answer { λ r. ⌜ r ≡ makingOf (makeBlock (memoryOf (now (mem .entry))) (useOf freeable) n) ⌝ }
     ensures memory { λ _. ⌜ Becomes (now (mem .entry)) (now (mem .exit))
         (madeMemory (memoryOf (now (mem .entry))) (makeBlock (memoryOf (now (mem .entry))) (useOf freeable) n)) ⌝ }
+    ensures counts { λ _. ⌜ Counted (memoryOf (now (mem .exit))) (now (counts .exit)) ⌝ }
 {
-    match next_name(&*mem) {
+    match memory_counts::next_name(&*counts) {
         Search::Nothing => Making::Stopped(31),
         Search::At(k) => match free_run(&*mem, n) {
             Search::Nothing => Making::Stopped(30),
             Search::At(first) => {
                 place(mem, freeable, k as u16, first as u16, n as u16);
+                memory_counts::take(counts, n);
                 Making::Name(k as u16)
             }
         },

@@ -1,34 +1,42 @@
 // Freed blocks of the execution memory, and blocks at the end of a let.
 ghost use mathlib.Core.Path.{_≡_};
-ghost use Rattle.rules.specs.Memory.{blockOf, endBlock, withoutCells, freeOf, freeAt};
+ghost use Rattle.rules.specs.Memory.{recordedOf, blockOf, endBlock, withoutCells, freeOf, freeAt};
 ghost use Rattle.rules.specs.Layout.{memoryOf};
 ghost use Rattle.rules.specs.declared.{Recorded.Recorded};
+ghost use Rattle.memory_counts.specs.Counted.{Counted};
 ghost use Rattle.memory_cells.specs.Changes.{Becomes, changeNumber, changeMemory};
 use rules::Block;
 use rules::Cell;
+use rules::Counts;
 use rules::ExecutionMemory;
 use rules::Pointer;
 
 // A block that has the n cells from first on is dead, and they are free.
-fn release(mem: &mut ExecutionMemory, name: u16, first: u16, n: u16)
-    ensures { λ _. ⌜ Becomes (now (mem .entry)) (now (mem .exit))
+fn release(mem: &mut ExecutionMemory, counts: &mut Counts, name: u16, first: u16, n: u16)
+    requires { ⌜ Counted (memoryOf (now mem)) (now counts)
+        × (recordedOf (blockOf (memoryOf (now mem)) name) ≡ Recorded.Live first n) ⌝ }
+    ensures memory { λ _. ⌜ Becomes (now (mem .entry)) (now (mem .exit))
         (withoutCells (memoryOf (now (mem .entry))) name (Recorded.Live first n)) ⌝ }
+    ensures counts { λ _. ⌜ Counted (memoryOf (now (mem .exit))) (now (counts .exit)) ⌝ }
 {
     memory_cell_fills::fill(mem, first, n, Cell::Free);
     memory_block_changes::put_block(mem, name, Block::Dead);
+    memory_counts::give_back(counts, n as usize);
 }
 
-fn free_block(mem: &mut ExecutionMemory, name: u16) -> u32
+fn free_block(mem: &mut ExecutionMemory, counts: &mut Counts, name: u16) -> u32
+    requires { ⌜ Counted (memoryOf (now mem)) (now counts) ⌝ }
     ensures number { λ r. ⌜ r ≡ changeNumber (freeOf (memoryOf (now (mem .entry))) name
         (blockOf (memoryOf (now (mem .entry))) name)) ⌝ }
     ensures memory { λ _. ⌜ Becomes (now (mem .entry)) (now (mem .exit))
         (changeMemory (freeOf (memoryOf (now (mem .entry))) name (blockOf (memoryOf (now (mem .entry))) name))) ⌝ }
+    ensures counts { λ _. ⌜ Counted (memoryOf (now (mem .exit))) (now (counts .exit)) ⌝ }
 {
     match memory_cells::block(&*mem, name) {
         Block::Unused => 46,
         Block::Fixed(_, _) => 46,
         Block::Freeable(first, n) => {
-            release(mem, name, first, n);
+            release(mem, counts, name, first, n);
             0
         }
         Block::Dead => 46,
@@ -36,26 +44,30 @@ fn free_block(mem: &mut ExecutionMemory, name: u16) -> u32
 }
 
 // 46 where the pointer is not to the first cell of a live freeable block.
-pub fn free(mem: &mut ExecutionMemory, p: Pointer) -> u32
+pub fn free(mem: &mut ExecutionMemory, counts: &mut Counts, p: Pointer) -> u32
+    requires { ⌜ Counted (memoryOf (now mem)) (now counts) ⌝ }
     ensures number { λ r. ⌜ r ≡ changeNumber (freeAt (memoryOf (now (mem .entry))) (p .name) (p .offset)) ⌝ }
     ensures memory { λ _. ⌜ Becomes (now (mem .entry)) (now (mem .exit))
         (changeMemory (freeAt (memoryOf (now (mem .entry))) (p .name) (p .offset))) ⌝ }
+    ensures counts { λ _. ⌜ Counted (memoryOf (now (mem .exit))) (now (counts .exit)) ⌝ }
 {
     if p.offset == 0 {
-        free_block(mem, p.name)
+        free_block(mem, counts, p.name)
     } else {
         46
     }
 }
 
 // The end of a block, if it is live.
-pub fn end(mem: &mut ExecutionMemory, name: u16)
-    ensures { λ _. ⌜ Becomes (now (mem .entry)) (now (mem .exit)) (endBlock (memoryOf (now (mem .entry))) name) ⌝ }
+pub fn end(mem: &mut ExecutionMemory, counts: &mut Counts, name: u16)
+    requires { ⌜ Counted (memoryOf (now mem)) (now counts) ⌝ }
+    ensures memory { λ _. ⌜ Becomes (now (mem .entry)) (now (mem .exit)) (endBlock (memoryOf (now (mem .entry))) name) ⌝ }
+    ensures counts { λ _. ⌜ Counted (memoryOf (now (mem .exit))) (now (counts .exit)) ⌝ }
 {
     match memory_cells::block(&*mem, name) {
         Block::Unused => {}
-        Block::Fixed(first, n) => release(mem, name, first, n),
-        Block::Freeable(first, n) => release(mem, name, first, n),
+        Block::Fixed(first, n) => release(mem, counts, name, first, n),
+        Block::Freeable(first, n) => release(mem, counts, name, first, n),
         Block::Dead => {}
     }
 }

@@ -10,10 +10,12 @@ ghost use Rattle.rules.specs.Kinds.{source};
 ghost use Rattle.rules.specs.Flow.{ending};
 ghost use Rattle.rules.specs.Plain.{run, startVariables};
 ghost use Rattle.rules.specs.Layout.{memoryOf};
+ghost use Rattle.memory_counts.specs.Counted.{Counted};
 ghost use Rattle.plain_runs.specs.Running.{Ready, Ran};
 ghost use Rattle.plain.specs.Answering.{AnsweredBy};
 use rules::Answer;
 use rules::Checked;
+use rules::Counts;
 use rules::ExecutionMemory;
 use rules::MEMORY_LENGTH;
 use rules::TABLE_LENGTH;
@@ -22,25 +24,35 @@ use rules::Table;
 use run_endings::Ended;
 
 // Runs statement n with the variables and temporaries of the start.
-fn run_from_start(table: &Table, n: usize, mem: &mut ExecutionMemory, fuel: u32) -> Ended
-    requires { ⌜ Ready (now table) n startVariables (memoryOf (now mem)) ⌝ }
-    ensures { λ r. ⌜ Ran (run (statementAt (now (table .entry)) n) startVariables (memoryOf (now (mem .entry))) fuel) r
+fn run_from_start(
+    table: &Table,
+    n: usize,
+    mem: &mut ExecutionMemory,
+    counts: &mut Counts,
+    fuel: u32,
+) -> Ended
+    requires { ⌜ Ready (now table) n startVariables (memoryOf (now mem))
+        × Counted (memoryOf (now mem)) (now counts) ⌝ }
+    ensures outcome { λ r. ⌜ Ran (run (statementAt (now (table .entry)) n) startVariables (memoryOf (now (mem .entry))) fuel) r
         (now (mem .entry)) (now (mem .exit)) ⌝ }
+    ensures counts { λ _. ⌜ Counted (memoryOf (now (mem .exit))) (now (counts .exit)) ⌝ }
 {
     let variables = run_variables::start_variables();
     let temporaries = [0u8; TEMPORARIES_LENGTH];
-    plain_runs::run(table, n, &variables, &temporaries, mem, fuel)
+    plain_runs::run(table, n, &variables, &temporaries, mem, counts, fuel)
 }
 
 // Runs an accepted table from a memory that holds the inputs.
-fn run_table(table: &[u8], mem: &mut ExecutionMemory, fuel: u32) -> Ended
-    requires { ⌜ (check source (now table) ≡ Checked.Accepted) × FitsMemory (memoryOf (now mem)) ⌝ }
-    ensures { λ r. ⌜ Ran (run (sourceProgram (now (table .entry))) startVariables (memoryOf (now (mem .entry))) fuel) r
+fn run_table(table: &[u8], mem: &mut ExecutionMemory, counts: &mut Counts, fuel: u32) -> Ended
+    requires { ⌜ (check source (now table) ≡ Checked.Accepted) × FitsMemory (memoryOf (now mem))
+        × Counted (memoryOf (now mem)) (now counts) ⌝ }
+    ensures outcome { λ r. ⌜ Ran (run (sourceProgram (now (table .entry))) startVariables (memoryOf (now (mem .entry))) fuel) r
         (now (mem .entry)) (now (mem .exit)) ⌝ }
+    ensures counts { λ _. ⌜ Counted (memoryOf (now (mem .exit))) (now (counts .exit)) ⌝ }
 {
     let mut whole = [0u8; TABLE_LENGTH];
     run_buffers::copy(&mut whole[..], table);
-    run_from_start(&whole, table.len() / 16, mem, fuel)
+    run_from_start(&whole, table.len() / 16, mem, counts, fuel)
 }
 
 // Lays out the inputs and runs an accepted table; the memory that it leaves is copied out.
@@ -52,14 +64,14 @@ fn run_inputs(table: &[u8], inputs: &[u8], fuel: u32, memory: &mut [u8]) -> Answ
 {
     let mut mem = [0u8; MEMORY_LENGTH];
     memory_start::start(&mut mem, inputs);
-    let r = run_table(table, &mut mem, fuel);
-    let free_cells = memory_blocks::count_free(&mem);
+    let mut counts = memory_counts::start(inputs.len() / 8);
+    let r = run_table(table, &mut mem, &mut counts, fuel);
     run_buffers::copy(memory, &mem[..]);
     Answer {
         number: r.number,
         record: r.statement,
         fuel: r.fuel,
-        free_cells,
+        free_cells: counts[0] as u32,
     }
 }
 

@@ -2,3 +2,4 @@
 pub mod Laws
 pub mod ReadyLaws
 pub mod MemberLaws
+pub mod CountedRuns

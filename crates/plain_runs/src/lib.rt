@@ -8,9 +8,11 @@ ghost use Rattle.rules.specs.Plain.{run};
 ghost use Rattle.rules.specs.Layout.{memoryOf};
 ghost use Rattle.rules.specs.Nodes.{HasSort, expressionAt, predicateAt, statementAt};
 ghost use Rattle.table.specs.Within.{Within};
+ghost use Rattle.memory_counts.specs.Counted.{Counted};
 ghost use Rattle.evaluation.specs.State.{variablesOf};
 ghost use Rattle.plain_runs.specs.Running.{Ready, Inside, enclosed, Ran};
 use memory_blocks::Making;
+use rules::Counts;
 use rules::ExecutionMemory;
 use rules::Table;
 use rules::Temporaries;
@@ -75,16 +77,19 @@ fn allocate(
     variables: &Variables,
     temporaries: &Temporaries,
     mem: &mut ExecutionMemory,
+    counts: &mut Counts,
     fuel: u32,
 ) -> Ended
     requires { ⌜ Ready (now table) n (variablesOf (now variables)) (memoryOf (now mem))
-        × (kindOf (now table) n ≡ 42) ⌝ }
-    ensures { λ r. ⌜ Ran (run (statementAt (now (table .entry)) n) (variablesOf (now (variables .entry)))
+        × (kindOf (now table) n ≡ 42)
+        × Counted (memoryOf (now mem)) (now counts) ⌝ }
+    ensures outcome { λ r. ⌜ Ran (run (statementAt (now (table .entry)) n) (variablesOf (now (variables .entry)))
         (memoryOf (now (mem .entry))) fuel) r (now (mem .entry)) (now (mem .exit)) ⌝ }
+    ensures counts { λ _. ⌜ Counted (memoryOf (now (mem .exit))) (now (counts .exit)) ⌝ }
 {
     let f = run_children::find_a(table, n, variables, temporaries, &*mem);
     let e = run_children::evaluate_b(table, n, variables, temporaries, &*mem);
-    run_endings::conclude(run_allocation::new_at(mem, f, e), n as u32, fuel)
+    run_endings::conclude(run_allocation::new_at(mem, counts, f, e), n as u32, fuel)
 }
 
 // What A points to is freed.
@@ -94,15 +99,18 @@ fn release(
     variables: &Variables,
     temporaries: &Temporaries,
     mem: &mut ExecutionMemory,
+    counts: &mut Counts,
     fuel: u32,
 ) -> Ended
     requires { ⌜ Ready (now table) n (variablesOf (now variables)) (memoryOf (now mem))
-        × (kindOf (now table) n ≡ 43) ⌝ }
-    ensures { λ r. ⌜ Ran (run (statementAt (now (table .entry)) n) (variablesOf (now (variables .entry)))
+        × (kindOf (now table) n ≡ 43)
+        × Counted (memoryOf (now mem)) (now counts) ⌝ }
+    ensures outcome { λ r. ⌜ Ran (run (statementAt (now (table .entry)) n) (variablesOf (now (variables .entry)))
         (memoryOf (now (mem .entry))) fuel) r (now (mem .entry)) (now (mem .exit)) ⌝ }
+    ensures counts { λ _. ⌜ Counted (memoryOf (now (mem .exit))) (now (counts .exit)) ⌝ }
 {
     let e = run_children::evaluate_a(table, n, variables, temporaries, &*mem);
-    run_endings::conclude(run_changes::free_at(mem, e), n as u32, fuel)
+    run_endings::conclude(run_changes::free_at(mem, counts, e), n as u32, fuel)
 }
 
 // Predicate A is asserted.
@@ -130,24 +138,27 @@ pub fn run(
     variables: &Variables,
     temporaries: &Temporaries,
     mem: &mut ExecutionMemory,
+    counts: &mut Counts,
     fuel: u32,
 ) -> Ended
-    requires { ⌜ Ready (now table) n (variablesOf (now variables)) (memoryOf (now mem)) ⌝ }
-    ensures { λ r. ⌜ Ran (run (statementAt (now (table .entry)) n) (variablesOf (now (variables .entry)))
+    requires { ⌜ Ready (now table) n (variablesOf (now variables)) (memoryOf (now mem))
+        × Counted (memoryOf (now mem)) (now counts) ⌝ }
+    ensures outcome { λ r. ⌜ Ran (run (statementAt (now (table .entry)) n) (variablesOf (now (variables .entry)))
         (memoryOf (now (mem .entry))) fuel) r (now (mem .entry)) (now (mem .exit)) ⌝ }
+    ensures counts { λ _. ⌜ Counted (memoryOf (now (mem .exit))) (now (counts .exit)) ⌝ }
 {
     let mut at = n;
     let mut left = fuel;
     while table::kind(&table[..], at) == 44 {
         let first = table::child_a(&table[..], at);
-        let r = run(table, first, variables, temporaries, mem, left);
+        let r = run(table, first, variables, temporaries, mem, counts, left);
         if r.number != 0 {
             return r;
         }
         left = r.fuel;
         at = table::child_b(&table[..], at);
     }
-    run_single(table, at, variables, temporaries, mem, left)
+    run_single(table, at, variables, temporaries, mem, counts, left)
 }
 
 // Runs statement n, which is no sequence.
@@ -157,12 +168,15 @@ fn run_single(
     variables: &Variables,
     temporaries: &Temporaries,
     mem: &mut ExecutionMemory,
+    counts: &mut Counts,
     fuel: u32,
 ) -> Ended
     requires { ⌜ Ready (now table) n (variablesOf (now variables)) (memoryOf (now mem))
-        × (kindOf (now table) n ≢ 44) ⌝ }
-    ensures { λ r. ⌜ Ran (run (statementAt (now (table .entry)) n) (variablesOf (now (variables .entry)))
+        × (kindOf (now table) n ≢ 44)
+        × Counted (memoryOf (now mem)) (now counts) ⌝ }
+    ensures outcome { λ r. ⌜ Ran (run (statementAt (now (table .entry)) n) (variablesOf (now (variables .entry)))
         (memoryOf (now (mem .entry))) fuel) r (now (mem .entry)) (now (mem .exit)) ⌝ }
+    ensures counts { λ _. ⌜ Counted (memoryOf (now (mem .exit))) (now (counts .exit)) ⌝ }
 {
     match table::kind(&table[..], n) {
         40 => Ended {
@@ -171,11 +185,11 @@ fn run_single(
             fuel,
         },
         41 => assign(table, n, variables, temporaries, mem, fuel),
-        42 => allocate(table, n, variables, temporaries, mem, fuel),
-        43 => release(table, n, variables, temporaries, mem, fuel),
-        45 => branch(table, n, variables, temporaries, mem, fuel),
-        46 => repeat(table, n, variables, temporaries, mem, fuel),
-        47 => enclose(table, n, variables, temporaries, mem, fuel),
+        42 => allocate(table, n, variables, temporaries, mem, counts, fuel),
+        43 => release(table, n, variables, temporaries, mem, counts, fuel),
+        45 => branch(table, n, variables, temporaries, mem, counts, fuel),
+        46 => repeat(table, n, variables, temporaries, mem, counts, fuel),
+        47 => enclose(table, n, variables, temporaries, mem, counts, fuel),
         _ => assert(table, n, variables, temporaries, mem, fuel),
     }
 }
@@ -187,12 +201,15 @@ fn branch(
     variables: &Variables,
     temporaries: &Temporaries,
     mem: &mut ExecutionMemory,
+    counts: &mut Counts,
     fuel: u32,
 ) -> Ended
     requires { ⌜ Ready (now table) n (variablesOf (now variables)) (memoryOf (now mem))
-        × (kindOf (now table) n ≡ 45) ⌝ }
-    ensures { λ r. ⌜ Ran (run (statementAt (now (table .entry)) n) (variablesOf (now (variables .entry)))
+        × (kindOf (now table) n ≡ 45)
+        × Counted (memoryOf (now mem)) (now counts) ⌝ }
+    ensures outcome { λ r. ⌜ Ran (run (statementAt (now (table .entry)) n) (variablesOf (now (variables .entry)))
         (memoryOf (now (mem .entry))) fuel) r (now (mem .entry)) (now (mem .exit)) ⌝ }
+    ensures counts { λ _. ⌜ Counted (memoryOf (now (mem .exit))) (now (counts .exit)) ⌝ }
 {
     match test_a(table, n, variables, temporaries, &*mem) {
         Test::Yes => run(
@@ -201,6 +218,7 @@ fn branch(
             variables,
             temporaries,
             mem,
+            counts,
             fuel,
         ),
         Test::No => run(
@@ -209,6 +227,7 @@ fn branch(
             variables,
             temporaries,
             mem,
+            counts,
             fuel,
         ),
         Test::Stopped(k) => Ended {
@@ -226,12 +245,15 @@ fn repeat(
     variables: &Variables,
     temporaries: &Temporaries,
     mem: &mut ExecutionMemory,
+    counts: &mut Counts,
     fuel: u32,
 ) -> Ended
     requires { ⌜ Ready (now table) n (variablesOf (now variables)) (memoryOf (now mem))
-        × (kindOf (now table) n ≡ 46) ⌝ }
-    ensures { λ r. ⌜ Ran (run (statementAt (now (table .entry)) n) (variablesOf (now (variables .entry)))
+        × (kindOf (now table) n ≡ 46)
+        × Counted (memoryOf (now mem)) (now counts) ⌝ }
+    ensures outcome { λ r. ⌜ Ran (run (statementAt (now (table .entry)) n) (variablesOf (now (variables .entry)))
         (memoryOf (now (mem .entry))) fuel) r (now (mem .entry)) (now (mem .exit)) ⌝ }
+    ensures counts { λ _. ⌜ Counted (memoryOf (now (mem .exit))) (now (counts .exit)) ⌝ }
 {
     let b = table::child_b(&table[..], n);
     let mut left = fuel;
@@ -239,7 +261,7 @@ fn repeat(
         left -= 1;
         match test_a(table, n, variables, temporaries, &*mem) {
             Test::Yes => {
-                let r = run(table, b, variables, temporaries, mem, left);
+                let r = run(table, b, variables, temporaries, mem, counts, left);
                 if r.number != 0 {
                     return r;
                 }
@@ -275,15 +297,18 @@ fn enclose(
     variables: &Variables,
     temporaries: &Temporaries,
     mem: &mut ExecutionMemory,
+    counts: &mut Counts,
     fuel: u32,
 ) -> Ended
     requires { ⌜ Ready (now table) n (variablesOf (now variables)) (memoryOf (now mem))
-        × (kindOf (now table) n ≡ 47) ⌝ }
-    ensures { λ r. ⌜ Ran (run (statementAt (now (table .entry)) n) (variablesOf (now (variables .entry)))
+        × (kindOf (now table) n ≡ 47)
+        × Counted (memoryOf (now mem)) (now counts) ⌝ }
+    ensures outcome { λ r. ⌜ Ran (run (statementAt (now (table .entry)) n) (variablesOf (now (variables .entry)))
         (memoryOf (now (mem .entry))) fuel) r (now (mem .entry)) (now (mem .exit)) ⌝ }
+    ensures counts { λ _. ⌜ Counted (memoryOf (now (mem .exit))) (now (counts .exit)) ⌝ }
 {
-    match memory_blocks::make(mem, false, 1) {
-        Making::Name(k) => run_inside(table, n, variables, temporaries, mem, fuel, k),
+    match memory_blocks::make(mem, counts, false, 1) {
+        Making::Name(k) => run_inside(table, n, variables, temporaries, mem, counts, fuel, k),
         Making::Stopped(c) => Ended {
             number: c,
             statement: n as u32,
@@ -299,12 +324,15 @@ fn run_inside(
     variables: &Variables,
     temporaries: &Temporaries,
     mem: &mut ExecutionMemory,
+    counts: &mut Counts,
     fuel: u32,
     k: u16,
 ) -> Ended
-    requires { ⌜ Inside (now table) n (variablesOf (now variables)) (memoryOf (now mem)) k ⌝ }
-    ensures { λ r. ⌜ Ran (enclosed (now (table .entry)) n (variablesOf (now (variables .entry)))
+    requires { ⌜ Inside (now table) n (variablesOf (now variables)) (memoryOf (now mem)) k
+        × Counted (memoryOf (now mem)) (now counts) ⌝ }
+    ensures outcome { λ r. ⌜ Ran (enclosed (now (table .entry)) n (variablesOf (now (variables .entry)))
         (memoryOf (now (mem .entry))) fuel k) r (now (mem .entry)) (now (mem .exit)) ⌝ }
+    ensures counts { λ _. ⌜ Counted (memoryOf (now (mem .exit))) (now (counts .exit)) ⌝ }
 {
     let inner = run_variables::name_variable(*variables, table::mark(&table[..], n) as usize, k);
     let r = run(
@@ -313,10 +341,11 @@ fn run_inside(
         &inner,
         temporaries,
         mem,
+        counts,
         fuel,
     );
     if r.number == 0 {
-        memory_freeing::end(mem, k);
+        memory_freeing::end(mem, counts, k);
     }
     r
 }

@@ -42,6 +42,9 @@ pub const VARIABLE_COUNT: usize = 64;
 
 pub type Variables = [u16; VARIABLE_COUNT];
 
+// What a run counts as it goes: the free cells, and the next name, one past the last where all names are given.
+pub type Counts = [usize; 2];
+
 // "a pointer with its block name and offset"; the offset may lie outside the block.
 pub struct Pointer {
     pub name: u16,

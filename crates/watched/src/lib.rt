@@ -12,10 +12,12 @@ ghost use Rattle.rules.specs.Layout.{memoryOf, observationOf};
 ghost use Rattle.rules.specs.Answers.{watchedEnded, watchedOutcome, watchedBy, runWatched};
 ghost use Rattle.rules.specs.declared.{Checked.Checked};
 ghost use Rattle.rules.specs.Fits.{FitsMemory, FitsObservation};
+ghost use Rattle.memory_counts.specs.Counted.{Counted};
 ghost use Rattle.evaluation_temporaries.specs.Bytes.{temporariesLength};
 ghost use Rattle.watched_statements.specs.Watching.{lent, Ready, Leaves, AnsweredBy};
 use rules::Answer;
 use rules::Checked;
+use rules::Counts;
 use rules::ExecutionMemory;
 use rules::MEMORY_LENGTH;
 use rules::OBSERVATION_LENGTH;
@@ -30,35 +32,50 @@ fn run_from_start(
     table: &Table,
     n: usize,
     mem: &mut ExecutionMemory,
+    counts: &mut Counts,
     obs: &mut ObservationMemory,
     fuel: u32,
 ) -> Ended
-    requires { ⌜ Ready (now table) n startVariables (lent (now mem) (now obs) (replicate temporariesLength 0)) ⌝ }
-    ensures { λ r. ⌜ Leaves (watch (targetStatementAt (now (table .entry)) n) startVariables
+    requires { ⌜ Ready (now table) n startVariables (lent (now mem) (now obs) (replicate temporariesLength 0))
+        × Counted (memoryOf (now mem)) (now counts) ⌝ }
+    ensures outcome { λ r. ⌜ Leaves (watch (targetStatementAt (now (table .entry)) n) startVariables
         (watching (memoryOf (now (mem .entry))) (observationOf (now (obs .entry))) startTemporaries) fuel) r
         (now (mem .entry)) (now (mem .exit)) (now (obs .entry)) (now (obs .exit)) ⌝ }
+    ensures counts { λ _. ⌜ Counted (memoryOf (now (mem .exit))) (now (counts .exit)) ⌝ }
 {
     let variables = run_variables::start_variables();
     let mut temporaries = [0u8; TEMPORARIES_LENGTH];
-    watched_runs::run(table, n, &variables, &mut temporaries, mem, obs, fuel)
+    watched_runs::run(
+        table,
+        n,
+        &variables,
+        &mut temporaries,
+        mem,
+        counts,
+        obs,
+        fuel,
+    )
 }
 
 // Runs an accepted table from memories of the start.
 fn run_table(
     table: &[u8],
     mem: &mut ExecutionMemory,
+    counts: &mut Counts,
     obs: &mut ObservationMemory,
     fuel: u32,
 ) -> Ended
     requires { ⌜ (check target (now table) ≡ Checked.Accepted) × FitsMemory (memoryOf (now mem))
-        × FitsObservation (observationOf (now obs)) ⌝ }
-    ensures { λ r. ⌜ Leaves (watch (targetProgram (now (table .entry))) startVariables
+        × FitsObservation (observationOf (now obs))
+        × Counted (memoryOf (now mem)) (now counts) ⌝ }
+    ensures outcome { λ r. ⌜ Leaves (watch (targetProgram (now (table .entry))) startVariables
         (watching (memoryOf (now (mem .entry))) (observationOf (now (obs .entry))) startTemporaries) fuel) r
         (now (mem .entry)) (now (mem .exit)) (now (obs .entry)) (now (obs .exit)) ⌝ }
+    ensures counts { λ _. ⌜ Counted (memoryOf (now (mem .exit))) (now (counts .exit)) ⌝ }
 {
     let mut whole = [0u8; TABLE_LENGTH];
     run_buffers::copy(&mut whole[..], table);
-    run_from_start(&whole, table.len() / 16, mem, obs, fuel)
+    run_from_start(&whole, table.len() / 16, mem, counts, obs, fuel)
 }
 
 // Lays out the inputs in both memories and runs an accepted table.
@@ -75,13 +92,13 @@ fn run_memories(
 {
     memory_start::start(mem, inputs);
     watched_noting::start_observation(obs, inputs.len() / 8);
-    let r = run_table(table, mem, obs, fuel);
-    let free_cells = memory_blocks::count_free(&*mem);
+    let mut counts = memory_counts::start(inputs.len() / 8);
+    let r = run_table(table, mem, &mut counts, obs, fuel);
     Answer {
         number: r.number,
         record: r.statement,
         fuel: r.fuel,
-        free_cells,
+        free_cells: counts[0] as u32,
     }
 }
 

@@ -2,10 +2,13 @@
 ghost use mathlib.Core.Logic.{_≢_};
 ghost use mathlib.Core.Path.{_≡_};
 ghost use Rattle.rules.specs.Records.{kindOf};
+ghost use Rattle.rules.specs.Layout.{memoryOf};
+ghost use Rattle.memory_counts.specs.Counted.{Counted};
 ghost use Rattle.evaluation.specs.State.{variablesOf};
 ghost use Rattle.watched_choices.specs.Branches.{IsBranch};
 ghost use Rattle.watched_statements.specs.Watching.{lent, Ready, Inside, enclosed, Ran, Runs};
 use memory_blocks::Making;
+use rules::Counts;
 use rules::ExecutionMemory;
 use rules::ObservationMemory;
 use rules::Table;
@@ -21,26 +24,29 @@ pub fn run(
     variables: &Variables,
     temporaries: &mut Temporaries,
     mem: &mut ExecutionMemory,
+    counts: &mut Counts,
     obs: &mut ObservationMemory,
     fuel: u32,
 ) -> Ended
-    requires { ⌜ Ready (now table) n (variablesOf (now variables)) (lent (now mem) (now obs) (now temporaries)) ⌝ }
-    ensures { λ r. ⌜ Runs (now (table .entry)) n (variablesOf (now (variables .entry))) fuel r
+    requires { ⌜ Ready (now table) n (variablesOf (now variables)) (lent (now mem) (now obs) (now temporaries))
+        × Counted (memoryOf (now mem)) (now counts) ⌝ }
+    ensures outcome { λ r. ⌜ Runs (now (table .entry)) n (variablesOf (now (variables .entry))) fuel r
         (lent (now (mem .entry)) (now (obs .entry)) (now (temporaries .entry)))
         (lent (now (mem .exit)) (now (obs .exit)) (now (temporaries .exit))) ⌝ }
+    ensures counts { λ _. ⌜ Counted (memoryOf (now (mem .exit))) (now (counts .exit)) ⌝ }
 {
     let mut at = n;
     let mut left = fuel;
     while table::kind(&table[..], at) == 44 {
         let first = table::child_a(&table[..], at);
-        let r = run(table, first, variables, temporaries, mem, obs, left);
+        let r = run(table, first, variables, temporaries, mem, counts, obs, left);
         if r.number != 0 {
             return r;
         }
         left = r.fuel;
         at = table::child_b(&table[..], at);
     }
-    run_single(table, at, variables, temporaries, mem, obs, left)
+    run_single(table, at, variables, temporaries, mem, counts, obs, left)
 }
 
 // Runs statement n, which is no sequence.
@@ -50,20 +56,23 @@ fn run_single(
     variables: &Variables,
     temporaries: &mut Temporaries,
     mem: &mut ExecutionMemory,
+    counts: &mut Counts,
     obs: &mut ObservationMemory,
     fuel: u32,
 ) -> Ended
     requires { ⌜ Ready (now table) n (variablesOf (now variables)) (lent (now mem) (now obs) (now temporaries))
-        × (kindOf (now table) n ≢ 44) ⌝ }
-    ensures { λ r. ⌜ Runs (now (table .entry)) n (variablesOf (now (variables .entry))) fuel r
+        × (kindOf (now table) n ≢ 44)
+        × Counted (memoryOf (now mem)) (now counts) ⌝ }
+    ensures outcome { λ r. ⌜ Runs (now (table .entry)) n (variablesOf (now (variables .entry))) fuel r
         (lent (now (mem .entry)) (now (obs .entry)) (now (temporaries .entry)))
         (lent (now (mem .exit)) (now (obs .exit)) (now (temporaries .exit))) ⌝ }
+    ensures counts { λ _. ⌜ Counted (memoryOf (now (mem .exit))) (now (counts .exit)) ⌝ }
 {
     match table::kind(&table[..], n) {
-        45 | 66 => branch(table, n, variables, temporaries, mem, obs, fuel),
-        46 => repeat(table, n, variables, temporaries, mem, obs, fuel),
-        47 => enclose(table, n, variables, temporaries, mem, obs, fuel),
-        _ => watched_statements::step(table, n, variables, temporaries, mem, obs, fuel),
+        45 | 66 => branch(table, n, variables, temporaries, mem, counts, obs, fuel),
+        46 => repeat(table, n, variables, temporaries, mem, counts, obs, fuel),
+        47 => enclose(table, n, variables, temporaries, mem, counts, obs, fuel),
+        _ => watched_statements::step(table, n, variables, temporaries, mem, counts, obs, fuel),
     }
 }
 
@@ -74,20 +83,23 @@ fn branch(
     variables: &Variables,
     temporaries: &mut Temporaries,
     mem: &mut ExecutionMemory,
+    counts: &mut Counts,
     obs: &mut ObservationMemory,
     fuel: u32,
 ) -> Ended
     requires { ⌜ Ready (now table) n (variablesOf (now variables)) (lent (now mem) (now obs) (now temporaries))
-        × IsBranch (kindOf (now table) n) ⌝ }
-    ensures { λ r. ⌜ Runs (now (table .entry)) n (variablesOf (now (variables .entry))) fuel r
+        × IsBranch (kindOf (now table) n)
+        × Counted (memoryOf (now mem)) (now counts) ⌝ }
+    ensures outcome { λ r. ⌜ Runs (now (table .entry)) n (variablesOf (now (variables .entry))) fuel r
         (lent (now (mem .entry)) (now (obs .entry)) (now (temporaries .entry)))
         (lent (now (mem .exit)) (now (obs .exit)) (now (temporaries .exit))) ⌝ }
+    ensures counts { λ _. ⌜ Counted (memoryOf (now (mem .exit))) (now (counts .exit)) ⌝ }
 {
     let then = table::child_b(&table[..], n);
     let other = table::child_c(&table[..], n);
     match watched_choices::test(table, n, variables, &*temporaries, &*mem) {
-        Test::Yes => run(table, then, variables, temporaries, mem, obs, fuel),
-        Test::No => run(table, other, variables, temporaries, mem, obs, fuel),
+        Test::Yes => run(table, then, variables, temporaries, mem, counts, obs, fuel),
+        Test::No => run(table, other, variables, temporaries, mem, counts, obs, fuel),
         Test::Stopped(k) => Ended {
             number: k,
             statement: watched_choices::statement_of(table, n),
@@ -103,14 +115,17 @@ fn repeat(
     variables: &Variables,
     temporaries: &mut Temporaries,
     mem: &mut ExecutionMemory,
+    counts: &mut Counts,
     obs: &mut ObservationMemory,
     fuel: u32,
 ) -> Ended
     requires { ⌜ Ready (now table) n (variablesOf (now variables)) (lent (now mem) (now obs) (now temporaries))
-        × (kindOf (now table) n ≡ 46) ⌝ }
-    ensures { λ r. ⌜ Runs (now (table .entry)) n (variablesOf (now (variables .entry))) fuel r
+        × (kindOf (now table) n ≡ 46)
+        × Counted (memoryOf (now mem)) (now counts) ⌝ }
+    ensures outcome { λ r. ⌜ Runs (now (table .entry)) n (variablesOf (now (variables .entry))) fuel r
         (lent (now (mem .entry)) (now (obs .entry)) (now (temporaries .entry)))
         (lent (now (mem .exit)) (now (obs .exit)) (now (temporaries .exit))) ⌝ }
+    ensures counts { λ _. ⌜ Counted (memoryOf (now (mem .exit))) (now (counts .exit)) ⌝ }
 {
     let b = table::child_b(&table[..], n);
     let mut left = fuel;
@@ -118,7 +133,7 @@ fn repeat(
         left -= 1;
         match run_children::test_a(table, n, variables, &*temporaries, &*mem) {
             Test::Yes => {
-                let r = run(table, b, variables, temporaries, mem, obs, left);
+                let r = run(table, b, variables, temporaries, mem, counts, obs, left);
                 if r.number != 0 {
                     return r;
                 }
@@ -154,17 +169,20 @@ fn enclose(
     variables: &Variables,
     temporaries: &mut Temporaries,
     mem: &mut ExecutionMemory,
+    counts: &mut Counts,
     obs: &mut ObservationMemory,
     fuel: u32,
 ) -> Ended
     requires { ⌜ Ready (now table) n (variablesOf (now variables)) (lent (now mem) (now obs) (now temporaries))
-        × (kindOf (now table) n ≡ 47) ⌝ }
-    ensures { λ r. ⌜ Runs (now (table .entry)) n (variablesOf (now (variables .entry))) fuel r
+        × (kindOf (now table) n ≡ 47)
+        × Counted (memoryOf (now mem)) (now counts) ⌝ }
+    ensures outcome { λ r. ⌜ Runs (now (table .entry)) n (variablesOf (now (variables .entry))) fuel r
         (lent (now (mem .entry)) (now (obs .entry)) (now (temporaries .entry)))
         (lent (now (mem .exit)) (now (obs .exit)) (now (temporaries .exit))) ⌝ }
+    ensures counts { λ _. ⌜ Counted (memoryOf (now (mem .exit))) (now (counts .exit)) ⌝ }
 {
-    match memory_blocks::make(mem, false, 1) {
-        Making::Name(k) => run_inside(table, n, variables, temporaries, mem, obs, fuel, k),
+    match memory_blocks::make(mem, counts, false, 1) {
+        Making::Name(k) => run_inside(table, n, variables, temporaries, mem, counts, obs, fuel, k),
         Making::Stopped(c) => Ended {
             number: c,
             statement: watched_choices::statement_of(table, n),
@@ -180,21 +198,24 @@ fn run_inside(
     variables: &Variables,
     temporaries: &mut Temporaries,
     mem: &mut ExecutionMemory,
+    counts: &mut Counts,
     obs: &mut ObservationMemory,
     fuel: u32,
     k: u16,
 ) -> Ended
-    requires { ⌜ Inside (now table) n (variablesOf (now variables)) (lent (now mem) (now obs) (now temporaries)) k ⌝ }
-    ensures { λ r. ⌜ Ran (enclosed (now (table .entry)) n (variablesOf (now (variables .entry)))
+    requires { ⌜ Inside (now table) n (variablesOf (now variables)) (lent (now mem) (now obs) (now temporaries)) k
+        × Counted (memoryOf (now mem)) (now counts) ⌝ }
+    ensures outcome { λ r. ⌜ Ran (enclosed (now (table .entry)) n (variablesOf (now (variables .entry)))
         (lent (now (mem .entry)) (now (obs .entry)) (now (temporaries .entry))) fuel k) r
         (lent (now (mem .entry)) (now (obs .entry)) (now (temporaries .entry)))
         (lent (now (mem .exit)) (now (obs .exit)) (now (temporaries .exit))) ⌝ }
+    ensures counts { λ _. ⌜ Counted (memoryOf (now (mem .exit))) (now (counts .exit)) ⌝ }
 {
     let inner = run_variables::name_variable(*variables, table::mark(&table[..], n) as usize, k);
     let body = table::child_a(&table[..], n);
-    let r = run(table, body, &inner, temporaries, mem, obs, fuel);
+    let r = run(table, body, &inner, temporaries, mem, counts, obs, fuel);
     if r.number == 0 {
-        memory_freeing::end(mem, k);
+        memory_freeing::end(mem, counts, k);
     }
     r
 }

@@ -7,6 +7,7 @@ ghost use Rattle.rules.specs.Evaluation.{addressOf, condition};
 ghost use Rattle.rules.specs.Watched.{heldIn};
 ghost use Rattle.rules.specs.Layout.{memoryOf};
 ghost use Rattle.rules.specs.Nodes.{HasSort, numberAt};
+ghost use Rattle.memory_counts.specs.Counted.{Counted};
 ghost use Rattle.memory_cells.specs.Changes.{EvaluatedFits};
 ghost use Rattle.evaluation.specs.State.{variablesOf};
 ghost use Rattle.evaluation_temporaries.specs.Bytes.{temporariesOf};
@@ -15,6 +16,7 @@ ghost use Rattle.run_endings.specs.Ending.{assertNumber};
 ghost use Rattle.run_changes.specs.Changing.{Does};
 ghost use Rattle.watched_steps.specs.Steps.{Takes};
 ghost use Rattle.watched_statements.specs.Watching.{lent, Ready, IsAct, Runs, Acts};
+use rules::Counts;
 use rules::ExecutionMemory;
 use rules::ObservationMemory;
 use rules::Table;
@@ -51,18 +53,21 @@ fn allocate(
     variables: &Variables,
     temporaries: &Temporaries,
     mem: &mut ExecutionMemory,
+    counts: &mut Counts,
 ) -> u32
-    requires { ⌜ HasSort target statement (now table) n × (kindOf (now table) n ≡ 42) ⌝ }
-    ensures { λ r. ⌜ Does (allocated (memoryOf (now (mem .entry)))
+    requires { ⌜ HasSort target statement (now table) n × (kindOf (now table) n ≡ 42)
+        × Counted (memoryOf (now mem)) (now counts) ⌝ }
+    ensures change { λ r. ⌜ Does (allocated (memoryOf (now (mem .entry)))
         (foundIn (now (table .entry)) (childA (now (table .entry)) n) (now (variables .entry))
         (now (temporaries .entry)) (now (mem .entry)))
         (valueIn (now (table .entry)) (childB (now (table .entry)) n) (now (variables .entry))
         (now (temporaries .entry)) (now (mem .entry))))
         r (now (mem .entry)) (now (mem .exit)) ⌝ }
+    ensures counts { λ _. ⌜ Counted (memoryOf (now (mem .exit))) (now (counts .exit)) ⌝ }
 {
     let f = run_children::find_a(table, n, variables, temporaries, &*mem);
     let e = run_children::evaluate_b(table, n, variables, temporaries, &*mem);
-    run_allocation::new_at(mem, f, e)
+    run_allocation::new_at(mem, counts, f, e)
 }
 
 // 43: what A points to is freed.
@@ -72,15 +77,18 @@ fn release(
     variables: &Variables,
     temporaries: &Temporaries,
     mem: &mut ExecutionMemory,
+    counts: &mut Counts,
 ) -> u32
-    requires { ⌜ HasSort target statement (now table) n × (kindOf (now table) n ≡ 43) ⌝ }
-    ensures { λ r. ⌜ Does (freed (memoryOf (now (mem .entry)))
+    requires { ⌜ HasSort target statement (now table) n × (kindOf (now table) n ≡ 43)
+        × Counted (memoryOf (now mem)) (now counts) ⌝ }
+    ensures change { λ r. ⌜ Does (freed (memoryOf (now (mem .entry)))
         (valueIn (now (table .entry)) (childA (now (table .entry)) n) (now (variables .entry))
         (now (temporaries .entry)) (now (mem .entry))))
         r (now (mem .entry)) (now (mem .exit)) ⌝ }
+    ensures counts { λ _. ⌜ Counted (memoryOf (now (mem .exit))) (now (counts .exit)) ⌝ }
 {
     let e = run_children::evaluate_a(table, n, variables, temporaries, &*mem);
-    run_changes::free_at(mem, e)
+    run_changes::free_at(mem, counts, e)
 }
 
 // 60: the temporary takes the address of place A.
@@ -135,19 +143,22 @@ fn act(
     variables: &Variables,
     temporaries: &mut Temporaries,
     mem: &mut ExecutionMemory,
+    counts: &mut Counts,
     obs: &mut ObservationMemory,
 ) -> u32
     requires { ⌜ Ready (now table) n (variablesOf (now variables)) (lent (now mem) (now obs) (now temporaries))
-        × IsAct (kindOf (now table) n) ⌝ }
-    ensures { λ r. ⌜ Acts (now (table .entry)) n (variablesOf (now (variables .entry))) r
+        × IsAct (kindOf (now table) n)
+        × Counted (memoryOf (now mem)) (now counts) ⌝ }
+    ensures outcome { λ r. ⌜ Acts (now (table .entry)) n (variablesOf (now (variables .entry))) r
         (lent (now (mem .entry)) (now (obs .entry)) (now (temporaries .entry)))
         (lent (now (mem .exit)) (now (obs .exit)) (now (temporaries .exit))) ⌝ }
+    ensures counts { λ _. ⌜ Counted (memoryOf (now (mem .exit))) (now (counts .exit)) ⌝ }
 {
     match table::kind(&table[..], n) {
         40 => 0,
         41 => assign(table, n, variables, &*temporaries, mem),
-        42 => allocate(table, n, variables, &*temporaries, mem),
-        43 => release(table, n, variables, &*temporaries, mem),
+        42 => allocate(table, n, variables, &*temporaries, mem, counts),
+        43 => release(table, n, variables, &*temporaries, mem, counts),
         60 => take_address(table, n, variables, temporaries, &*mem),
         61 => take_value(table, n, variables, temporaries, &*mem),
         63..=65 => watched_steps::take(table, n, temporaries, &*obs),
@@ -163,15 +174,18 @@ pub fn step(
     variables: &Variables,
     temporaries: &mut Temporaries,
     mem: &mut ExecutionMemory,
+    counts: &mut Counts,
     obs: &mut ObservationMemory,
     fuel: u32,
 ) -> Ended
     requires { ⌜ Ready (now table) n (variablesOf (now variables)) (lent (now mem) (now obs) (now temporaries))
-        × IsAct (kindOf (now table) n) ⌝ }
-    ensures { λ r. ⌜ Runs (now (table .entry)) n (variablesOf (now (variables .entry))) fuel r
+        × IsAct (kindOf (now table) n)
+        × Counted (memoryOf (now mem)) (now counts) ⌝ }
+    ensures outcome { λ r. ⌜ Runs (now (table .entry)) n (variablesOf (now (variables .entry))) fuel r
         (lent (now (mem .entry)) (now (obs .entry)) (now (temporaries .entry)))
         (lent (now (mem .exit)) (now (obs .exit)) (now (temporaries .exit))) ⌝ }
+    ensures counts { λ _. ⌜ Counted (memoryOf (now (mem .exit))) (now (counts .exit)) ⌝ }
 {
-    let number = act(table, n, variables, temporaries, mem, obs);
+    let number = act(table, n, variables, temporaries, mem, counts, obs);
     run_endings::conclude(number, watched_choices::statement_of(table, n), fuel)
 }

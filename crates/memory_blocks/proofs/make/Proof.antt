@@ -1,11 +1,14 @@
 -- `memory_blocks::make` meets its contract. Assumes nothing.
-use mathlib.Core.Path.{_≡_, refl, sym, ap, _∙_, subst}
-use Prim.Native.Nat.{ℕ, suc, _+_, _-_, _*_, _≤_, _<_}
+use mathlib.Core.Path.{_≡_, refl, sym, _∙_}
+use Prim.Native.Nat.{_+_}
 use native.Mathlib.Omega.{arith}
+use denote.Ref.{now}
 use Rattle.rules.specs.Layout.{memoryOf}
 use Rattle.rules.specs.declared.{Search.Search}
-use Rattle.rules.specs.Memory.{nextName, freeRun}
+use Rattle.rules.specs.Memory.{nextName, freeRun, made, makeBlock, withBlock}
+use Rattle.memory_counts.proofs.CountLaws.{counted-is, room-counted, counted-new}
 use Rattle.memory_cell_changes.proofs.Writing.{unchanged}
+use Rattle.memory_blocks.specs.Blocks.{useOf}
 use Rattle.memory_blocks.proofs.Runs.{name-bound, run-bound}
 use borrow.Author.Needs.{needs}
 use Rattle.memory_blocks.proofs.make.Statement.{statement}
@@ -13,8 +16,52 @@ use Rattle.memory_blocks.proofs.make.Tie as tie
 use Rattle.memory_blocks.proofs.make.Reads as reads
 use Rattle.memory_blocks.proofs.make.Lts as lts
 use Rattle.memory_blocks.proofs.free_run.Reads as free-run-reads
-use Rattle.memory_blocks.proofs.next_name.Reads as next-name-reads
 use Rattle.memory_blocks.proofs.place.Reads as place-reads
+use Rattle.memory_counts.proofs.next_name.Reads as next-name-reads
+use Rattle.memory_counts.proofs.take.Reads as take-reads
+
+-- where a name and cells were found, and where the block has them
+abbrev Fitting : Type 0
+Fitting = lts.After-place-arg (
+  next-name-reads.Asked,
+  next-name-reads.Learnt,
+  free-run-reads.Asked,
+  free-run-reads.Learnt,
+  place-reads.Asked,
+  place-reads.Learnt,
+  take-reads.Asked,
+  take-reads.Learnt,
+) reads.Pre reads.Post
+
+abbrev Named : Type 0
+Named = lts.After-k (
+  next-name-reads.Asked,
+  next-name-reads.Learnt,
+  free-run-reads.Asked,
+  free-run-reads.Learnt,
+  place-reads.Asked,
+  place-reads.Learnt,
+  take-reads.Asked,
+  take-reads.Learnt,
+) reads.Pre reads.Post
+
+name : (c : Named) → let s = c .before .before .before .before in
+    nextName (memoryOf (now (s .args .mem))) ≡ Search.At (c .k .given .0 .0)
+name c =
+    let s = c .before .before .before .before in
+    s .pre .next ∙ sym (c .before .before .next-name .ensures) ∙ c .k .given .1
+
+run : (c : Fitting) → let s = c .before .before .before .before .before .before .before .before .before .before .before in
+    freeRun (memoryOf (now (s .args .mem))) (s .args .n) ≡ Search.At (c .before .before .first .given .0 .0)
+run c = sym (c .before .before .before .before .free-run .ensures) ∙ c .before .before .first .given .1
+
+makes : (c : Fitting) → let after-k = c .before .before .before .before .before .before .before in
+    let s = after-k .before .before .before .before in
+    let k = after-k .k .given .0 .0 in
+    makeBlock (memoryOf (now (s .args .mem))) (useOf (s .args .freeable)) (s .args .n)
+    ≡ made k (withBlock (memoryOf (now (s .args .mem))) (useOf (s .args .freeable)) k (c .before .before .first .given .0 .0)
+    (s .args .n))
+makes c = rw (name (c .before .before .before .before .before .before .before), run c) refl
 
 next-name-requires : tie.Need-next-name-requires
 next-name-requires c κs = search needs
@@ -36,91 +83,67 @@ enum-known-first c = search needs
 
 cast-place : tie.Need-cast-place
 cast-place c =
-    let s = c .before .before .before .before .before .before .before .before .before .before .before in
-    let m = memoryOf (s .args .mem .now) in
-    let k = c .before .before .before .before .before .before .before .k .given in
-    let name : nextName m ≡ Search.At (k .0 .0) =
-    sym (c .before .before .before .before .before .before .before .before .before .next-name .ensures)
-    ∙ k .1 in
-    omega (arith, name-bound m (k .0 .0) name)
+    let after-k = c .before .before .before .before .before .before .before in
+    omega (arith, name-bound (memoryOf (now (after-k .before .before .before .before .args .mem))) _ (name after-k))
 
 cast-place-2 : tie.Need-cast-place-2
 cast-place-2 c =
     let s = c .before .before .before .before .before .before .before .before .before .before .before in
-    let m = memoryOf (s .args .mem .now) in
-    let k = c .before .before .before .before .before .before .before .k .given in
-    let name : nextName m ≡ Search.At (k .0 .0) =
-    sym (c .before .before .before .before .before .before .before .before .before .next-name .ensures)
-    ∙ k .1 in
-    let first = c .before .before .first .given in
-    let run : freeRun m (s .args .n) ≡ Search.At (first .0 .0) =
-    sym (c .before .before .before .before .free-run .ensures) ∙ first .1 in
-    omega (arith, run-bound m (s .args .n) (first .0 .0) run)
+    omega (arith, run-bound (memoryOf (now (s .args .mem))) (s .args .n) _ (run c))
 
 cast-place-3 : tie.Need-cast-place-3
 cast-place-3 c =
     let s = c .before .before .before .before .before .before .before .before .before .before .before in
-    let m = memoryOf (s .args .mem .now) in
-    let k = c .before .before .before .before .before .before .before .k .given in
-    let name : nextName m ≡ Search.At (k .0 .0) =
-    sym (c .before .before .before .before .before .before .before .before .before .next-name .ensures)
-    ∙ k .1 in
-    let first = c .before .before .first .given in
-    let run : freeRun m (s .args .n) ≡ Search.At (first .0 .0) =
-    sym (c .before .before .before .before .free-run .ensures) ∙ first .1 in
-    omega (arith, run-bound m (s .args .n) (first .0 .0) run)
+    omega (arith, run-bound (memoryOf (now (s .args .mem))) (s .args .n) _ (run c))
 
 place-requires : tie.Need-place-requires
 place-requires c κs =
-    let s = c .before .before .before .before .before .before .before .before .before .before .before in
-    let m = memoryOf (s .args .mem .now) in
-    let k = c .before .before .before .before .before .before .before .k .given in
-    let name : nextName m ≡ Search.At (k .0 .0) =
-    sym (c .before .before .before .before .before .before .before .before .before .next-name .ensures)
-    ∙ k .1 in
-    omega (arith, name-bound m (k .0 .0) name)
+    let after-k = c .before .before .before .before .before .before .before in
+    omega (arith, name-bound (memoryOf (now (after-k .before .before .before .before .args .mem))) _ (name after-k))
 
-cast-t14 : tie.Need-cast-t14
-cast-t14 c =
-    let s = c .before .before .before .before .before .before .before .before .before .before .before .before in
-    let m = memoryOf (s .args .mem .now) in
-    let k = c .before .before .before .before .before .before .before .before .k .given in
-    let name : nextName m ≡ Search.At (k .0 .0) =
-    sym (c .before .before .before .before .before .before .before .before .before .before .next-name .ensures)
-    ∙ k .1 in
-    omega (arith, name-bound m (k .0 .0) name)
+take-requires : tie.Need-take-requires
+take-requires c κs =
+    let found = c .before .before in
+    let after-k = found .before .before .before .before .before .before .before in
+    let s = after-k .before .before .before .before in
+    room-counted (s .pre) (useOf (s .args .freeable)) (s .args .n) (after-k .k .given .0 .0) _ (makes found) (name after-k)
+
+cast-t17 : tie.Need-cast-t17
+cast-t17 c =
+    let after-k = c .before .before .before .before .before .before .before .before .before .before in
+    omega (arith, name-bound (memoryOf (now (after-k .before .before .before .before .args .mem))) _ (name after-k))
 
 returns : tie.Need-returns
 returns c =
     let s = c .before .before .before .before in
-    let m = memoryOf (s .args .mem .now) in
-    let e : nextName m ≡ Search.Nothing = sym (c .before .before .next-name .ensures) ∙ c .enum-told .given .1 in
-    (rw e refl, rw e (unchanged (s .args .mem .now) m refl))
+    let l = s .args .mem .now in
+    let e : nextName (memoryOf l) ≡ Search.Nothing =
+    s .pre .next ∙ sym (c .before .before .next-name .ensures) ∙ c .enum-told .given .1 in
+    (rw e refl, (rw e (unchanged l (memoryOf l) refl), s .pre))
 
 returns-2 : tie.Need-returns-2
 returns-2 c =
-    let s = c .before .before .before .before .before .before .before .before .before in
-    let m = memoryOf (s .args .mem .now) in
-    let k = c .before .before .before .before .before .k .given in
-    let e : nextName m ≡ Search.At (k .0 .0) =
-    sym (c .before .before .before .before .before .before .before .next-name .ensures)
-    ∙ k .1 in
-    let f : freeRun m (s .args .n) ≡ Search.Nothing =
+    let after-k = c .before .before .before .before .before in
+    let s = after-k .before .before .before .before in
+    let l = s .args .mem .now in
+    let f : freeRun (memoryOf l) (s .args .n) ≡ Search.Nothing =
     sym (c .before .before .free-run .ensures) ∙ c .enum-told2 .given .1 in
-    (rw (e, f) refl, rw (e, f) (unchanged (s .args .mem .now) m refl))
+    (rw (name after-k, f) refl, (rw (name after-k, f) (unchanged l (memoryOf l) refl), s .pre))
 
 returns-3 : tie.Need-returns-3
 returns-3 c =
-    let s = c .before .before .before .before .before .before .before .before .before .before .before .before in
-    let m = memoryOf (s .args .mem .now) in
-    let k = c .before .before .before .before .before .before .before .before .k .given in
-    let name : nextName m ≡ Search.At (k .0 .0) =
-    sym (c .before .before .before .before .before .before .before .before .before .before .next-name .ensures)
-    ∙ k .1 in
-    let first = c .before .before .before .first .given in
-    let run : freeRun m (s .args .n) ≡ Search.At (first .0 .0) =
-    sym (c .before .before .before .before .before .free-run .ensures) ∙ first .1 in
-    (rw (name, run) refl, rw (name, run) (c .place .ensures))
+    let found = c .before .before .before in
+    let after-k = found .before .before .before .before .before .before .before in
+    let s = after-k .before .before .before .before in
+    let placed = c .before .before .place .ensures in (
+      rw (makes found) refl,
+      (
+        rw (makes found) placed,
+        counted-is (placed .view) (c .take .ensures)
+            (counted-new (s .pre) (useOf (s .args .freeable)) (s .args .n) (after-k .k .given .0 .0) _ (makes found)
+            (name after-k)),
+      ),
+    )
 
 pub make-spec : {M : Type 1} → statement M
 make-spec =
@@ -136,7 +159,8 @@ make-spec =
     cast-place-2
     cast-place-3
     place-requires
-    cast-t14
+    take-requires
+    cast-t17
     returns
     returns-2
     returns-3)

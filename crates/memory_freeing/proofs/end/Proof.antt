@@ -1,7 +1,7 @@
 -- `memory_freeing::end` meets its contract. Assumes nothing.
 use mathlib.Core.Path.{_≡_, refl, sym, ap, _∙_, subst}
 use Rattle.rules.specs.Layout.{memoryOf}
-use Rattle.rules.specs.Memory.{blockOf}
+use Rattle.rules.specs.Memory.{recordedOf, blockOf}
 use Rattle.rules.specs.declared.{Block.Block}
 use Rattle.memory_cell_changes.proofs.Writing.{unchanged}
 use borrow.Author.Needs.{needs}
@@ -22,13 +22,19 @@ enum-known-first : tie.Need-enum-known-first
 enum-known-first c = search needs
 
 release-requires : tie.Need-release-requires
-release-requires c κs = search needs
+release-requires c κs =
+    let s = c .before .before .before .before .before .before .before in
+    let b = c .before .before .before .first .given in
+    (s .pre, ap recordedOf (sym (c .before .before .before .before .before .block .ensures) ∙ b .1))
 
 enum-known-first-2 : tie.Need-enum-known-first-2
 enum-known-first-2 c = search needs
 
 release-requires-2 : tie.Need-release-requires-2
-release-requires-2 c κs = search needs
+release-requires-2 c κs =
+    let s = c .before .before .before .before .before .before .before in
+    let b = c .before .before .before .first2 .given in
+    (s .pre, ap recordedOf (sym (c .before .before .before .before .before .block .ensures) ∙ b .1))
 
 enum-told-2 : tie.Need-enum-told-2
 enum-told-2 c = search needs
@@ -39,25 +45,25 @@ returns c =
     let l = s .args .mem .now in
     let e : blockOf (memoryOf l) (s .args .name) ≡ Block.Unused =
     sym (c .before .before .block .ensures) ∙ c .enum-told .given .1 in
-    rw e (unchanged l (memoryOf l) refl)
+    (rw e (unchanged l (memoryOf l) refl), s .pre)
 
 returns-2 : tie.Need-returns-2
 returns-2 c =
-    let s = c .before .before .before .before .before .before .before in
+    let s = c .before .before .before .before .before .before .before .before in
     let l = s .args .mem .now in
-    let b = c .before .before .before .first .given in
+    let b = c .before .before .before .before .first .given in
     let e : blockOf (memoryOf l) (s .args .name) ≡ Block.Fixed (b .0 .0) (b .0 .1 .0) =
-    sym (c .before .before .before .before .before .block .ensures) ∙ b .1 in
-    rw e (c .release .ensures)
+    sym (c .before .before .before .before .before .before .block .ensures) ∙ b .1 in
+    (rw e (c .release .ensures .0), c .release .ensures .1)
 
 returns-3 : tie.Need-returns-3
 returns-3 c =
-    let s = c .before .before .before .before .before .before .before in
+    let s = c .before .before .before .before .before .before .before .before in
     let l = s .args .mem .now in
-    let b = c .before .before .before .first2 .given in
+    let b = c .before .before .before .before .first2 .given in
     let e : blockOf (memoryOf l) (s .args .name) ≡ Block.Freeable (b .0 .0) (b .0 .1 .0) =
-    sym (c .before .before .before .before .before .block .ensures) ∙ b .1 in
-    rw e (c .release2 .ensures)
+    sym (c .before .before .before .before .before .before .block .ensures) ∙ b .1 in
+    (rw e (c .release2 .ensures .0), c .release2 .ensures .1)
 
 returns-4 : tie.Need-returns-4
 returns-4 c =
@@ -65,7 +71,7 @@ returns-4 c =
     let l = s .args .mem .now in
     let e : blockOf (memoryOf l) (s .args .name) ≡ Block.Dead =
     sym (c .before .before .block .ensures) ∙ c .enum-told2 .given .1 in
-    rw e (unchanged l (memoryOf l) refl)
+    (rw e (unchanged l (memoryOf l) refl), s .pre)
 
 pub end-spec : {M : Type 1} → statement M
 end-spec =

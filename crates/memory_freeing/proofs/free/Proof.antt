@@ -21,9 +21,9 @@ free-block-requires c κs = search needs
 
 returns : tie.Need-returns
 returns c =
-    let s = c .before .before .before .before .before in
+    let s = c .before .before .before .before .before .before in
     let f : SFits w64 (s .args .p .offset) = search needs in
-    let e : s .args .p .offset ≡ pos 0 = of-bits 0 f (c .before .before .if1 .taken) in
+    let e : s .args .p .offset ≡ pos 0 = of-bits 0 f (c .before .before .before .if1 .taken) in
     rw e (c .free-block .ensures)
 
 returns-2 : tie.Need-returns-2
@@ -33,7 +33,7 @@ returns-2 c =
     let z = s .args .p .offset in
     let e : freeAt m (s .args .p .name) z ≡ stopped 46 m =
     not-first m (s .args .p .name) z (λ q. c .if1 .left (ap (ofZ w64) q)) in
-    (rw e refl, rw e (unchanged (s .args .mem .now) m refl))
+    (rw e refl, (rw e (unchanged (s .args .mem .now) m refl), s .pre))
 
 pub free-spec : {M : Type 1} → statement M
 free-spec = tie.close (tie.spec free-block-requires returns returns-2)

@@ -1,7 +1,7 @@
 -- `memory_freeing::free_block` meets its contract. Assumes nothing.
 use mathlib.Core.Path.{_≡_, refl, sym, ap, _∙_, subst}
 use Rattle.rules.specs.Layout.{memoryOf}
-use Rattle.rules.specs.Memory.{blockOf}
+use Rattle.rules.specs.Memory.{recordedOf, blockOf}
 use Rattle.rules.specs.declared.{Block.Block}
 use Rattle.memory_cell_changes.proofs.Writing.{unchanged, becomes-as}
 use Rattle.memory_freeing.proofs.Steps.{free-live}
@@ -26,7 +26,10 @@ enum-known-first : tie.Need-enum-known-first
 enum-known-first c = search needs
 
 release-requires : tie.Need-release-requires
-release-requires c κs = search needs
+release-requires c κs =
+    let s = c .before .before .before .before .before .before .before in
+    let b = c .before .before .before .first .given in
+    (s .pre, ap recordedOf (sym (c .before .before .before .before .before .block .ensures) ∙ b .1))
 
 enum-told-3 : tie.Need-enum-told-3
 enum-told-3 c = search needs
@@ -37,7 +40,7 @@ returns c =
     let l = s .args .mem .now in
     let e : blockOf (memoryOf l) (s .args .name) ≡ Block.Unused =
     sym (c .before .before .block .ensures) ∙ c .enum-told .given .1 in
-    (rw e refl, rw e (unchanged l (memoryOf l) refl))
+    (rw e refl, (rw e (unchanged l (memoryOf l) refl), s .pre))
 
 returns-2 : tie.Need-returns-2
 returns-2 c =
@@ -46,17 +49,20 @@ returns-2 c =
     let b = c .enum-told2 .given in
     let e : blockOf (memoryOf l) (s .args .name) ≡ Block.Fixed (b .0 .0) (b .0 .1 .0) =
     sym (c .before .before .block .ensures) ∙ b .1 in
-    (rw e refl, rw e (unchanged l (memoryOf l) refl))
+    (rw e refl, (rw e (unchanged l (memoryOf l) refl), s .pre))
 
 returns-3 : tie.Need-returns-3
 returns-3 c =
-    let s = c .before .before .before .before .before .before .before in
+    let s = c .before .before .before .before .before .before .before .before in
     let l = s .args .mem .now in
-    let b = c .before .before .before .first .given in
+    let b = c .before .before .before .before .first .given in
     let e : blockOf (memoryOf l) (s .args .name) ≡ Block.Freeable (b .0 .0) (b .0 .1 .0) =
-    sym (c .before .before .before .before .before .block .ensures) ∙ b .1 in (
+    sym (c .before .before .before .before .before .before .block .ensures) ∙ b .1 in (
       rw e refl,
-      becomes-as (free-live (memoryOf l) (s .args .name) (b .0 .0) (b .0 .1 .0) e) (c .release .ensures),
+      (
+        becomes-as (free-live (memoryOf l) (s .args .name) (b .0 .0) (b .0 .1 .0) e) (c .release .ensures .0),
+        c .release .ensures .1,
+      ),
     )
 
 returns-4 : tie.Need-returns-4
@@ -65,7 +71,7 @@ returns-4 c =
     let l = s .args .mem .now in
     let e : blockOf (memoryOf l) (s .args .name) ≡ Block.Dead =
     sym (c .before .before .block .ensures) ∙ c .enum-told3 .given .1 in
-    (rw e refl, rw e (unchanged l (memoryOf l) refl))
+    (rw e refl, (rw e (unchanged l (memoryOf l) refl), s .pre))
 
 pub free-block-spec : {M : Type 1} → statement M
 free-block-spec =

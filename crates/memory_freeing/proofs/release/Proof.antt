@@ -1,6 +1,7 @@
 -- `memory_freeing::release` meets its contract. Assumes nothing.
 use Rattle.rules.specs.Memory.{Memory}
 use Rattle.rules.specs.declared.{Block.Block}
+use Rattle.memory_counts.proofs.CountLaws.{counted-is, end-counted, counted-end}
 use Rattle.memory_cells.specs.Changes.{setBlock}
 use Rattle.memory_cell_changes.proofs.Writing.{becomes-then}
 use borrow.Author.Needs.{needs}
@@ -17,11 +18,20 @@ fill-requires c κs = search needs
 put-block-requires : tie.Need-put-block-requires
 put-block-requires c κs = search needs
 
+give-back-requires : tie.Need-give-back-requires
+give-back-requires c κs =
+    let s = c .before .before .before .before .before in
+    end-counted (s .pre .0) (s .args .name) (s .args .first) (s .args .n) (s .pre .1)
+
 returns : tie.Need-returns
 returns c =
-    let s = c .before .before .before .before in
-    becomes-then (λ (x : Memory). setBlock x (s .args .name) Block.Dead) (c .before .before .fill .ensures)
-    (c .put-block .ensures)
+    let s = c .before .before .before .before .before .before in
+    let w = becomes-then (λ (x : Memory). setBlock x (s .args .name) Block.Dead)
+    (c .before .before .before .before .fill .ensures) (c .before .before .put-block .ensures) in (
+      w,
+      counted-is (w .view) (c .give-back .ensures)
+          (counted-end (s .pre .0) (s .args .name) (s .args .first) (s .args .n) (s .pre .1)),
+    )
 
 pub release-spec : {M : Type 1} → statement M
-release-spec = tie.close (tie.spec fill-requires put-block-requires returns)
+release-spec = tie.close (tie.spec fill-requires put-block-requires give-back-requires returns)

@@ -5,10 +5,14 @@ start-variables-requires : tie.Need-start-variables-requires
 start-variables-requires c κs = tt
 
 run-requires : tie.Need-run-requires
-run-requires c κs = rw (c .before .before .before .start-variables .ensures) (c .before .before .before .before .pre)
+run-requires c κs =
+    let after-start-variables = c .before .before .before .before in
+    rw (after-start-variables .start-variables .ensures) (after-start-variables .before .pre)
 
 returns : tie.Need-returns
-returns c = rw (c .before .before .before .before .start-variables .ensures) at (c .run .ensures)
+returns c =
+    let after-start-variables = c .before .before .before .before .before in
+    (rw (after-start-variables .start-variables .ensures) at (c .run .ensures .0), c .run .ensures .1)
 
 pub run-from-start-spec : {M : Type 1} → statement M
 run-from-start-spec = tie.close (tie.spec start-variables-requires run-requires returns)

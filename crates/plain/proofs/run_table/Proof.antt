@@ -22,19 +22,25 @@ copy-requires c κs =
 
 run-from-start-requires : tie.Need-run-from-start-requires
 run-from-start-requires c κs =
-    let s = c .before .before .before .before .before .before in
+    let after-copy = c .before .before .before .before in
+    let s = after-copy .before .before .before in
     let T = s .args .table .now in
-    rw (c .before .before .before .copy .ensures)
-    (ready-start T (replicate (targetLimit * 16) 0) (s .pre .0) (memoryOf (s .args .mem .now)) (s .pre .1))
+    rw (after-copy .copy .ensures) (
+      ready-start T (replicate (targetLimit * 16) 0) (s .pre .0) (memoryOf (s .args .mem .now)) (s .pre .1),
+      s .pre .2,
+    )
 
 returns : tie.Need-returns
 returns c =
-    let s = c .before .before .before .before .before .before .before in
-    let T = s .args .table .now in
-    ran-is
-    (ap (λ (x : Statement). ending (run x startVariables (memoryOf (s .args .mem .now)) (s .args .fuel)))
-    (sym (same-program T (replicate (targetLimit * 16) 0) (s .pre .0))))
-    (rw (c .before .before .before .before .copy .ensures) at (c .run-from-start .ensures))
+    let after-copy = c .before .before .before .before .before in
+    let s = after-copy .before .before .before in
+    let T = s .args .table .now in (
+      ran-is
+          (ap (λ (x : Statement). ending (run x startVariables (memoryOf (s .args .mem .now)) (s .args .fuel)))
+          (sym (same-program T (replicate (targetLimit * 16) 0) (s .pre .0))))
+          (rw (after-copy .copy .ensures) at (c .run-from-start .ensures .0)),
+      c .run-from-start .ensures .1,
+    )
 
 pub run-table-spec : {M : Type 1} → statement M
 run-table-spec = tie.close (tie.spec slice-aggregate-copy copy-requires run-from-start-requires returns)

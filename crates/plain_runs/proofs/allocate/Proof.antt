@@ -34,11 +34,11 @@ evaluate-b-requires c κs =
     )
 
 new-at-requires : tie.Need-new-at-requires
-new-at-requires c κs = tt
+new-at-requires c κs = c .before .before .before .before .before .before .pre .2
 
 cast-conclude : tie.Need-cast-conclude
 cast-conclude c =
-    let s = c .before .before .before .before .before .before in
+    let s = c .before .before .before .before .before .before .before in
     ready-number (s .pre .0)
 
 conclude-requires : tie.Need-conclude-requires
@@ -46,24 +46,26 @@ conclude-requires c κs = tt
 
 returns : tie.Need-returns
 returns c =
-    let s = c .before .before .before .before .before .before .before in
+    let after-evaluate-b = c .before .before .before .before in
+    let after-find-a = after-evaluate-b .before .before in
+    let s = after-find-a .before .before in
     let T = s .args .table .now in
     let n = s .args .n in
     let ρ = variablesOf (s .args .variables .now) in
     let τ = temporariesOf (s .args .temporaries .now) in
     let l = s .args .mem .now in
-    let q = new-children source T n (s .pre .0 .is) (s .pre .1) in
-    ran-does (statementAt T n) ρ (s .args .fuel) n
-    (allocated (memoryOf l) (c .before .before .before .before .before .find-a .result)
-    (c .before .before .before .evaluate-b .result))
-    (c .before .new-at .result) (c .conclude .result) l (c .before .new-at .last .0)
-    (run-new T n (s .pre .0 .is) ρ (memoryOf l) (s .args .fuel) (s .pre .1)
-    ∙ sym (ap (after n ρ (s .args .fuel))
-    (ap₂ (allocated (memoryOf l))
-    (c .before .before .before .before .before .find-a .ensures ∙ found-alike T (childA T n) τ ρ (memoryOf l)
-    (q .0 .2)) (c .before .before .before .evaluate-b .ensures ∙ evaluated-alike T (childB T n) τ ρ (memoryOf l)
-    (q .1 .2)))))
-    (c .before .new-at .ensures) (c .conclude .ensures)
+    let q = new-children source T n (s .pre .0 .is) (s .pre .1) in (
+      ran-does (statementAt T n) ρ (s .args .fuel) n
+          (allocated (memoryOf l) (after-find-a .find-a .result) (after-evaluate-b .evaluate-b .result))
+          (c .before .new-at .result) (c .conclude .result) l (c .before .new-at .last .0)
+          (run-new T n (s .pre .0 .is) ρ (memoryOf l) (s .args .fuel) (s .pre .1)
+          ∙ sym (ap (after n ρ (s .args .fuel))
+          (ap₂ (allocated (memoryOf l))
+          (after-find-a .find-a .ensures ∙ found-alike T (childA T n) τ ρ (memoryOf l) (q .0 .2))
+          (after-evaluate-b .evaluate-b .ensures ∙ evaluated-alike T (childB T n) τ ρ (memoryOf l) (q .1 .2)))))
+          (c .before .new-at .ensures .0) (c .conclude .ensures),
+      c .before .new-at .ensures .1,
+    )
 
 pub allocate-spec : {M : Type 1} → statement M
 allocate-spec =

@@ -25,11 +25,11 @@ evaluate-a-requires c κs =
     )
 
 free-at-requires : tie.Need-free-at-requires
-free-at-requires c κs = tt
+free-at-requires c κs = c .before .before .before .before .pre .2
 
 cast-conclude : tie.Need-cast-conclude
 cast-conclude c =
-    let s = c .before .before .before .before in
+    let s = c .before .before .before .before .before in
     ready-number (s .pre .0)
 
 conclude-requires : tie.Need-conclude-requires
@@ -37,20 +37,23 @@ conclude-requires c κs = tt
 
 returns : tie.Need-returns
 returns c =
-    let s = c .before .before .before .before .before in
+    let after-evaluate-a = c .before .before .before .before in
+    let s = after-evaluate-a .before .before in
     let T = s .args .table .now in
     let n = s .args .n in
     let ρ = variablesOf (s .args .variables .now) in
     let τ = temporariesOf (s .args .temporaries .now) in
-    let l = s .args .mem .now in
-    ran-does (statementAt T n) ρ (s .args .fuel) n (freed (memoryOf l) (c .before .before .before .evaluate-a .result))
-    (c .before .free-at .result) (c .conclude .result) l (c .before .free-at .last .0)
-    (run-free T n (s .pre .0 .is) ρ (memoryOf l) (s .args .fuel) (s .pre .1)
-    ∙ sym (ap (after n ρ (s .args .fuel))
-    (ap (freed (memoryOf l))
-    (c .before .before .before .evaluate-a .ensures ∙ evaluated-alike T (childA T n) τ ρ (memoryOf l)
-    (free-child source T n (s .pre .0 .is) (s .pre .1) .2)))))
-    (c .before .free-at .ensures) (c .conclude .ensures)
+    let l = s .args .mem .now in (
+      ran-does (statementAt T n) ρ (s .args .fuel) n (freed (memoryOf l) (after-evaluate-a .evaluate-a .result))
+          (c .before .free-at .result) (c .conclude .result) l (c .before .free-at .last .0)
+          (run-free T n (s .pre .0 .is) ρ (memoryOf l) (s .args .fuel) (s .pre .1)
+          ∙ sym (ap (after n ρ (s .args .fuel))
+          (ap (freed (memoryOf l))
+          (after-evaluate-a .evaluate-a .ensures ∙ evaluated-alike T (childA T n) τ ρ (memoryOf l)
+          (free-child source T n (s .pre .0 .is) (s .pre .1) .2)))))
+          (c .before .free-at .ensures .0) (c .conclude .ensures),
+      c .before .free-at .ensures .1,
+    )
 
 pub release-spec : {M : Type 1} → statement M
 release-spec = tie.close (tie.spec evaluate-a-requires free-at-requires cast-conclude conclude-requires returns)

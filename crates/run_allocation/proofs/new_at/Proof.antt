@@ -23,7 +23,8 @@ enum-known-v : tie.Need-enum-known-v
 enum-known-v c = search needs
 
 new-of-size-requires : tie.Need-new-of-size-requires
-new-of-size-requires c κs = tt
+new-of-size-requires c κs =
+    c .before .before .before .before .before .before .before .before .before .before .before .pre
 
 enum-told-2 : tie.Need-enum-told-2
 enum-told-2 c = search needs
@@ -36,41 +37,53 @@ enum-known-f-2 c = search needs
 
 returns : tie.Need-returns
 returns c =
-    let l = c .before .before .before .before .before .before .before .before .args .mem .now in
-    does-is (ap₂ (allocated (memoryOf l)) (c .before .before .before .before .before .before .f .given .1)
-    (c .before .before .before .e .given .1 ∙ ap Evaluated.Value (c .enum-told .given .1)))
-    (does-stop 40 l)
+    let s = c .before .before .before .before .before .before .before .before in
+    let l = s .args .mem .now in (
+      does-is (ap₂ (allocated (memoryOf l)) (c .before .before .before .before .before .before .f .given .1)
+          (c .before .before .before .e .given .1 ∙ ap Evaluated.Value (c .enum-told .given .1))) (does-stop 40 l),
+      s .pre,
+    )
 
 returns-2 : tie.Need-returns-2
 returns-2 c =
-    let l = c .before .before .before .before .before .before .before .before .before .before .before .args .mem .now in
-    let f : SFits w64 (c .before .before .before .v .given .0 .0) =
-    record { sfits = c .before .before .known-told3 .given .0 .1 } in
-    does-is {r = c .new-of-size .result} {a = l} {b = c .new-of-size .last .0}
-    (ap₂ (allocated (memoryOf l))
-    (c .before .before .before .before .before .before .before .before .before .f .given .1)
-    (c .before .before .before .before .before .before .e .given .1 ∙ ap Evaluated.Value
-    (c .before .before .before .v .given .1)))
-    (rw (toZ-ofZ f) at (c .new-of-size .ensures))
+    let after-v = c .before .before .before .before in
+    let after-e = after-v .before .before .before in
+    let after-f = after-e .before .before .before in
+    let l = after-f .before .before .args .mem .now in
+    let f : SFits w64 (after-v .v .given .0 .0) =
+    record { sfits = c .before .before .before .known-told3 .given .0 .1 } in (
+      does-is {r = c .new-of-size .result} {a = l} {b = c .new-of-size .last .0}
+          (ap₂ (allocated (memoryOf l)) (after-f .f .given .1)
+          (after-e .e .given .1 ∙ ap Evaluated.Value (after-v .v .given .1)))
+          (rw (toZ-ofZ f) at (c .new-of-size .ensures .0)),
+      c .new-of-size .ensures .1,
+    )
 
 returns-3 : tie.Need-returns-3
 returns-3 c =
-    let l = c .before .before .before .before .before .before .before .before .args .mem .now in
-    does-is (ap₂ (allocated (memoryOf l)) (c .before .before .before .before .before .before .f .given .1)
-    (c .before .before .before .e .given .1 ∙ ap Evaluated.Value (c .enum-told2 .given .1)))
-    (does-stop 40 l)
+    let s = c .before .before .before .before .before .before .before .before in
+    let l = s .args .mem .now in (
+      does-is (ap₂ (allocated (memoryOf l)) (c .before .before .before .before .before .before .f .given .1)
+          (c .before .before .before .e .given .1 ∙ ap Evaluated.Value (c .enum-told2 .given .1))) (does-stop 40 l),
+      s .pre,
+    )
 
 returns-4 : tie.Need-returns-4
 returns-4 c =
-    let l = c .before .before .before .before .before .before .args .mem .now in
-    does-is (ap₂ (allocated (memoryOf l)) (c .before .before .before .before .f .given .1) (c .before .e2 .given .1))
-    (does-stop _ l)
+    let s = c .before .before .before .before .before .before in
+    let l = s .args .mem .now in (
+      does-is (ap₂ (allocated (memoryOf l)) (c .before .before .before .before .f .given .1) (c .before .e2 .given .1))
+          (does-stop _ l),
+      s .pre,
+    )
 
 returns-5 : tie.Need-returns-5
 returns-5 c =
-    let s = c .before .before .before .args in
-    does-is (ap (λ (f : Found). allocated (memoryOf (s .mem .now)) f (s .e)) (c .before .f2 .given .1))
-    (does-stop _ (s .mem .now))
+    let s = c .before .before .before in
+    let l = s .args .mem .now in (
+      does-is (ap (λ (f : Found). allocated (memoryOf l) f (s .args .e)) (c .before .f2 .given .1)) (does-stop _ l),
+      s .pre,
+    )
 
 pub new-at-spec : {M : Type 1} → statement M
 new-at-spec =

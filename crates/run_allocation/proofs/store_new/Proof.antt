@@ -2,19 +2,20 @@ use mathlib.Core.Path.{sym, _∙_}
 use Rattle.rules.specs.Memory.{freeable, makeBlock}
 use Rattle.rules.specs.Layout.{memoryOf}
 use Rattle.run_changes.proofs.ChangeLaws.{name-fits, does-new, does-unmade}
+use Rattle.run_changes.proofs.CountedChanges.{counted-stored}
 use borrow.Author.Needs.{needs}
 use Rattle.run_allocation.proofs.store_new.Statement.{statement}
 use Rattle.run_allocation.proofs.store_new.Tie as tie
 
 make-requires : tie.Need-make-requires
-make-requires c κs = tt
+make-requires c κs = c .before .before .pre
 
 enum-known-k : tie.Need-enum-known-k
 enum-known-k c = search needs
 
 store-requires : tie.Need-store-requires
 store-requires c κs =
-    let s = c .before .before .before .before .before .before .args in
+    let s = c .before .before .before .before .before .before .before .args in
     name-fits (memoryOf (s .mem .now)) freeable (s .n) _
     (sym (c .before .before .k .given .1) ∙ c .before .before .before .before .make .ensures .0)
 
@@ -23,18 +24,22 @@ enum-known-c c = search needs
 
 returns : tie.Need-returns
 returns c =
-    let s = c .before .before .before .before .before .before .before .args in
-    does-new (s .p) (makeBlock (memoryOf (s .mem .now)) freeable (s .n)) (s .mem .now) _
-    (c .before .before .before .before .before .make .ensures .1) _ _ _
-    (sym (c .before .before .before .k .given .1) ∙ c .before .before .before .before .before .make .ensures .0)
-    (record { number = c .store .ensures .0; memory = c .store .ensures .1 })
+    let s = c .before .before .before .before .before .before .before .before .args in
+    let w = c .before .before .before .before .before .make .ensures in (
+      does-new (s .p) (makeBlock (memoryOf (s .mem .now)) freeable (s .n)) (s .mem .now) _ (w .1 .0) _ _ _
+          (sym (c .before .before .before .k .given .1) ∙ w .0)
+          (record { number = c .store .ensures .0; memory = c .store .ensures .1 }),
+      counted-stored (w .1 .1) (s .p) _ (c .store .ensures .1),
+    )
 
 returns-2 : tie.Need-returns-2
 returns-2 c =
-    let s = c .before .before .before .before .before .args in
-    does-unmade (s .p) (makeBlock (memoryOf (s .mem .now)) freeable (s .n)) (s .mem .now) _
-    (c .before .before .before .make .ensures .1) _
-    (sym (c .before .c .given .1) ∙ c .before .before .before .make .ensures .0)
+    let s = c .before .before .before .before .before .before .args in
+    let w = c .before .before .before .make .ensures in (
+      does-unmade (s .p) (makeBlock (memoryOf (s .mem .now)) freeable (s .n)) (s .mem .now) _ (w .1 .0) _
+          (sym (c .before .c .given .1) ∙ w .0),
+      w .1 .1,
+    )
 
 pub store-new-spec : {M : Type 1} → statement M
 store-new-spec = tie.close (tie.spec make-requires enum-known-k store-requires enum-known-c returns returns-2)

@@ -20,35 +20,44 @@ enum-known-v : tie.Need-enum-known-v
 enum-known-v c = search needs
 
 free-requires : tie.Need-free-requires
-free-requires c κs = tt
+free-requires c κs = c .before .before .before .before .before .before .before .before .pre
 
 enum-known-e-2 : tie.Need-enum-known-e-2
 enum-known-e-2 c = search needs
 
 returns : tie.Need-returns
 returns c =
-    let l = c .before .before .before .before .before .args .mem .now in
-    does-is (ap (freed (memoryOf l))
-    (c .before .before .before .e .given .1 ∙ ap Evaluated.Value (c .enum-told .given .1))) (does-stop 40 l)
+    let s = c .before .before .before .before .before in
+    let l = s .args .mem .now in (
+      does-is (ap (freed (memoryOf l))
+          (c .before .before .before .e .given .1 ∙ ap Evaluated.Value (c .enum-told .given .1))) (does-stop 40 l),
+      s .pre,
+    )
 
 returns-2 : tie.Need-returns-2
 returns-2 c =
-    let l = c .before .before .before .before .before .args .mem .now in
-    does-is (ap (freed (memoryOf l))
-    (c .before .before .before .e .given .1 ∙ ap Evaluated.Value (c .enum-told2 .given .1))) (does-stop 40 l)
+    let s = c .before .before .before .before .before in
+    let l = s .args .mem .now in (
+      does-is (ap (freed (memoryOf l))
+          (c .before .before .before .e .given .1 ∙ ap Evaluated.Value (c .enum-told2 .given .1))) (does-stop 40 l),
+      s .pre,
+    )
 
 returns-3 : tie.Need-returns-3
 returns-3 c =
-    let l = c .before .before .before .before .before .before .before .before .args .mem .now in
-    does-is (ap (freed (memoryOf l))
-    (c .before .before .before .before .before .before .e .given .1 ∙ ap Evaluated.Value
-    (c .before .before .before .v .given .1)))
-    (record { number = c .free .ensures .0; memory = c .free .ensures .1 })
+    let l = c .before .before .before .before .before .before .before .before .before .args .mem .now in (
+      does-is (ap (freed (memoryOf l))
+          (c .before .before .before .before .before .before .before .e .given .1 ∙ ap Evaluated.Value
+          (c .before .before .before .before .v .given .1)))
+          (record { number = c .free .ensures .0; memory = c .free .ensures .1 .0 }),
+      c .free .ensures .1 .1,
+    )
 
 returns-4 : tie.Need-returns-4
 returns-4 c =
-    let l = c .before .before .before .args .mem .now in
-    does-is (ap (freed (memoryOf l)) (c .before .e2 .given .1)) (does-stop _ l)
+    let s = c .before .before .before in
+    let l = s .args .mem .now in
+    (does-is (ap (freed (memoryOf l)) (c .before .e2 .given .1)) (does-stop _ l), s .pre)
 
 pub free-at-spec : {M : Type 1} → statement M
 free-at-spec =

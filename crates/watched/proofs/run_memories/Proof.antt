@@ -1,4 +1,6 @@
 use native.Mathlib.Omega.{arith}
+use Rattle.memory_counts.specs.Counted.{freeIn}
+use Rattle.memory_counts.proofs.CountLaws.{counted-start, free-fits}
 use Rattle.run_buffers.proofs.EntryLaws.{inputs-short}
 use Rattle.watched.proofs.EntryLaws.{start-ready, entry-ends}
 use borrow.Author.Needs.{needs}
@@ -15,30 +17,43 @@ start-observation-requires c κs =
     let s = c .before .before .before .before .before in
     omega (arith, inputs-short (s .args .inputs .now) (s .pre .1))
 
+start-requires-2 : tie.Need-start-requires-2
+start-requires-2 c κs =
+    let s = c .before .before .before .before .before .before in
+    omega (arith, inputs-short (s .args .inputs .now) (s .pre .1))
+
 run-table-requires : tie.Need-run-table-requires
 run-table-requires c κs =
-    let after-start-observation = c .before .before in
+    let after-start2 = c .before .before .before in
+    let after-start-observation = after-start2 .before in
     let after-start = after-start-observation .before .before in
     let s = after-start .before .before .before .before in
-    let r = start-ready (s .args .inputs .now) (s .pre .1) (after-start .start .last .0)
-    (after-start-observation .start-observation .last .0)
-    (after-start .start .ensures) (after-start-observation .start-observation .ensures) in
-    (s .pre .0, r .0, r .1)
+    let i = s .args .inputs .now in
+    let l = after-start .start .last .0 in
+    let r = start-ready i (s .pre .1) l (after-start-observation .start-observation .last .0)
+    (after-start .start .ensures) (after-start-observation .start-observation .ensures) in (
+      s .pre .0,
+      r .0,
+      r .1,
+      counted-start i l (s .pre .1) (after-start .start .ensures) (after-start2 .start2 .ensures),
+    )
 
-count-free-requires : tie.Need-count-free-requires
-count-free-requires c κs = search needs
+array-read-t11 : tie.Need-array-read-t11
+array-read-t11 c = search needs
+
+cast-t19 : tie.Need-cast-t19
+cast-t19 c = free-fits (c .run-table .ensures .1)
 
 returns : tie.Need-returns
 returns c =
-    let after-run-table = c .before .before in
-    let after-start-observation = after-run-table .before .before .before in
+    let after-start-observation = c .before .before .before .before .before in
     let after-start = after-start-observation .before .before in
     let s = after-start .before .before .before .before in
     entry-ends (s .args .inputs .now) (s .pre .1) (after-start .start .last .0)
     (after-start-observation .start-observation .last .0) (after-start .start .ensures)
     (after-start-observation .start-observation .ensures) (s .args .table .now) (s .args .fuel)
-    (after-run-table .run-table .result) _ _ (c .count-free .result)
-    (after-run-table .run-table .ensures) (c .count-free .ensures)
+    (c .run-table .result) _ _ (freeIn (c .run-table .last .1 .1 .0)) (c .run-table .ensures .0)
+    (c .run-table .ensures .1 .free)
 
 pub run-memories-spec : {M : Type 1} → statement M
 run-memories-spec =
@@ -46,6 +61,8 @@ run-memories-spec =
     (tie.spec
     start-requires
     start-observation-requires
+    start-requires-2
     run-table-requires
-    count-free-requires
+    array-read-t11
+    cast-t19
     returns)

@@ -22,22 +22,26 @@ copy-requires c κs =
 
 run-from-start-requires : tie.Need-run-from-start-requires
 run-from-start-requires c κs =
-    let after-copy = c .before .before .before .before in
+    let after-copy = c .before .before .before .before .before in
     let s = after-copy .before .before .before in
-    rw (after-copy .copy .ensures)
-    (ready-start (s .args .table .now) (replicate (targetLimit * 16) 0) (s .pre .0) (s .args .mem .now)
-    (s .args .obs .now) (s .pre .1) (s .pre .2))
+    rw (after-copy .copy .ensures) (
+      ready-start (s .args .table .now) (replicate (targetLimit * 16) 0) (s .pre .0) (s .args .mem .now)
+          (s .args .obs .now) (s .pre .1) (s .pre .2),
+      s .pre .3,
+    )
 
 returns : tie.Need-returns
 returns c =
-    let after-copy = c .before .before .before .before .before in
+    let after-copy = c .before .before .before .before .before .before in
     let s = after-copy .before .before .before in
     let m = memoryOf (s .args .mem .now) in
-    let o = observationOf (s .args .obs .now) in
-    leaves-is
-    (ap (λ (x : TargetStatement). ending (watch x startVariables (watching m o startTemporaries) (s .args .fuel)))
-    (sym (same-program (s .args .table .now) (replicate (targetLimit * 16) 0) (s .pre .0))))
-    (rw (after-copy .copy .ensures) at (c .run-from-start .ensures))
+    let o = observationOf (s .args .obs .now) in (
+      leaves-is
+          (ap (λ (x : TargetStatement). ending (watch x startVariables (watching m o startTemporaries) (s .args .fuel)))
+          (sym (same-program (s .args .table .now) (replicate (targetLimit * 16) 0) (s .pre .0))))
+          (rw (after-copy .copy .ensures) at (c .run-from-start .ensures .0)),
+      c .run-from-start .ensures .1,
+    )
 
 pub run-table-spec : {M : Type 1} → statement M
 run-table-spec =

@@ -1,7 +1,7 @@
 use Prim.Native.Nat.{_<_, _≤_}
 use mathlib.Core.Logic.{_⊎_, inl, inr, ⊎-elim}
 use mathlib.Core.Path.{sym, ap, _∙_}
-use Rattle.rules.specs.Records.{markOf}
+use Rattle.rules.specs.Records.{markOf, childA, childB}
 use Rattle.rules.specs.Evaluation.{condition}
 use Rattle.rules.specs.Watched.{heldIn}
 use Rattle.rules.specs.Flow.{ending}
@@ -10,6 +10,8 @@ use Rattle.rules.proofs.runs.TargetArms.{watch-skip, watch-assign, watch-new, w
 use Rattle.rules.proofs.runs.TargetArms.{watch-assert-on}
 use Rattle.evaluation.specs.State.{variablesOf}
 use Rattle.evaluation_temporaries.specs.Bytes.{temporariesOf}
+use Rattle.run_children.specs.Children.{foundIn, valueIn}
+use Rattle.run_changes.proofs.CountedChanges.{counted-assigned}
 use Rattle.watched_statements.specs.Watching.{lent, stateOf}
 use Rattle.watched_statements.proofs.Laws.{ran-is, ran-finished}
 use Rattle.watched_statements.proofs.ActLaws.{watch-take, watch-note, take-between, last-act, acts-change}
@@ -33,15 +35,17 @@ assign-requires c κs =
 
 allocate-requires : tie.Need-allocate-requires
 allocate-requires c κs =
-    let after-match = c .before .before in
+    let after-match = c .before .before .before in
     let after-kind = after-match .before in
-    (after-kind .before .before .pre .0 .is, sym (after-kind .kind .ensures) ∙ after-match .match .keys3)
+    let s = after-kind .before .before in
+    (s .pre .0 .is, sym (after-kind .kind .ensures) ∙ after-match .match .keys3, s .pre .2)
 
 release-requires : tie.Need-release-requires
 release-requires c κs =
-    let after-match = c .before .before in
+    let after-match = c .before .before .before in
     let after-kind = after-match .before in
-    (after-kind .before .before .pre .0 .is, sym (after-kind .kind .ensures) ∙ after-match .match .keys4)
+    let s = after-kind .before .before in
+    (s .pre .0 .is, sym (after-kind .kind .ensures) ∙ after-match .match .keys4, s .pre .2)
 
 take-address-requires : tie.Need-take-address-requires
 take-address-requires c κs =
@@ -94,9 +98,10 @@ returns c =
     let l = s .args .mem .now in
     let o = s .args .obs .now in
     let τ = s .args .temporaries .now in
-    let h = s .pre .0 .is in
-    λ f. ran-is (ap ending (watch-skip T n h ρ (stateOf (lent l o τ)) f q)) (ran-finished
-    (lent l o τ) f)
+    let h = s .pre .0 .is in (
+      λ f. ran-is (ap ending (watch-skip T n h ρ (stateOf (lent l o τ)) f q)) (ran-finished (lent l o τ) f),
+      s .pre .2,
+    )
 
 returns-2 : tie.Need-returns-2
 returns-2 c =
@@ -110,13 +115,16 @@ returns-2 c =
     let o = s .args .obs .now in
     let τ = s .args .temporaries .now in
     let h = s .pre .0 .is in
-    let q = sym (after-kind .kind .ensures) ∙ after-match .match .keys2 in
-    acts-change (targetStatementAt T n) ρ l o τ (numberAt T n) (c .assign .result) _ _
-    (λ f. watch-assign T n h ρ (stateOf (lent l o τ)) f q) (c .assign .ensures)
+    let q = sym (after-kind .kind .ensures) ∙ after-match .match .keys2 in (
+      acts-change (targetStatementAt T n) ρ l o τ (numberAt T n) (c .assign .result) _ _
+          (λ f. watch-assign T n h ρ (stateOf (lent l o τ)) f q) (c .assign .ensures),
+      counted-assigned (s .pre .2) (foundIn T (childA T n) (s .args .variables .now) τ l)
+          (valueIn T (childB T n) (s .args .variables .now) τ l) (c .assign .ensures .memory),
+    )
 
 returns-3 : tie.Need-returns-3
 returns-3 c =
-    let after-match = c .before .before .before in
+    let after-match = c .before .before .before .before in
     let after-kind = after-match .before in
     let s = after-kind .before .before in
     let T = s .args .table .now in
@@ -126,13 +134,15 @@ returns-3 c =
     let o = s .args .obs .now in
     let τ = s .args .temporaries .now in
     let h = s .pre .0 .is in
-    let q = sym (after-kind .kind .ensures) ∙ after-match .match .keys3 in
-    acts-change (targetStatementAt T n) ρ l o τ (numberAt T n) (c .allocate .result) _ _
-    (λ f. watch-new T n h ρ (stateOf (lent l o τ)) f q) (c .allocate .ensures)
+    let q = sym (after-kind .kind .ensures) ∙ after-match .match .keys3 in (
+      acts-change (targetStatementAt T n) ρ l o τ (numberAt T n) (c .allocate .result) _ _
+          (λ f. watch-new T n h ρ (stateOf (lent l o τ)) f q) (c .allocate .ensures .0),
+      c .allocate .ensures .1,
+    )
 
 returns-4 : tie.Need-returns-4
 returns-4 c =
-    let after-match = c .before .before .before in
+    let after-match = c .before .before .before .before in
     let after-kind = after-match .before in
     let s = after-kind .before .before in
     let T = s .args .table .now in
@@ -142,9 +152,11 @@ returns-4 c =
     let o = s .args .obs .now in
     let τ = s .args .temporaries .now in
     let h = s .pre .0 .is in
-    let q = sym (after-kind .kind .ensures) ∙ after-match .match .keys4 in
-    acts-change (targetStatementAt T n) ρ l o τ (numberAt T n) (c .release .result) _ _
-    (λ f. watch-free T n h ρ (stateOf (lent l o τ)) f q) (c .release .ensures)
+    let q = sym (after-kind .kind .ensures) ∙ after-match .match .keys4 in (
+      acts-change (targetStatementAt T n) ρ l o τ (numberAt T n) (c .release .result) _ _
+          (λ f. watch-free T n h ρ (stateOf (lent l o τ)) f q) (c .release .ensures .0),
+      c .release .ensures .1,
+    )
 
 returns-5 : tie.Need-returns-5
 returns-5 c =
@@ -158,9 +170,11 @@ returns-5 c =
     let o = s .args .obs .now in
     let τ = s .args .temporaries .now in
     let h = s .pre .0 .is in
-    let q = sym (after-kind .kind .ensures) ∙ after-match .match .keys5 in
-    acts-taken (targetStatementAt T n) ρ l o τ (numberAt T n) (c .take-address .result) _ _ _
-    (λ f. watch-address T n h ρ (stateOf (lent l o τ)) f q) (c .take-address .ensures)
+    let q = sym (after-kind .kind .ensures) ∙ after-match .match .keys5 in (
+      acts-taken (targetStatementAt T n) ρ l o τ (numberAt T n) (c .take-address .result) _ _ _
+          (λ f. watch-address T n h ρ (stateOf (lent l o τ)) f q) (c .take-address .ensures),
+      s .pre .2,
+    )
 
 returns-6 : tie.Need-returns-6
 returns-6 c =
@@ -174,9 +188,11 @@ returns-6 c =
     let o = s .args .obs .now in
     let τ = s .args .temporaries .now in
     let h = s .pre .0 .is in
-    let q = sym (after-kind .kind .ensures) ∙ after-match .match .keys6 in
-    acts-taken (targetStatementAt T n) ρ l o τ (numberAt T n) (c .take-value .result) _ _ _
-    (λ f. watch-value T n h ρ (stateOf (lent l o τ)) f q) (c .take-value .ensures)
+    let q = sym (after-kind .kind .ensures) ∙ after-match .match .keys6 in (
+      acts-taken (targetStatementAt T n) ρ l o τ (numberAt T n) (c .take-value .result) _ _ _
+          (λ f. watch-value T n h ρ (stateOf (lent l o τ)) f q) (c .take-value .ensures),
+      s .pre .2,
+    )
 
 returns-7 : tie.Need-returns-7
 returns-7 c =
@@ -190,10 +206,12 @@ returns-7 c =
     let o = s .args .obs .now in
     let τ = s .args .temporaries .now in
     let h = s .pre .0 .is in
-    let q = sym (after-kind .kind .ensures) ∙ after-match .match .keys7 in
-    acts-asserted (targetStatementAt T n) ρ l o τ (numberAt T n) (c .assert .result)
-    (condition (heldIn (temporariesOf τ) (markOf T n)))
-    (λ f. watch-assert-on T n h ρ (stateOf (lent l o τ)) f q) (c .assert .ensures)
+    let q = sym (after-kind .kind .ensures) ∙ after-match .match .keys7 in (
+      acts-asserted (targetStatementAt T n) ρ l o τ (numberAt T n) (c .assert .result)
+          (condition (heldIn (temporariesOf τ) (markOf T n)))
+          (λ f. watch-assert-on T n h ρ (stateOf (lent l o τ)) f q) (c .assert .ensures),
+      s .pre .2,
+    )
 
 returns-8 : tie.Need-returns-8
 returns-8 c =
@@ -208,9 +226,11 @@ returns-8 c =
     let o = s .args .obs .now in
     let τ = s .args .temporaries .now in
     let h = s .pre .0 .is in
-    let q = rw (after-kind .kind .ensures) at (take-between _ (after-if1 .if1 .left) (after-if2 .if2 .taken)) in
-    acts-taken (targetStatementAt T n) ρ l o τ (numberAt T n) (c .take .result) _ _ _
-    (λ f. watch-take T n h ρ (stateOf (lent l o τ)) f q) (c .take .ensures)
+    let q = rw (after-kind .kind .ensures) at (take-between _ (after-if1 .if1 .left) (after-if2 .if2 .taken)) in (
+      acts-taken (targetStatementAt T n) ρ l o τ (numberAt T n) (c .take .result) _ _ _
+          (λ f. watch-take T n h ρ (stateOf (lent l o τ)) f q) (c .take .ensures),
+      s .pre .2,
+    )
 
 returns-9 : tie.Need-returns-9
 returns-9 c =
@@ -227,9 +247,11 @@ returns-9 c =
     let h = s .pre .0 .is in
     let k = after-kind .kind .result in
     let out : (k < 63) ⊎ (66 ≤ k) = ⊎-elim (λ w. inl (w .taken)) (λ w. inr (w .1 .left)) (after-if1 .if1 .came) in
-    let q = last-act T n h (s .pre .1) (after-kind .kind .ensures) (after-match .match .rest) out in
-    acts-observed (targetStatementAt T n) ρ l o τ (numberAt T n) (c .note .result) _ _
-    (λ f. watch-note T n h ρ (stateOf (lent l o τ)) f q) (c .note .ensures)
+    let q = last-act T n h (s .pre .1) (after-kind .kind .ensures) (after-match .match .rest) out in (
+      acts-observed (targetStatementAt T n) ρ l o τ (numberAt T n) (c .note .result) _ _
+          (λ f. watch-note T n h ρ (stateOf (lent l o τ)) f q) (c .note .ensures),
+      s .pre .2,
+    )
 
 pub act-spec : {M : Type 1} → statement M
 act-spec =

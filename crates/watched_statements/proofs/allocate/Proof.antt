@@ -26,16 +26,18 @@ evaluate-b-requires c κs =
     )
 
 new-at-requires : tie.Need-new-at-requires
-new-at-requires c κs = tt
+new-at-requires c κs = c .before .before .before .before .before .before .pre .2
 
 returns : tie.Need-returns
 returns c =
-    let after-evaluate-b = c .before .before in
+    let after-evaluate-b = c .before .before .before in
     let after-find-a = after-evaluate-b .before .before in
-    let l = after-find-a .before .before .args .mem .now in
-    does-is {r = c .new-at .result} {a = l} {b = c .new-at .last .0}
-    (sym (ap₂ (allocated (memoryOf l)) (after-find-a .find-a .ensures) (after-evaluate-b .evaluate-b .ensures)))
-    (c .new-at .ensures)
+    let l = after-find-a .before .before .args .mem .now in (
+      does-is {r = c .new-at .result} {a = l} {b = c .new-at .last .0}
+          (sym (ap₂ (allocated (memoryOf l)) (after-find-a .find-a .ensures) (after-evaluate-b .evaluate-b .ensures)))
+          (c .new-at .ensures .0),
+      c .new-at .ensures .1,
+    )
 
 pub allocate-spec : {M : Type 1} → statement M
 allocate-spec = tie.close (tie.spec find-a-requires evaluate-b-requires new-at-requires returns)

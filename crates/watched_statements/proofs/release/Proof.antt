@@ -14,14 +14,16 @@ evaluate-a-requires c κs =
     (statement-within target T (s .args .n) (s .pre .0), free-child target T (s .args .n) (s .pre .0) (s .pre .1) .2)
 
 free-at-requires : tie.Need-free-at-requires
-free-at-requires c κs = tt
+free-at-requires c κs = c .before .before .before .before .pre .2
 
 returns : tie.Need-returns
 returns c =
-    let after-evaluate-a = c .before .before in
-    let l = after-evaluate-a .before .before .args .mem .now in
-    does-is {r = c .free-at .result} {a = l} {b = c .free-at .last .0}
-    (sym (ap (freed (memoryOf l)) (after-evaluate-a .evaluate-a .ensures))) (c .free-at .ensures)
+    let after-evaluate-a = c .before .before .before in
+    let l = after-evaluate-a .before .before .args .mem .now in (
+      does-is {r = c .free-at .result} {a = l} {b = c .free-at .last .0}
+          (sym (ap (freed (memoryOf l)) (after-evaluate-a .evaluate-a .ensures))) (c .free-at .ensures .0),
+      c .free-at .ensures .1,
+    )
 
 pub release-spec : {M : Type 1} → statement M
 release-spec = tie.close (tie.spec evaluate-a-requires free-at-requires returns)

@@ -26,10 +26,10 @@ module _ (t : ℕ) where
 
   run-requires : branch-lts.Need-run-requires (branch-claims t) (branch-at t) branch.Post
   run-requires c κs =
-      let s = c .before .before .before .before .before .before .before in
+      let s = c .before .before .before .before .before .before .before .before in
       let h = s .pre .1 in
-      rw (c .before .child-b .ensures)
-      (omega (arith, branch-parts (h .0) (h .1) .1 .1, s .pre .0), ready-then (h .0) (h .1))
+      rw (c .before .before .child-b .ensures)
+      (omega (arith, branch-parts (h .0) (h .1) .1 .1, s .pre .0), (ready-then (h .0) (h .1), h .2))
 
   enum-told-2 : branch-lts.Need-enum-told-2 (branch-claims t) (branch-at t) branch.Post
   enum-told-2 c = search needs
@@ -39,51 +39,57 @@ module _ (t : ℕ) where
 
   run-requires-2 : branch-lts.Need-run-requires-2 (branch-claims t) (branch-at t) branch.Post
   run-requires-2 c κs =
-      let s = c .before .before .before .before .before .before .before in
+      let s = c .before .before .before .before .before .before .before .before in
       let h = s .pre .1 in
-      rw (c .before .child-c .ensures)
-      (omega (arith, branch-parts (h .0) (h .1) .2 .1, s .pre .0), ready-else (h .0) (h .1))
+      rw (c .before .before .child-c .ensures)
+      (omega (arith, branch-parts (h .0) (h .1) .2 .1, s .pre .0), (ready-else (h .0) (h .1), h .2))
 
   enum-known-k : branch-lts.Need-enum-known-k (branch-claims t) (branch-at t) branch.Post
   enum-known-k c = search needs
 
-  cast-t19 : branch-lts.Need-cast-t19 (branch-claims t) (branch-at t) branch.Post
-  cast-t19 c = ready-number (c .before .before .before .before .before .pre .1 .0)
+  cast-t22 : branch-lts.Need-cast-t22 (branch-claims t) (branch-at t) branch.Post
+  cast-t22 c = ready-number (c .before .before .before .before .before .pre .1 .0)
 
   returns : branch-lts.Need-returns (branch-claims t) (branch-at t) branch.Post
   returns c =
-      let after-child-b = c .before .before in
+      let after-child-b = c .before .before .before in
       let after-enum-told = after-child-b .before .before in
       let after-test-a = after-enum-told .before .before in
-      let s = after-test-a .before .before in
-      ran-is
-      (branch-by (s .pre .1 .0) (s .pre .1 .1) (s .args .fuel) Test.Yes
-      (sym (after-test-a .test-a .ensures) ∙ after-enum-told .enum-told .given .1))
-      (rw (after-child-b .child-b .ensures) at (c .run .ensures))
+      let s = after-test-a .before .before in (
+        ran-is
+            (branch-by (s .pre .1 .0) (s .pre .1 .1) (s .args .fuel) Test.Yes
+            (sym (after-test-a .test-a .ensures) ∙ after-enum-told .enum-told .given .1))
+            (rw (after-child-b .child-b .ensures) at (c .run .ensures .0)),
+        c .run .ensures .1,
+      )
 
   returns-2 : branch-lts.Need-returns-2 (branch-claims t) (branch-at t) branch.Post
   returns-2 c =
-      let after-child-c = c .before .before in
+      let after-child-c = c .before .before .before in
       let after-enum-told2 = after-child-c .before .before in
       let after-test-a = after-enum-told2 .before .before in
-      let s = after-test-a .before .before in
-      ran-is
-      (branch-by (s .pre .1 .0) (s .pre .1 .1) (s .args .fuel) Test.No
-      (sym (after-test-a .test-a .ensures) ∙ after-enum-told2 .enum-told2 .given .1))
-      (rw (after-child-c .child-c .ensures) at (c .run2 .ensures))
+      let s = after-test-a .before .before in (
+        ran-is
+            (branch-by (s .pre .1 .0) (s .pre .1 .1) (s .args .fuel) Test.No
+            (sym (after-test-a .test-a .ensures) ∙ after-enum-told2 .enum-told2 .given .1))
+            (rw (after-child-c .child-c .ensures) at (c .run2 .ensures .0)),
+        c .run2 .ensures .1,
+      )
 
   returns-3 : branch-lts.Need-returns-3 (branch-claims t) (branch-at t) branch.Post
   returns-3 c =
       let after-k = c .before in
       let after-test-a = after-k .before .before in
       let s = after-test-a .before .before in
-      let k = after-k .k .given .0 .0 in
-      ran-is
-      (branch-by (s .pre .1 .0) (s .pre .1 .1) (s .args .fuel) (Test.Stopped k)
-      (sym (after-test-a .test-a .ensures) ∙ after-k .k .given .1))
-      (ran-ended (s .args .mem .now) k (s .args .n) (s .args .fuel))
+      let k = after-k .k .given .0 .0 in (
+        ran-is
+            (branch-by (s .pre .1 .0) (s .pre .1 .1) (s .args .fuel) (Test.Stopped k)
+            (sym (after-test-a .test-a .ensures) ∙ after-k .k .given .1))
+            (ran-ended (s .args .mem .now) k (s .args .n) (s .args .fuel)),
+        s .pre .1 .2,
+      )
 
   pub closed : {M : Type 1} → branch-lts.Closed (branch-claims t) (branch-at t) branch.Post M
   closed =
       branch-lts.spec (branch-claims t) (branch-at t) branch.Post test-a-requires enum-told child-b-requires
-      run-requires enum-told-2 child-c-requires run-requires-2 enum-known-k cast-t19 returns returns-2 returns-3
+      run-requires enum-told-2 child-c-requires run-requires-2 enum-known-k cast-t22 returns returns-2 returns-3

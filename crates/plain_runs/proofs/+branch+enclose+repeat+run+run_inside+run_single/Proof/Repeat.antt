@@ -6,6 +6,7 @@ use borrow.Author.Needs.{needs}
 use Rattle.rules.specs.Records.{childB}
 use Rattle.rules.specs.Layout.{memoryOf}
 use Rattle.rules.specs.declared.{Test.Test}
+use Rattle.memory_counts.specs.Counted.{Counted}
 use Rattle.evaluation.specs.State.{variablesOf}
 use Rattle.run_changes.proofs.ChangeLaws.{becomes-same}
 use Rattle.plain_runs.proofs.Laws.{ran-is}
@@ -18,18 +19,20 @@ use Rattle.plain_runs.proofs.+branch+enclose+repeat+run+run_inside+run_
 use Rattle.plain_runs.proofs.+branch+enclose+repeat+run+run_inside+run_single.Proof.Cycle.{repeat-claims}
 
 abbrev Inv-loop : repeat-lts.InvT-loop
-Inv-loop table n variables temporaries mem₀ fuel b left₀ mem left =
-    Remaining table n (variablesOf variables) mem₀ fuel n mem left
+Inv-loop table n variables temporaries mem₀ counts₀ fuel b left₀ mem counts left =
+    Remaining table n (variablesOf variables) mem₀ fuel n mem left × Counted (memoryOf mem) counts
 
 abbrev μ-loop : repeat-lts.MeasureT-loop
-μ-loop table n variables temporaries mem₀ fuel b left₀ mem left = left
+μ-loop table n variables temporaries mem₀ counts₀ fuel b left₀ mem counts left = left
 
 module _ (t : ℕ) where
   child-b-requires : repeat-lts.Need-child-b-requires (repeat-claims t) (repeat-at t) repeat.Post Inv-loop μ-loop
   child-b-requires c κs = ready-within (c .before .pre .1 .0)
 
   loop-holds : repeat-lts.Need-loop-holds (repeat-claims t) (repeat-at t) repeat.Post Inv-loop μ-loop
-  loop-holds c = record { rest = refl; bytes = becomes-same refl; fits = c .before .before .pre .1 .0 .fits }
+  loop-holds c =
+      let h = c .before .before .pre .1 in
+      (record { rest = refl; bytes = becomes-same refl; fits = h .0 .fits }, h .2)
 
   sub-left : repeat-lts.Need-sub-left (repeat-claims t) (repeat-at t) repeat.Post Inv-loop μ-loop
   sub-left c = omega (arith, c .loop-test .taken)
@@ -44,33 +47,33 @@ module _ (t : ℕ) where
 
   run-requires : repeat-lts.Need-run-requires (repeat-claims t) (repeat-at t) repeat.Post Inv-loop μ-loop
   run-requires c κs =
-      let after-loop = c .before .before .before .before .before .before in
+      let after-loop = c .before .before .before .before .before .before .before in
       let after-child-b = after-loop .before in
       let s = after-child-b .before .before in
       let h = s .pre .1 in
       rw (after-child-b .child-b .ensures) (
         omega (arith, while-parts (h .0) (h .1) .1 .1, s .pre .0),
-        ready-turn (h .0) (h .1) (after-loop .loop .inv .fits),
+        (ready-turn (h .0) (h .1) (after-loop .loop .inv .0 .fits), after-loop .loop .inv .1),
       )
 
   -- a turn whose condition is true, where its child ran
   turn : (c : repeat-lts.After-run (repeat-claims t) (repeat-at t) repeat.Post Inv-loop μ-loop)
-      → let after-loop = c .before .before .before .before .before .before .before in
+      → let after-loop = c .before .before .before .before .before .before .before .before in
       let s = after-loop .before .before .before in
       Part (s .args .table .now) (s .args .n) (variablesOf (s .args .variables .now)) (s .args .mem .now)
       (s .args .fuel) (s .args .n) (after-loop .loop .mem) (after-loop .loop .left)
       (childB (s .args .table .now) (s .args .n)) (s .args .n) (after-loop .loop .left - 1) (c .run .result)
       (c .run .last .1 .1 .1 .1 .0)
   turn c =
-      let after-enum-told = c .before .before in
+      let after-enum-told = c .before .before .before in
       let after-test-a = after-enum-told .before .before in
       let after-loop-test = after-test-a .before .before in
       let after-loop = after-loop-test .before in
       let after-child-b = after-loop .before in
       let h = after-child-b .before .before .pre .1 in
       record {
-        earlier = after-loop .loop .inv;
-        ran = rw (after-child-b .child-b .ensures) at (c .run .ensures);
+        earlier = after-loop .loop .inv .0;
+        ran = rw (after-child-b .child-b .ensures) at (c .run .ensures .0);
         leads =
             turn-by (h .0) (h .1) (memoryOf (after-loop .loop .mem)) (after-loop .loop .left)
             (after-loop-test .loop-test .taken) Test.Yes
@@ -78,19 +81,21 @@ module _ (t : ℕ) where
       }
 
   returns : repeat-lts.Need-returns (repeat-claims t) (repeat-at t) repeat.Post Inv-loop μ-loop
-  returns c = part-ends (turn (c .before .before)) (c .if1 .taken)
+  returns c = (part-ends (turn (c .before .before)) (c .if1 .taken), c .before .before .run .ensures .1)
 
   loop-less : repeat-lts.Need-loop-less (repeat-claims t) (repeat-at t) repeat.Post Inv-loop μ-loop
   loop-less c =
-      let after-loop-test = c .before .before .before .before .before .before .before .before in
+      let after-loop-test = c .before .before .before .before .before .before .before .before .before in
       part-spends (turn (c .before .before)) (c .if1 .left) (omega (arith, after-loop-test .loop-test .taken))
 
   loop-again : repeat-lts.Need-loop-again (repeat-claims t) (repeat-at t) repeat.Post Inv-loop μ-loop
   loop-again c =
-      let after-loop = c .before .before .before .before .before .before .before .before .before in
-      let h = after-loop .before .before .before .pre .1 in
-      part-finishes (turn (c .before .before)) (c .if1 .left)
-      (ready-turn (h .0) (h .1) (after-loop .loop .inv .fits))
+      let after-loop = c .before .before .before .before .before .before .before .before .before .before in
+      let h = after-loop .before .before .before .pre .1 in (
+        part-finishes (turn (c .before .before)) (c .if1 .left)
+            (ready-turn (h .0) (h .1) (after-loop .loop .inv .0 .fits)),
+        c .before .before .run .ensures .1,
+      )
 
   enum-told-2 : repeat-lts.Need-enum-told-2 (repeat-claims t) (repeat-at t) repeat.Post Inv-loop μ-loop
   enum-told-2 c = search needs
@@ -100,18 +105,20 @@ module _ (t : ℕ) where
       let after-test-a = c .before .before in
       let after-loop-test = after-test-a .before .before in
       let loop = after-loop-test .before .loop in
-      let h = after-loop-test .before .before .before .before .pre .1 in
-      ran-is
-      (loop .inv .rest
-      ∙ turn-by (h .0) (h .1) (memoryOf (loop .mem)) (loop .left) (after-loop-test .loop-test .taken) Test.No
-      (sym (after-test-a .test-a .ensures) ∙ c .enum-told2 .given .1))
-      (ran-from (loop .inv .bytes) (ran-finished (loop .mem) (loop .left - 1)))
+      let h = after-loop-test .before .before .before .before .pre .1 in (
+        ran-is
+            (loop .inv .0 .rest
+            ∙ turn-by (h .0) (h .1) (memoryOf (loop .mem)) (loop .left) (after-loop-test .loop-test .taken) Test.No
+            (sym (after-test-a .test-a .ensures) ∙ c .enum-told2 .given .1))
+            (ran-from (loop .inv .0 .bytes) (ran-finished (loop .mem) (loop .left - 1))),
+        loop .inv .1,
+      )
 
   enum-known-k : repeat-lts.Need-enum-known-k (repeat-claims t) (repeat-at t) repeat.Post Inv-loop μ-loop
   enum-known-k c = search needs
 
-  cast-t18 : repeat-lts.Need-cast-t18 (repeat-claims t) (repeat-at t) repeat.Post Inv-loop μ-loop
-  cast-t18 c = ready-number (c .before .before .before .before .before .before .before .before .before .pre .1 .0)
+  cast-t20 : repeat-lts.Need-cast-t20 (repeat-claims t) (repeat-at t) repeat.Post Inv-loop μ-loop
+  cast-t20 c = ready-number (c .before .before .before .before .before .before .before .before .before .pre .1 .0)
 
   returns-3 : repeat-lts.Need-returns-3 (repeat-claims t) (repeat-at t) repeat.Post Inv-loop μ-loop
   returns-3 c =
@@ -120,27 +127,32 @@ module _ (t : ℕ) where
       let after-loop-test = after-test-a .before .before in
       let loop = after-loop-test .before .loop in
       let s = after-loop-test .before .before .before .before in
-      let k = after-k .k .given .0 .0 in
-      ran-is
-      (loop .inv .rest
-      ∙ turn-by (s .pre .1 .0) (s .pre .1 .1) (memoryOf (loop .mem)) (loop .left) (after-loop-test .loop-test .taken)
-      (Test.Stopped k) (sym (after-test-a .test-a .ensures) ∙ after-k .k .given .1))
-      (ran-from (loop .inv .bytes) (ran-ended (loop .mem) k (s .args .n) (loop .left - 1)))
+      let k = after-k .k .given .0 .0 in (
+        ran-is
+            (loop .inv .0 .rest
+            ∙ turn-by (s .pre .1 .0) (s .pre .1 .1) (memoryOf (loop .mem)) (loop .left)
+            (after-loop-test .loop-test .taken) (Test.Stopped k)
+            (sym (after-test-a .test-a .ensures) ∙ after-k .k .given .1))
+            (ran-from (loop .inv .0 .bytes) (ran-ended (loop .mem) k (s .args .n) (loop .left - 1))),
+        loop .inv .1,
+      )
 
-  cast-t19 : repeat-lts.Need-cast-t19 (repeat-claims t) (repeat-at t) repeat.Post Inv-loop μ-loop
-  cast-t19 c = ready-number (c .before .before .before .before .pre .1 .0)
+  cast-t21 : repeat-lts.Need-cast-t21 (repeat-claims t) (repeat-at t) repeat.Post Inv-loop μ-loop
+  cast-t21 c = ready-number (c .before .before .before .before .pre .1 .0)
 
   returns-4 : repeat-lts.Need-returns-4 (repeat-claims t) (repeat-at t) repeat.Post Inv-loop μ-loop
   returns-4 c =
       let loop = c .before .loop in
-      let s = c .before .before .before .before in
-      ran-is
-      (loop .inv .rest
-      ∙ turn-out (s .pre .1 .0) (s .pre .1 .1) (memoryOf (loop .mem)) (loop .left) (c .loop-test .left))
-      (ran-from (loop .inv .bytes) (ran-ended (loop .mem) 32 (s .args .n) 0))
+      let s = c .before .before .before .before in (
+        ran-is
+            (loop .inv .0 .rest
+            ∙ turn-out (s .pre .1 .0) (s .pre .1 .1) (memoryOf (loop .mem)) (loop .left) (c .loop-test .left))
+            (ran-from (loop .inv .0 .bytes) (ran-ended (loop .mem) 32 (s .args .n) 0)),
+        loop .inv .1,
+      )
 
   pub closed : {M : Type 1} → repeat-lts.Closed (repeat-claims t) (repeat-at t) repeat.Post M
   closed =
       repeat-lts.spec (repeat-claims t) (repeat-at t) repeat.Post Inv-loop μ-loop child-b-requires loop-holds
       sub-left test-a-requires enum-told run-requires returns loop-less loop-again enum-told-2 returns-2
-      enum-known-k cast-t18 returns-3 cast-t19 returns-4
+      enum-known-k cast-t20 returns-3 cast-t21 returns-4

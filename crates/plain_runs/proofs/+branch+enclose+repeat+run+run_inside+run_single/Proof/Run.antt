@@ -4,6 +4,7 @@ use native.Mathlib.Omega.{arith}
 use mathlib.Core.Path.{refl, sym, _∙_}
 use Rattle.rules.specs.Records.{childA, childB}
 use Rattle.rules.specs.Layout.{memoryOf}
+use Rattle.memory_counts.specs.Counted.{Counted}
 use Rattle.evaluation.specs.State.{variablesOf}
 use Rattle.run_changes.proofs.ChangeLaws.{becomes-same}
 use Rattle.plain_runs.specs.Running.{Ready}
@@ -16,18 +17,18 @@ use Rattle.plain_runs.proofs.+branch+enclose+repeat+run+run_inside+run_
 use Rattle.plain_runs.proofs.+branch+enclose+repeat+run+run_inside+run_single.Proof.Cycle.{run-at, run-claims}
 
 abbrev Inv-loop : run-lts.InvT-loop
-Inv-loop table n variables temporaries mem₀ fuel at₀ left₀ mem at left =
+Inv-loop table n variables temporaries mem₀ counts₀ fuel at₀ left₀ mem counts at left =
     Remaining table n (variablesOf variables) mem₀ fuel at mem left
-    × Ready table at (variablesOf variables) (memoryOf mem) × (at ≤ n)
+    × Ready table at (variablesOf variables) (memoryOf mem) × (at ≤ n) × Counted (memoryOf mem) counts
 
 abbrev μ-loop : run-lts.MeasureT-loop
-μ-loop table n variables temporaries mem₀ fuel at₀ left₀ mem at left = at
+μ-loop table n variables temporaries mem₀ counts₀ fuel at₀ left₀ mem counts at left = at
 
 module _ (t : ℕ) where
   loop-holds : run-lts.Need-loop-holds (run-claims t) (run-at t) run.Post Inv-loop μ-loop
   loop-holds c =
       let h = c .pre .1 in
-      (record { rest = refl; bytes = becomes-same refl; fits = h .fits }, h, omega arith)
+      (record { rest = refl; bytes = becomes-same refl; fits = h .0 .fits }, h .0, omega arith, h .1)
 
   kind-requires : run-lts.Need-kind-requires (run-claims t) (run-at t) run.Post Inv-loop μ-loop
   kind-requires c κs = ready-within (c .before .loop .inv .1)
@@ -37,7 +38,7 @@ module _ (t : ℕ) where
 
   run-requires : run-lts.Need-run-requires (run-claims t) (run-at t) run.Post Inv-loop μ-loop
   run-requires c κs =
-      let after-child-a = c .before in
+      let after-child-a = c .before .before in
       let after-if1 = after-child-a .before .before in
       let after-kind = after-if1 .before in
       let after-loop = after-kind .before .before in
@@ -45,12 +46,12 @@ module _ (t : ℕ) where
       let q = sym (after-kind .kind .ensures) ∙ after-if1 .if1 .taken in
       rw (after-child-a .child-a .ensures) (
         omega (arith, sequence-parts h q .0 .1, after-loop .loop .inv .2, after-loop .before .pre .0),
-        ready-first h q,
+        (ready-first h q, after-loop .loop .inv .3),
       )
 
   -- a sequence whose first child ran
   first : (c : run-lts.After-run (run-claims t) (run-at t) run.Post Inv-loop μ-loop)
-      → let after-loop = c .before .before .before .before .before .before .before in
+      → let after-loop = c .before .before .before .before .before .before .before .before in
       let s = after-loop .before in
       let T = s .args .table .now in
       let m = after-loop .loop .at in
@@ -58,29 +59,29 @@ module _ (t : ℕ) where
       (after-loop .loop .mem) (after-loop .loop .left) (childA T m) (childB T m) (after-loop .loop .left)
       (c .run .result) (c .run .last .1 .1 .1 .1 .0)
   first c =
-      let after-child-a = c .before .before in
+      let after-child-a = c .before .before .before in
       let after-if1 = after-child-a .before .before in
       let after-kind = after-if1 .before in
       let after-loop = after-kind .before .before in
       let s = after-loop .before in
       record {
         earlier = after-loop .loop .inv .0;
-        ran = rw (after-child-a .child-a .ensures) at (c .run .ensures);
+        ran = rw (after-child-a .child-a .ensures) at (c .run .ensures .0);
         leads =
             sequence-by (after-loop .loop .inv .1) (sym (after-kind .kind .ensures) ∙ after-if1 .if1 .taken)
             (memoryOf (after-loop .loop .mem)) (after-loop .loop .left);
       }
 
   returns : run-lts.Need-returns (run-claims t) (run-at t) run.Post Inv-loop μ-loop
-  returns c = part-ends (first (c .before .before)) (c .if2 .taken)
+  returns c = (part-ends (first (c .before .before)) (c .if2 .taken), c .before .before .run .ensures .1)
 
   child-b-requires : run-lts.Need-child-b-requires (run-claims t) (run-at t) run.Post Inv-loop μ-loop
   child-b-requires c κs =
-      ready-within (c .before .before .before .before .before .before .before .before .before .before .loop .inv .1)
+      ready-within (c .before .before .before .before .before .before .before .before .before .before .before .loop .inv .1)
 
   loop-less : run-lts.Need-loop-less (run-claims t) (run-at t) run.Post Inv-loop μ-loop
   loop-less c =
-      let after-if1 = c .before .before .before .before .before .before .before .before in
+      let after-if1 = c .before .before .before .before .before .before .before .before .before in
       let after-kind = after-if1 .before in
       let q = sym (after-kind .kind .ensures) ∙ after-if1 .if1 .taken in
       omega (arith, c .child-b .ensures, sequence-parts (after-kind .before .before .loop .inv .1) q .1 .1)
@@ -88,7 +89,7 @@ module _ (t : ℕ) where
   loop-again : run-lts.Need-loop-again (run-claims t) (run-at t) run.Post Inv-loop μ-loop
   loop-again c =
       let after-run = c .before .before .before .before in
-      let after-if1 = after-run .before .before .before .before in
+      let after-if1 = after-run .before .before .before .before .before in
       let after-kind = after-if1 .before in
       let after-loop = after-kind .before .before in
       let h = after-loop .loop .inv .1 in
@@ -98,21 +99,28 @@ module _ (t : ℕ) where
         remaining,
         ready-second h q (remaining .fits),
         omega (arith, sequence-parts h q .1 .1, after-loop .loop .inv .2),
+        after-run .run .ensures .1,
       )
 
   run-single-requires : run-lts.Need-run-single-requires (run-claims t) (run-at t) run.Post Inv-loop μ-loop
   run-single-requires c κs =
-      let after-if1 = c .before in
+      let after-if1 = c .before .before in
       let after-kind = after-if1 .before in
       let after-loop = after-kind .before .before in (
         omega (arith, after-loop .loop .inv .2, after-loop .before .pre .0),
-        (after-loop .loop .inv .1, λ e. after-if1 .if1 .left (after-kind .kind .ensures ∙ e)),
+        (
+          after-loop .loop .inv .1,
+          λ e. after-if1 .if1 .left (after-kind .kind .ensures ∙ e),
+          after-loop .loop .inv .3,
+        ),
       )
 
   returns-2 : run-lts.Need-returns-2 (run-claims t) (run-at t) run.Post Inv-loop μ-loop
   returns-2 c =
-      let remaining = c .before .before .before .before .before .loop .inv .0 in
-      ran-is (remaining .rest) (ran-from (remaining .bytes) (c .run-single .ensures))
+      let remaining = c .before .before .before .before .before .before .loop .inv .0 in (
+        ran-is (remaining .rest) (ran-from (remaining .bytes) (c .run-single .ensures .0)),
+        c .run-single .ensures .1,
+      )
 
   pub closed : {M : Type 1} → run-lts.Closed (run-claims t) (run-at t) run.Post M
   closed =

@@ -16,34 +16,34 @@ use Rattle.plain_runs.proofs.+branch+enclose+repeat+run+run_inside+run_
 
 module _ (t : ℕ) where
   mark-requires : run-inside-lts.Need-mark-requires (run-inside-claims t) (run-inside-at t) run-inside.Post
-  mark-requires c κs = c .before .before .pre .1 .within
+  mark-requires c κs = c .before .before .pre .1 .0 .within
 
   cast-name-variable : run-inside-lts.Need-cast-name-variable (run-inside-claims t)
       (run-inside-at t) run-inside.Post
-  cast-name-variable c = record { fits = omega (arith, c .mark .ensures, c .before .before .before .pre .1 .mark) }
+  cast-name-variable c = record { fits = omega (arith, c .mark .ensures, c .before .before .before .pre .1 .0 .mark) }
 
   name-variable-requires : run-inside-lts.Need-name-variable-requires (run-inside-claims t)
       (run-inside-at t) run-inside.Post
-  name-variable-requires c κs = omega (arith, c .mark .ensures, c .before .before .before .pre .1 .mark)
+  name-variable-requires c κs = omega (arith, c .mark .ensures, c .before .before .before .pre .1 .0 .mark)
 
   child-a-requires : run-inside-lts.Need-child-a-requires (run-inside-claims t) (run-inside-at t) run-inside.Post
-  child-a-requires c κs = c .before .before .before .before .before .pre .1 .within
+  child-a-requires c κs = c .before .before .before .before .before .pre .1 .0 .within
 
   run-requires : run-inside-lts.Need-run-requires (run-inside-claims t) (run-inside-at t) run-inside.Post
   run-requires c κs =
-      let after-child-a = c .before .before in
+      let after-child-a = c .before .before .before in
       let after-name-variable = after-child-a .before .before in
       let after-mark = after-name-variable .before in
       let s = after-mark .before .before .before in
       rw (after-child-a .child-a .ensures, after-name-variable .name-variable .ensures, after-mark .mark .ensures)
-      (omega (arith, s .pre .1 .smaller, s .pre .0), s .pre .1 .body)
+      (omega (arith, s .pre .1 .0 .smaller, s .pre .0), (s .pre .1 .0 .body, s .pre .1 .1))
 
   end-requires : run-inside-lts.Need-end-requires (run-inside-claims t) (run-inside-at t) run-inside.Post
-  end-requires c κs = tt
+  end-requires c κs = c .before .before .before .before .run .ensures .1
 
   -- the child ran
   child : (c : run-inside-lts.After-run (run-inside-claims t) (run-inside-at t) run-inside.Post)
-      → let s = c .before .before .before .before .before .before .before .before .before in
+      → let s = c .before .before .before .before .before .before .before .before .before .before in
       let T = s .args .table .now in
       let n = s .args .n in
       let l = s .args .mem .now in
@@ -51,23 +51,26 @@ module _ (t : ℕ) where
       (extend (variablesOf (s .args .variables .now)) (markOf T n) (s .args .k)) (memoryOf l) (s .args .fuel))
       (c .run .result) l (c .run .last .1 .1 .1 .1 .0)
   child c =
-      let after-child-a = c .before .before .before in
+      let after-child-a = c .before .before .before .before in
       let after-name-variable = after-child-a .before .before in
       let after-mark = after-name-variable .before in
       rw (after-child-a .child-a .ensures, after-name-variable .name-variable .ensures, after-mark .mark .ensures)
-      at (c .run .ensures)
+      at (c .run .ensures .0)
 
   returns : run-inside-lts.Need-returns (run-inside-claims t) (run-inside-at t) run-inside.Post
   returns c =
-      let after-run = c .before .before .before .before in
-      let s = after-run .before .before .before .before .before .before .before .before .before in
-      inside-ends (s .pre .1) (s .args .fuel) (child after-run) (c .before .before .if1 .taken) (c .end .ensures)
+      let after-run = c .before .before .before .before .before in
+      let s = after-run .before .before .before .before .before .before .before .before .before .before in (
+        inside-ends (s .pre .1 .0) (s .args .fuel) (child after-run) (c .before .before .before .if1 .taken)
+            (c .end .ensures .0),
+        c .end .ensures .1,
+      )
 
   returns-2 : run-inside-lts.Need-returns-2 (run-inside-claims t) (run-inside-at t) run-inside.Post
   returns-2 c =
       let after-run = c .before .before in
-      let s = after-run .before .before .before .before .before .before .before .before .before in
-      inside-stays (s .pre .1) (s .args .fuel) (child after-run) (c .if1 .left)
+      let s = after-run .before .before .before .before .before .before .before .before .before .before in
+      (inside-stays (s .pre .1 .0) (s .args .fuel) (child after-run) (c .if1 .left), after-run .run .ensures .1)
 
   pub closed : {M : Type 1} → run-inside-lts.Closed (run-inside-claims t) (run-inside-at t) run-inside.Post M
   closed =

@@ -6,11 +6,13 @@ use Rattle.rules.specs.Records.{kindOf}
 use Rattle.rules.specs.Flow.{ending}
 use Rattle.rules.specs.Layout.{memoryOf}
 use Rattle.rules.proofs.runs.PlainArms.{statement-kinds, run-skip}
+use Rattle.memory_counts.specs.Counted.{Counted}
 use Rattle.evaluation.specs.State.{variablesOf}
 use Rattle.plain_runs.specs.Running.{Ready}
 use Rattle.plain_runs.proofs.Laws.{ran-is}
 use Rattle.plain_runs.proofs.ReadyLaws.{ready-within}
 use Rattle.plain_runs.proofs.MemberLaws.{ran-finished}
+use Rattle.plain_runs.proofs.CountedRuns.{assign-counted, assert-counted}
 use Rattle.plain_runs.proofs.run_single.Reads as run-single
 use Rattle.plain_runs.proofs.+branch+enclose+repeat+run+run_inside+run_single.Lts-run_single as run-single-lts
 use Rattle.plain_runs.proofs.+branch+enclose+repeat+run+run_inside+run_single.Proof.Cycle.{run-single-at}
@@ -28,50 +30,75 @@ module _ (t : ℕ) where
       × (kindOf (a .table .now) (a .n) ≡ k)
   of-kind c e = (c .before .before .pre .1 .0, sym (c .kind .ensures) ∙ e)
 
+  -- the same with its counts
+  counted-kind : (c : run-single-lts.After-kind (run-single-claims t) (run-single-at t) run-single.Post) {k : ℕ}
+      → c .kind .result ≡ k
+      → let a = c .before .before .args in
+      Ready (a .table .now) (a .n) (variablesOf (a .variables .now)) (memoryOf (a .mem .now))
+      × (kindOf (a .table .now) (a .n) ≡ k) × Counted (memoryOf (a .mem .now)) (a .counts .now)
+  counted-kind c e = (of-kind c e .0, of-kind c e .1, c .before .before .pre .1 .2)
+
   assign-requires : run-single-lts.Need-assign-requires (run-single-claims t) (run-single-at t) run-single.Post
   assign-requires c κs = of-kind (c .before .before) (c .before .match .keys2)
 
   allocate-requires : run-single-lts.Need-allocate-requires (run-single-claims t) (run-single-at t) run-single.Post
-  allocate-requires c κs = of-kind (c .before .before) (c .before .match .keys3)
+  allocate-requires c κs = counted-kind (c .before .before .before) (c .before .before .match .keys3)
 
   release-requires : run-single-lts.Need-release-requires (run-single-claims t) (run-single-at t) run-single.Post
-  release-requires c κs = of-kind (c .before .before) (c .before .match .keys4)
+  release-requires c κs = counted-kind (c .before .before .before) (c .before .before .match .keys4)
 
   branch-requires : run-single-lts.Need-branch-requires (run-single-claims t) (run-single-at t) run-single.Post
-  branch-requires c κs =
-      (omega (arith, c .before .before .before .before .pre .0), of-kind (c .before .before) (c .before .match .keys5))
+  branch-requires c κs = (
+    omega (arith, c .before .before .before .before .before .pre .0),
+    counted-kind (c .before .before .before) (c .before .before .match .keys5),
+  )
 
   repeat-requires : run-single-lts.Need-repeat-requires (run-single-claims t) (run-single-at t) run-single.Post
-  repeat-requires c κs =
-      (omega (arith, c .before .before .before .before .pre .0), of-kind (c .before .before) (c .before .match .keys6))
+  repeat-requires c κs = (
+    omega (arith, c .before .before .before .before .before .pre .0),
+    counted-kind (c .before .before .before) (c .before .before .match .keys6),
+  )
 
   enclose-requires : run-single-lts.Need-enclose-requires (run-single-claims t) (run-single-at t) run-single.Post
-  enclose-requires c κs =
-      (omega (arith, c .before .before .before .before .pre .0), of-kind (c .before .before) (c .before .match .keys7))
+  enclose-requires c κs = (
+    omega (arith, c .before .before .before .before .before .pre .0),
+    counted-kind (c .before .before .before) (c .before .before .match .keys7),
+  )
 
-  assert-requires : run-single-lts.Need-assert-requires (run-single-claims t) (run-single-at t) run-single.Post
-  assert-requires c κs =
+  -- no other kind is left
+  assert-kind : (c : run-single-lts.After-assert-arg (run-single-claims t) (run-single-at t) run-single.Post)
+      → let a = c .before .before .before .before .args in kindOf (a .table .now) (a .n) ≡ 48
+  assert-kind c =
       let s = c .before .before .before .before in
       let k = c .before .before .kind .ensures in
-      let r = c .before .match .rest in (
-        s .pre .1 .0,
-        statement-kinds (s .args .table .now) (s .args .n) (s .pre .1 .0 .is)
-            (λ e. r .0 .0 .0 .0 .0 .0 .1 (k ∙ e)) (λ e. r .0 .0 .0 .0 .0 .1 (k ∙ e)) (λ e. r .0 .0 .0 .0 .1 (k ∙ e))
-            (λ e. r .0 .0 .0 .1 (k ∙ e)) (s .pre .1 .1) (λ e. r .0 .0 .1 (k ∙ e)) (λ e. r .0 .1 (k ∙ e))
-            (λ e. r .1 (k ∙ e)),
-      )
+      let r = c .before .match .rest in
+      statement-kinds (s .args .table .now) (s .args .n) (s .pre .1 .0 .is)
+      (λ e. r .0 .0 .0 .0 .0 .0 .1 (k ∙ e)) (λ e. r .0 .0 .0 .0 .0 .1 (k ∙ e)) (λ e. r .0 .0 .0 .0 .1 (k ∙ e))
+      (λ e. r .0 .0 .0 .1 (k ∙ e)) (s .pre .1 .1) (λ e. r .0 .0 .1 (k ∙ e)) (λ e. r .0 .1 (k ∙ e))
+      (λ e. r .1 (k ∙ e))
+
+  assert-requires : run-single-lts.Need-assert-requires (run-single-claims t) (run-single-at t) run-single.Post
+  assert-requires c κs = (c .before .before .before .before .pre .1 .0, assert-kind c)
 
   returns : run-single-lts.Need-returns (run-single-claims t) (run-single-at t) run-single.Post
   returns c =
       let s = c .before .before .before in
-      let l = s .args .mem .now in
-      ran-is
-      (ap ending (run-skip (s .args .table .now) (s .args .n) (s .pre .1 .0 .is) (variablesOf (s .args .variables .now))
-      (memoryOf l) (s .args .fuel) (of-kind (c .before) (c .match .keys1) .1)))
-      (ran-finished l (s .args .fuel))
+      let l = s .args .mem .now in (
+        ran-is
+            (ap ending (run-skip (s .args .table .now) (s .args .n) (s .pre .1 .0 .is)
+            (variablesOf (s .args .variables .now)) (memoryOf l) (s .args .fuel)
+            (of-kind (c .before) (c .match .keys1) .1)))
+            (ran-finished l (s .args .fuel)),
+        s .pre .1 .2,
+      )
 
   returns-2 : run-single-lts.Need-returns-2 (run-single-claims t) (run-single-at t) run-single.Post
-  returns-2 c = c .assign .ensures
+  returns-2 c =
+      let s = c .before .before .before .before .before in
+      let k = of-kind (c .before .before .before) (c .before .before .match .keys2) in (
+        c .assign .ensures,
+        assign-counted (s .args .mem .now) (s .args .fuel) (k .0) (k .1) (s .pre .1 .2) (c .assign .ensures),
+      )
 
   returns-3 : run-single-lts.Need-returns-3 (run-single-claims t) (run-single-at t) run-single.Post
   returns-3 c = c .allocate .ensures
@@ -89,7 +116,12 @@ module _ (t : ℕ) where
   returns-7 c = c .enclose .ensures
 
   returns-8 : run-single-lts.Need-returns-8 (run-single-claims t) (run-single-at t) run-single.Post
-  returns-8 c = c .assert .ensures
+  returns-8 c =
+      let s = c .before .before .before .before .before in (
+        c .assert .ensures,
+        assert-counted (s .args .mem .now) (s .args .fuel) (s .pre .1 .0) (assert-kind (c .before)) (s .pre .1 .2)
+            (c .assert .ensures),
+      )
 
   pub closed : {M : Type 1} → run-single-lts.Closed (run-single-claims t) (run-single-at t) run-single.Post M
   closed =

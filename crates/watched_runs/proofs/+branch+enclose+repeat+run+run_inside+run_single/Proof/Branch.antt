@@ -31,22 +31,22 @@ module _ (t : ℕ) where
 
   run-requires : branch-lts.Need-run-requires (branch-claims t) (branch-at t) branch.Post
   run-requires c κs =
-      let after-child-b = c .before .before .before .before .before .before .before .before .before .before in
+      let after-child-b = c .before .before .before .before .before .before .before .before .before .before .before in
       let s = after-child-b .before .before in
       let h = s .pre .1 in
       rw (after-child-b .child-b .ensures)
-      (omega (arith, branch-parts _ _ _ _ (h .0) (h .1) .0 .1, s .pre .0), ready-then _ _ _ _ (h .0) (h .1))
+      (omega (arith, branch-parts _ _ _ _ (h .0) (h .1) .0 .1, s .pre .0), (ready-then _ _ _ _ (h .0) (h .1), h .2))
 
   enum-told-2 : branch-lts.Need-enum-told-2 (branch-claims t) (branch-at t) branch.Post
   enum-told-2 c = search needs
 
   run-requires-2 : branch-lts.Need-run-requires-2 (branch-claims t) (branch-at t) branch.Post
   run-requires-2 c κs =
-      let after-child-c = c .before .before .before .before .before .before .before .before in
+      let after-child-c = c .before .before .before .before .before .before .before .before .before in
       let s = after-child-c .before .before .before .before in
       let h = s .pre .1 in
       rw (after-child-c .child-c .ensures)
-      (omega (arith, branch-parts _ _ _ _ (h .0) (h .1) .1 .1, s .pre .0), ready-else _ _ _ _ (h .0) (h .1))
+      (omega (arith, branch-parts _ _ _ _ (h .0) (h .1) .1 .1, s .pre .0), (ready-else _ _ _ _ (h .0) (h .1), h .2))
 
   enum-known-k : branch-lts.Need-enum-known-k (branch-claims t) (branch-at t) branch.Post
   enum-known-k c = search needs
@@ -57,25 +57,29 @@ module _ (t : ℕ) where
 
   returns : branch-lts.Need-returns (branch-claims t) (branch-at t) branch.Post
   returns c =
-      let after-enum-told = c .before .before .before .before in
+      let after-enum-told = c .before .before .before .before .before in
       let after-test = after-enum-told .before .before in
       let after-child-b = after-test .before .before .before .before .before in
-      let s = after-child-b .before .before in
-      ran-is
-      (branch-by (s .pre .1 .0) (s .pre .1 .1) (s .args .fuel) Test.Yes
-      (sym (after-test .test .ensures) ∙ after-enum-told .enum-told .given .1))
-      (rw (after-child-b .child-b .ensures) at (c .run .ensures))
+      let s = after-child-b .before .before in (
+        ran-is
+            (branch-by (s .pre .1 .0) (s .pre .1 .1) (s .args .fuel) Test.Yes
+            (sym (after-test .test .ensures) ∙ after-enum-told .enum-told .given .1))
+            (rw (after-child-b .child-b .ensures) at (c .run .ensures .0)),
+        c .run .ensures .1,
+      )
 
   returns-2 : branch-lts.Need-returns-2 (branch-claims t) (branch-at t) branch.Post
   returns-2 c =
-      let after-enum-told2 = c .before .before .before .before in
+      let after-enum-told2 = c .before .before .before .before .before in
       let after-test = after-enum-told2 .before .before in
       let after-child-c = after-test .before .before .before in
-      let s = after-child-c .before .before .before .before in
-      ran-is
-      (branch-by (s .pre .1 .0) (s .pre .1 .1) (s .args .fuel) Test.No
-      (sym (after-test .test .ensures) ∙ after-enum-told2 .enum-told2 .given .1))
-      (rw (after-child-c .child-c .ensures) at (c .run2 .ensures))
+      let s = after-child-c .before .before .before .before in (
+        ran-is
+            (branch-by (s .pre .1 .0) (s .pre .1 .1) (s .args .fuel) Test.No
+            (sym (after-test .test .ensures) ∙ after-enum-told2 .enum-told2 .given .1))
+            (rw (after-child-c .child-c .ensures) at (c .run2 .ensures .0)),
+        c .run2 .ensures .1,
+      )
 
   returns-3 : branch-lts.Need-returns-3 (branch-claims t) (branch-at t) branch.Post
   returns-3 c =
@@ -83,12 +87,14 @@ module _ (t : ℕ) where
       let after-test = after-k .before .before in
       let s = after-test .before .before .before .before .before .before .before in
       let x = lent (s .args .mem .now) (s .args .obs .now) (s .args .temporaries .now) in
-      let k = after-k .k .given .0 .0 in
-      rw (c .statement-of .ensures)
-      (ran-is
-      (branch-by (s .pre .1 .0) (s .pre .1 .1) (s .args .fuel) (Test.Stopped k)
-      (sym (after-test .test .ensures) ∙ after-k .k .given .1))
-      (ran-ended x k (numberAt (s .args .table .now) (s .args .n)) (s .args .fuel)))
+      let k = after-k .k .given .0 .0 in (
+        rw (c .statement-of .ensures)
+            (ran-is
+            (branch-by (s .pre .1 .0) (s .pre .1 .1) (s .args .fuel) (Test.Stopped k)
+            (sym (after-test .test .ensures) ∙ after-k .k .given .1))
+            (ran-ended x k (numberAt (s .args .table .now) (s .args .n)) (s .args .fuel))),
+        s .pre .1 .2,
+      )
 
   pub closed : {M : Type 1} → branch-lts.Closed (branch-claims t) (branch-at t) branch.Post M
   closed =

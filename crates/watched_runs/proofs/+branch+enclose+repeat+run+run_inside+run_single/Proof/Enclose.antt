@@ -13,45 +13,52 @@ use Rattle.watched_runs.proofs.+branch+enclose+repeat+run+run_inside+ru
 
 module _ (t : ℕ) where
   make-requires : enclose-lts.Need-make-requires (enclose-claims t) (enclose-at t) enclose.Post
-  make-requires c κs = tt
+  make-requires c κs = c .before .before .pre .1 .2
 
   enum-known-k : enclose-lts.Need-enum-known-k (enclose-claims t) (enclose-at t) enclose.Post
   enum-known-k c = search needs
 
   run-inside-requires : enclose-lts.Need-run-inside-requires (enclose-claims t) (enclose-at t) enclose.Post
   run-inside-requires c κs =
-      let after-k = c .before .before .before .before in
+      let after-k = c .before .before .before .before .before in
       let after-make = after-k .before .before in
-      let s = after-make .before .before in (
+      let s = after-make .before .before .before in (
         omega (arith, s .pre .0),
-        ready-made _ _ _ _ (s .pre .1 .0) (s .pre .1 .1) _ _ (after-make .make .ensures .1)
-            (sym (after-k .k .given .1) ∙ after-make .make .ensures .0),
+        (
+          ready-made _ _ _ _ (s .pre .1 .0) (s .pre .1 .1) _ _ (after-make .make .ensures .1 .0)
+              (sym (after-k .k .given .1) ∙ after-make .make .ensures .0),
+          after-make .make .ensures .1 .1,
+        ),
       )
 
   enum-known-c : enclose-lts.Need-enum-known-c (enclose-claims t) (enclose-at t) enclose.Post
   enum-known-c c = search needs
 
   statement-of-requires : enclose-lts.Need-statement-of-requires (enclose-claims t) (enclose-at t) enclose.Post
-  statement-of-requires c κs = c .before .before .before .before .before .pre .1 .0 .is
+  statement-of-requires c κs = c .before .before .before .before .before .before .pre .1 .0 .is
 
   returns : enclose-lts.Need-returns (enclose-claims t) (enclose-at t) enclose.Post
   returns c =
-      let after-k = c .before .before .before .before .before in
+      let after-k = c .before .before .before .before .before .before in
       let after-make = after-k .before .before in
-      let s = after-make .before .before in
-      ran-is
-      (let-made (s .pre .1 .0) (s .pre .1 .1) (after-make .make .ensures .1) (s .args .fuel)
-      (sym (after-k .k .given .1) ∙ after-make .make .ensures .0))
-      (ran-from (kept-memory _ _ (after-make .make .ensures .1)) (c .run-inside .ensures))
+      let s = after-make .before .before .before in (
+        ran-is
+            (let-made (s .pre .1 .0) (s .pre .1 .1) (after-make .make .ensures .1 .0) (s .args .fuel)
+            (sym (after-k .k .given .1) ∙ after-make .make .ensures .0))
+            (ran-from (kept-memory _ _ (after-make .make .ensures .1 .0)) (c .run-inside .ensures .0)),
+        c .run-inside .ensures .1,
+      )
 
   returns-2 : enclose-lts.Need-returns-2 (enclose-claims t) (enclose-at t) enclose.Post
   returns-2 c =
       let after-c = c .before .before in
       let after-make = after-c .before .before in
-      let s = after-make .before .before in
-      rw (c .statement-of .ensures)
-      (let-unmade (s .pre .1 .0) (s .pre .1 .1) (after-make .make .ensures .1) (s .args .fuel)
-      (after-c .c .given .0 .0) (sym (after-c .c .given .1) ∙ after-make .make .ensures .0))
+      let s = after-make .before .before .before in (
+        rw (c .statement-of .ensures)
+            (let-unmade (s .pre .1 .0) (s .pre .1 .1) (after-make .make .ensures .1 .0) (s .args .fuel)
+            (after-c .c .given .0 .0) (sym (after-c .c .given .1) ∙ after-make .make .ensures .0)),
+        after-make .make .ensures .1 .1,
+      )
 
   pub closed : {M : Type 1} → enclose-lts.Closed (enclose-claims t) (enclose-at t) enclose.Post M
   closed =

@@ -6,6 +6,8 @@ use borrow.Author.Needs.{needs}
 use Rattle.rules.specs.Records.{childB}
 use Rattle.rules.specs.Nodes.{numberAt}
 use Rattle.rules.specs.declared.{Test.Test}
+use Rattle.rules.specs.Layout.{memoryOf}
+use Rattle.memory_counts.specs.Counted.{Counted}
 use Rattle.evaluation.specs.State.{variablesOf}
 use Rattle.watched_statements.specs.Watching.{lent}
 use Rattle.watched_statements.proofs.Laws.{kept-same, ran-is, ran-from, ran-finished, ran-ended}
@@ -18,18 +20,21 @@ use Rattle.watched_runs.proofs.+branch+enclose+repeat+run+run_inside+ru
 use Rattle.watched_runs.proofs.+branch+enclose+repeat+run+run_inside+run_single.Proof.Cycle.{repeat-claims}
 
 abbrev Inv-loop : repeat-lts.InvT-loop
-Inv-loop table n variables temporaries₀ mem₀ obs₀ fuel b left₀ temporaries mem obs left =
+Inv-loop table n variables temporaries₀ mem₀ counts₀ obs₀ fuel b left₀ temporaries mem counts obs left =
     Remaining table n (variablesOf variables) (lent mem₀ obs₀ temporaries₀) fuel n (lent mem obs temporaries) left
+    × Counted (memoryOf mem) counts
 
 abbrev μ-loop : repeat-lts.MeasureT-loop
-μ-loop table n variables temporaries₀ mem₀ obs₀ fuel b left₀ temporaries mem obs left = left
+μ-loop table n variables temporaries₀ mem₀ counts₀ obs₀ fuel b left₀ temporaries mem counts obs left = left
 
 module _ (t : ℕ) where
   child-b-requires : repeat-lts.Need-child-b-requires (repeat-claims t) (repeat-at t) repeat.Post Inv-loop μ-loop
   child-b-requires c κs = ready-within _ _ _ _ (c .before .pre .1 .0)
 
   loop-holds : repeat-lts.Need-loop-holds (repeat-claims t) (repeat-at t) repeat.Post Inv-loop μ-loop
-  loop-holds c = record { rest = refl; bytes = kept-same _; fits = c .before .before .pre .1 .0 .fits }
+  loop-holds c =
+      let h = c .before .before .pre .1 in
+      (record { rest = refl; bytes = kept-same _; fits = h .0 .fits }, h .2)
 
   sub-left : repeat-lts.Need-sub-left (repeat-claims t) (repeat-at t) repeat.Post Inv-loop μ-loop
   sub-left c = omega (arith, c .loop-test .taken)
@@ -44,18 +49,18 @@ module _ (t : ℕ) where
 
   run-requires : repeat-lts.Need-run-requires (repeat-claims t) (repeat-at t) repeat.Post Inv-loop μ-loop
   run-requires c κs =
-      let after-loop = c .before .before .before .before .before .before .before .before .before in
+      let after-loop = c .before .before .before .before .before .before .before .before .before .before in
       let after-child-b = after-loop .before in
       let s = after-child-b .before .before in
       let h = s .pre .1 in
       rw (after-child-b .child-b .ensures) (
         omega (arith, while-parts (h .0) (h .1) .1 .1, s .pre .0),
-        ready-turn _ _ _ _ (h .0) (h .1) _ (after-loop .loop .inv .fits),
+        (ready-turn _ _ _ _ (h .0) (h .1) _ (after-loop .loop .inv .0 .fits), after-loop .loop .inv .1),
       )
 
   -- a turn whose condition is true, where its child ran
   turn : (c : repeat-lts.After-run (repeat-claims t) (repeat-at t) repeat.Post Inv-loop μ-loop)
-      → let after-loop = c .before .before .before .before .before .before .before .before .before .before in
+      → let after-loop = c .before .before .before .before .before .before .before .before .before .before .before in
       let loop = after-loop .loop in
       let s = after-loop .before .before .before in
       let n = s .args .n in
@@ -63,17 +68,17 @@ module _ (t : ℕ) where
       Part (s .args .table .now) n (variablesOf (s .args .variables .now))
       (lent (s .args .mem .now) (s .args .obs .now) (s .args .temporaries .now)) (s .args .fuel) n
       (lent (loop .mem) (loop .obs) (loop .temporaries)) (loop .left) (childB (s .args .table .now) n) n
-      (loop .left - 1) (c .run .result) (lent (last .1 .0) (last .1 .1 .0) (last .0))
+      (loop .left - 1) (c .run .result) (lent (last .1 .0) (last .1 .1 .1 .0) (last .0))
   turn c =
-      let after-enum-told = c .before .before .before .before in
+      let after-enum-told = c .before .before .before .before .before in
       let after-test-a = after-enum-told .before .before in
       let after-loop-test = after-test-a .before .before .before in
       let after-child-b = after-loop-test .before .before in
       let loop = after-loop-test .before .loop in
       let h = after-child-b .before .before .pre .1 in
       record {
-        earlier = loop .inv;
-        ran = rw (after-child-b .child-b .ensures) at (c .run .ensures);
+        earlier = loop .inv .0;
+        ran = rw (after-child-b .child-b .ensures) at (c .run .ensures .0);
         leads =
             turn-by (h .0) (h .1) (lent (loop .mem) (loop .obs) (loop .temporaries)) (loop .left)
             (after-loop-test .loop-test .taken) Test.Yes
@@ -81,21 +86,23 @@ module _ (t : ℕ) where
       }
 
   returns : repeat-lts.Need-returns (repeat-claims t) (repeat-at t) repeat.Post Inv-loop μ-loop
-  returns c = part-ends (turn (c .before .before)) (c .if1 .taken)
+  returns c = (part-ends (turn (c .before .before)) (c .if1 .taken), c .before .before .run .ensures .1)
 
   loop-less : repeat-lts.Need-loop-less (repeat-claims t) (repeat-at t) repeat.Post Inv-loop μ-loop
   loop-less c =
-      let after-test-a = c .before .before .before .before .before .before .before .before in
+      let after-test-a = c .before .before .before .before .before .before .before .before .before in
       part-spends (turn (c .before .before)) (c .if1 .left)
       (omega (arith, after-test-a .before .before .before .loop-test .taken))
 
   loop-again : repeat-lts.Need-loop-again (repeat-claims t) (repeat-at t) repeat.Post Inv-loop μ-loop
   loop-again c =
-      let after-test-a = c .before .before .before .before .before .before .before .before in
+      let after-test-a = c .before .before .before .before .before .before .before .before .before in
       let after-loop = after-test-a .before .before .before .before in
-      let h = after-loop .before .before .before .pre .1 in
-      part-finishes (turn (c .before .before)) (c .if1 .left)
-      (ready-turn _ _ _ _ (h .0) (h .1) _ (after-loop .loop .inv .fits))
+      let h = after-loop .before .before .before .pre .1 in (
+        part-finishes (turn (c .before .before)) (c .if1 .left)
+            (ready-turn _ _ _ _ (h .0) (h .1) _ (after-loop .loop .inv .0 .fits)),
+        c .before .before .run .ensures .1,
+      )
 
   enum-told-2 : repeat-lts.Need-enum-told-2 (repeat-claims t) (repeat-at t) repeat.Post Inv-loop μ-loop
   enum-told-2 c = search needs
@@ -106,12 +113,14 @@ module _ (t : ℕ) where
       let after-loop-test = after-test-a .before .before .before in
       let loop = after-loop-test .before .loop in
       let h = after-loop-test .before .before .before .before .pre .1 in
-      let y = lent (loop .mem) (loop .obs) (loop .temporaries) in
-      ran-is
-      (loop .inv .rest
-      ∙ turn-by (h .0) (h .1) y (loop .left) (after-loop-test .loop-test .taken) Test.No
-      (sym (after-test-a .test-a .ensures) ∙ c .enum-told2 .given .1))
-      (ran-from (loop .inv .bytes) (ran-finished y (loop .left - 1)))
+      let y = lent (loop .mem) (loop .obs) (loop .temporaries) in (
+        ran-is
+            (loop .inv .0 .rest
+            ∙ turn-by (h .0) (h .1) y (loop .left) (after-loop-test .loop-test .taken) Test.No
+            (sym (after-test-a .test-a .ensures) ∙ c .enum-told2 .given .1))
+            (ran-from (loop .inv .0 .bytes) (ran-finished y (loop .left - 1))),
+        loop .inv .1,
+      )
 
   enum-known-k : repeat-lts.Need-enum-known-k (repeat-claims t) (repeat-at t) repeat.Post Inv-loop μ-loop
   enum-known-k c = search needs
@@ -129,14 +138,16 @@ module _ (t : ℕ) where
       let loop = after-loop-test .before .loop in
       let s = after-loop-test .before .before .before .before in
       let y = lent (loop .mem) (loop .obs) (loop .temporaries) in
-      let k = after-k .k .given .0 .0 in
-      rw (c .statement-of .ensures)
-      (ran-is
-      (loop .inv .rest
-      ∙ turn-by (s .pre .1 .0) (s .pre .1 .1) y (loop .left) (after-loop-test .loop-test .taken) (Test.Stopped k)
-      (sym (after-test-a .test-a .ensures) ∙ after-k .k .given .1))
-      (ran-from (loop .inv .bytes)
-      (ran-ended y k (numberAt (s .args .table .now) (s .args .n)) (loop .left - 1))))
+      let k = after-k .k .given .0 .0 in (
+        rw (c .statement-of .ensures)
+            (ran-is
+            (loop .inv .0 .rest
+            ∙ turn-by (s .pre .1 .0) (s .pre .1 .1) y (loop .left) (after-loop-test .loop-test .taken) (Test.Stopped k)
+            (sym (after-test-a .test-a .ensures) ∙ after-k .k .given .1))
+            (ran-from (loop .inv .0 .bytes)
+            (ran-ended y k (numberAt (s .args .table .now) (s .args .n)) (loop .left - 1)))),
+        loop .inv .1,
+      )
 
   statement-of-requires-2 : repeat-lts.Need-statement-of-requires-2 (repeat-claims t)
       (repeat-at t) repeat.Post Inv-loop μ-loop
@@ -146,11 +157,13 @@ module _ (t : ℕ) where
   returns-4 c =
       let loop = c .before .before .loop in
       let s = c .before .before .before .before .before in
-      let y = lent (loop .mem) (loop .obs) (loop .temporaries) in
-      rw (c .statement-of2 .ensures)
-      (ran-is
-      (loop .inv .rest ∙ turn-out (s .pre .1 .0) (s .pre .1 .1) y (loop .left) (c .before .loop-test .left))
-      (ran-from (loop .inv .bytes) (ran-ended y 32 (numberAt (s .args .table .now) (s .args .n)) 0)))
+      let y = lent (loop .mem) (loop .obs) (loop .temporaries) in (
+        rw (c .statement-of2 .ensures)
+            (ran-is
+            (loop .inv .0 .rest ∙ turn-out (s .pre .1 .0) (s .pre .1 .1) y (loop .left) (c .before .loop-test .left))
+            (ran-from (loop .inv .0 .bytes) (ran-ended y 32 (numberAt (s .args .table .now) (s .args .n)) 0))),
+        loop .inv .1,
+      )
 
   pub closed : {M : Type 1} → repeat-lts.Closed (repeat-claims t) (repeat-at t) repeat.Post M
   closed =

@@ -3,6 +3,8 @@ use Prim.Native.Nat.{ℕ, _≤_}
 use native.Mathlib.Omega.{arith}
 use mathlib.Core.Path.{refl, sym, _∙_}
 use Rattle.rules.specs.Records.{childA, childB}
+use Rattle.rules.specs.Layout.{memoryOf}
+use Rattle.memory_counts.specs.Counted.{Counted}
 use Rattle.evaluation.specs.State.{variablesOf}
 use Rattle.watched_statements.specs.Watching.{lent, Ready}
 use Rattle.watched_statements.proofs.Laws.{kept-same, ran-is, ran-from}
@@ -14,19 +16,19 @@ use Rattle.watched_runs.proofs.+branch+enclose+repeat+run+run_inside+ru
 use Rattle.watched_runs.proofs.+branch+enclose+repeat+run+run_inside+run_single.Proof.Cycle.{run-at, run-claims}
 
 abbrev Inv-loop : run-lts.InvT-loop
-Inv-loop table n variables temporaries₀ mem₀ obs₀ fuel at₀ left₀ temporaries mem obs at left =
+Inv-loop table n variables temporaries₀ mem₀ counts₀ obs₀ fuel at₀ left₀ temporaries mem counts obs at left =
     let y = lent mem obs temporaries in
     Remaining table n (variablesOf variables) (lent mem₀ obs₀ temporaries₀) fuel at y left
-    × Ready table at (variablesOf variables) y × (at ≤ n)
+    × Ready table at (variablesOf variables) y × (at ≤ n) × Counted (memoryOf mem) counts
 
 abbrev μ-loop : run-lts.MeasureT-loop
-μ-loop table n variables temporaries₀ mem₀ obs₀ fuel at₀ left₀ temporaries mem obs at left = at
+μ-loop table n variables temporaries₀ mem₀ counts₀ obs₀ fuel at₀ left₀ temporaries mem counts obs at left = at
 
 module _ (t : ℕ) where
   loop-holds : run-lts.Need-loop-holds (run-claims t) (run-at t) run.Post Inv-loop μ-loop
   loop-holds c =
       let h = c .pre .1 in
-      (record { rest = refl; bytes = kept-same _; fits = h .fits }, h, omega arith)
+      (record { rest = refl; bytes = kept-same _; fits = h .0 .fits }, h .0, omega arith, h .1)
 
   kind-requires : run-lts.Need-kind-requires (run-claims t) (run-at t) run.Post Inv-loop μ-loop
   kind-requires c κs = ready-within _ _ _ _ (c .before .loop .inv .1)
@@ -36,7 +38,7 @@ module _ (t : ℕ) where
 
   run-requires : run-lts.Need-run-requires (run-claims t) (run-at t) run.Post Inv-loop μ-loop
   run-requires c κs =
-      let after-child-a = c .before .before .before in
+      let after-child-a = c .before .before .before .before in
       let after-if1 = after-child-a .before .before in
       let after-kind = after-if1 .before in
       let after-loop = after-kind .before .before in
@@ -44,12 +46,12 @@ module _ (t : ℕ) where
       let q = sym (after-kind .kind .ensures) ∙ after-if1 .if1 .taken in
       rw (after-child-a .child-a .ensures) (
         omega (arith, sequence-parts h q .0 .1, after-loop .loop .inv .2, after-loop .before .pre .0),
-        ready-first _ _ _ _ h q,
+        (ready-first _ _ _ _ h q, after-loop .loop .inv .3),
       )
 
   -- a sequence whose first child ran
   first : (c : run-lts.After-run (run-claims t) (run-at t) run.Post Inv-loop μ-loop)
-      → let after-loop = c .before .before .before .before .before .before .before .before .before in
+      → let after-loop = c .before .before .before .before .before .before .before .before .before .before in
       let loop = after-loop .loop in
       let s = after-loop .before in
       let T = s .args .table .now in
@@ -57,9 +59,9 @@ module _ (t : ℕ) where
       Part T (s .args .n) (variablesOf (s .args .variables .now))
       (lent (s .args .mem .now) (s .args .obs .now) (s .args .temporaries .now)) (s .args .fuel) (loop .at)
       (lent (loop .mem) (loop .obs) (loop .temporaries)) (loop .left) (childA T (loop .at)) (childB T (loop .at))
-      (loop .left) (c .run .result) (lent (last .1 .0) (last .1 .1 .0) (last .0))
+      (loop .left) (c .run .result) (lent (last .1 .0) (last .1 .1 .1 .0) (last .0))
   first c =
-      let after-child-a = c .before .before .before .before in
+      let after-child-a = c .before .before .before .before .before in
       let after-if1 = after-child-a .before .before in
       let after-kind = after-if1 .before in
       let after-loop = after-kind .before .before in
@@ -67,24 +69,24 @@ module _ (t : ℕ) where
       let s = after-loop .before in
       record {
         earlier = loop .inv .0;
-        ran = rw (after-child-a .child-a .ensures) at (c .run .ensures);
+        ran = rw (after-child-a .child-a .ensures) at (c .run .ensures .0);
         leads =
             sequence-by (loop .inv .1) (sym (after-kind .kind .ensures) ∙ after-if1 .if1 .taken)
             (lent (loop .mem) (loop .obs) (loop .temporaries)) (loop .left);
       }
 
   returns : run-lts.Need-returns (run-claims t) (run-at t) run.Post Inv-loop μ-loop
-  returns c = part-ends (first (c .before .before)) (c .if2 .taken)
+  returns c = (part-ends (first (c .before .before)) (c .if2 .taken), c .before .before .run .ensures .1)
 
   child-b-requires : run-lts.Need-child-b-requires (run-claims t) (run-at t) run.Post Inv-loop μ-loop
   child-b-requires c κs =
       let after-run = c .before .before .before in
       ready-within _ _ _ _
-      (after-run .before .before .before .before .before .before .before .before .before .loop .inv .1)
+      (after-run .before .before .before .before .before .before .before .before .before .before .loop .inv .1)
 
   loop-less : run-lts.Need-loop-less (run-claims t) (run-at t) run.Post Inv-loop μ-loop
   loop-less c =
-      let after-if1 = c .before .before .before .before .before .before .before .before .before .before in
+      let after-if1 = c .before .before .before .before .before .before .before .before .before .before .before in
       let after-kind = after-if1 .before in
       let q = sym (after-kind .kind .ensures) ∙ after-if1 .if1 .taken in
       omega (arith, c .child-b .ensures, sequence-parts (after-kind .before .before .loop .inv .1) q .1 .1)
@@ -92,7 +94,7 @@ module _ (t : ℕ) where
   loop-again : run-lts.Need-loop-again (run-claims t) (run-at t) run.Post Inv-loop μ-loop
   loop-again c =
       let after-run = c .before .before .before .before in
-      let after-if1 = after-run .before .before .before .before .before .before in
+      let after-if1 = after-run .before .before .before .before .before .before .before in
       let after-kind = after-if1 .before in
       let after-loop = after-kind .before .before in
       let h = after-loop .loop .inv .1 in
@@ -101,21 +103,28 @@ module _ (t : ℕ) where
         part-finishes (first after-run) (c .before .before .if2 .left) (ready-first _ _ _ _ h q),
         ready-later _ _ _ (after-loop .loop .left) _ _ _ h q (first after-run .ran),
         omega (arith, sequence-parts h q .1 .1, after-loop .loop .inv .2),
+        after-run .run .ensures .1,
       )
 
   run-single-requires : run-lts.Need-run-single-requires (run-claims t) (run-at t) run.Post Inv-loop μ-loop
   run-single-requires c κs =
-      let after-if1 = c .before .before .before in
+      let after-if1 = c .before .before .before .before in
       let after-kind = after-if1 .before in
       let after-loop = after-kind .before .before in (
         omega (arith, after-loop .loop .inv .2, after-loop .before .pre .0),
-        (after-loop .loop .inv .1, λ e. after-if1 .if1 .left (after-kind .kind .ensures ∙ e)),
+        (
+          after-loop .loop .inv .1,
+          λ e. after-if1 .if1 .left (after-kind .kind .ensures ∙ e),
+          after-loop .loop .inv .3,
+        ),
       )
 
   returns-2 : run-lts.Need-returns-2 (run-claims t) (run-at t) run.Post Inv-loop μ-loop
   returns-2 c =
-      let remaining = c .before .before .before .before .before .before .before .loop .inv .0 in
-      ran-is (remaining .rest) (ran-from (remaining .bytes) (c .run-single .ensures))
+      let remaining = c .before .before .before .before .before .before .before .before .loop .inv .0 in (
+        ran-is (remaining .rest) (ran-from (remaining .bytes) (c .run-single .ensures .0)),
+        c .run-single .ensures .1,
+      )
 
   pub closed : {M : Type 1} → run-lts.Closed (run-claims t) (run-at t) run.Post M
   closed =

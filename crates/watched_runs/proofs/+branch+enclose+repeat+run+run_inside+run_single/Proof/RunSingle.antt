@@ -15,28 +15,34 @@ module _ (t : ℕ) where
 
   branch-requires : run-single-lts.Need-branch-requires (run-single-claims t) (run-single-at t) run-single.Post
   branch-requires c κs =
-      let after-match = c .before .before .before in
+      let after-match = c .before .before .before .before in
       let after-kind = after-match .before in
-      let s = after-kind .before .before in
-      (omega (arith, s .pre .0), (s .pre .1 .0, rw (after-kind .kind .ensures) at (after-match .match .keys1)))
+      let s = after-kind .before .before in (
+        omega (arith, s .pre .0),
+        (s .pre .1 .0, rw (after-kind .kind .ensures) at (after-match .match .keys1), s .pre .1 .2),
+      )
 
   repeat-requires : run-single-lts.Need-repeat-requires (run-single-claims t) (run-single-at t) run-single.Post
   repeat-requires c κs =
-      let after-match = c .before .before .before in
+      let after-match = c .before .before .before .before in
       let after-kind = after-match .before in
-      let s = after-kind .before .before in
-      (omega (arith, s .pre .0), (s .pre .1 .0, sym (after-kind .kind .ensures) ∙ after-match .match .keys2))
+      let s = after-kind .before .before in (
+        omega (arith, s .pre .0),
+        (s .pre .1 .0, sym (after-kind .kind .ensures) ∙ after-match .match .keys2, s .pre .1 .2),
+      )
 
   enclose-requires : run-single-lts.Need-enclose-requires (run-single-claims t) (run-single-at t) run-single.Post
   enclose-requires c κs =
-      let after-match = c .before .before .before in
+      let after-match = c .before .before .before .before in
       let after-kind = after-match .before in
-      let s = after-kind .before .before in
-      (omega (arith, s .pre .0), (s .pre .1 .0, sym (after-kind .kind .ensures) ∙ after-match .match .keys3))
+      let s = after-kind .before .before in (
+        omega (arith, s .pre .0),
+        (s .pre .1 .0, sym (after-kind .kind .ensures) ∙ after-match .match .keys3, s .pre .1 .2),
+      )
 
   step-requires : run-single-lts.Need-step-requires (run-single-claims t) (run-single-at t) run-single.Post
   step-requires c κs =
-      let after-match = c .before .before .before in
+      let after-match = c .before .before .before .before in
       let after-kind = after-match .before in
       let s = after-kind .before .before in
       let k = after-kind .kind .ensures in
@@ -49,6 +55,7 @@ module _ (t : ℕ) where
           λ e. r .1 (k ∙ e),
           λ e. r .0 .0 .1 (inr (k ∙ e)),
         ),
+        s .pre .1 .2,
       )
 
   returns : run-single-lts.Need-returns (run-single-claims t) (run-single-at t) run-single.Post

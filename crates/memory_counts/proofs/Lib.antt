@@ -1,0 +1,2 @@
+-- What changes of the memory are to its counts.
+pub mod CountLaws

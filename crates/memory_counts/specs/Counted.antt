@@ -1,0 +1,36 @@
+-- A run's counts, and what they owe to its memory.
+use Prim.Native.Nat.{ℕ, _+_, _-_}
+use mathlib.Core.List.{List, [], _∷_}
+use mathlib.Core.Path.{_≡_}
+use lib.ListN.{getD}
+use Rattle.rules.specs.Sizes.{cellCount}
+use Rattle.rules.specs.Memory.{Memory, nextName, countFree}
+use Rattle.rules.proofs.memory.Invariant.{Invariant}
+use Rattle.rules_counting.specs.Counting.{nameFrom}
+
+-- the two numbers
+abbrev pub freeIn : List ℕ → ℕ
+freeIn c = getD c 0 0
+
+abbrev pub nextIn : List ℕ → ℕ
+nextIn c = getD c 1 0
+
+abbrev pub counts : ℕ → ℕ → List ℕ
+counts free next = free ∷ next ∷ []
+
+-- at the start on n inputs, after a new block of n cells, and after the end of one
+abbrev pub startCounts : ℕ → List ℕ
+startCounts n = counts (cellCount - 1 - n) 3
+
+abbrev pub afterNew : List ℕ → ℕ → List ℕ
+afterNew c n = counts (freeIn c - n) (nextIn c + 1)
+
+abbrev pub afterEnd : List ℕ → ℕ → List ℕ
+afterEnd c n = counts (freeIn c + n) (nextIn c)
+
+-- 02 §3: "after each step it is the number of cells of kind 0 in the execution memory"; and the next name is the one
+-- that a new block gets
+pub record Counted (m : Memory) (c : List ℕ) : Type 0 where
+  pub invariant : Invariant m
+  pub free : freeIn c ≡ countFree (m .cells)
+  pub next : nextName m ≡ nameFrom (nextIn c)

@@ -1,0 +1,2 @@
+-- What a run's counts are held to.
+pub mod Counted

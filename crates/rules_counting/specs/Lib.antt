@@ -1,0 +1,2 @@
+-- 02 §3: free cells counted as they go.
+pub mod Counting
