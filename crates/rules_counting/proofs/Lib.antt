@@ -2,3 +2,5 @@
 pub mod Adjusting
 pub mod NextNames
 pub mod Starting
+pub mod Histories
+pub mod EveryStep
