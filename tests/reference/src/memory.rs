@@ -32,6 +32,8 @@ pub struct Cell {
 pub struct Memory {
     blocks: Vec<Block>,
     cells: Vec<Option<Cell>>,
+    /// Adjusted where a block is made or ended, so that no ending has to count.
+    free_cells: u32,
     /// Kept for the one who asks why a run ended; the memory is the same without it.
     astray: std::cell::Cell<Option<Pointer>>,
 }
@@ -41,6 +43,7 @@ impl Memory {
         Memory {
             blocks: Vec::new(),
             cells: vec![None; CELLS],
+            free_cells: CELLS as u32,
             astray: std::cell::Cell::new(None),
         }
     }
@@ -70,7 +73,13 @@ impl Memory {
         self.astray.get()
     }
 
+    /// The running value: "after each step it is the number of cells of kind 0".
     pub fn free_cells(&self) -> u32 {
+        self.free_cells
+    }
+
+    /// The same by looking at every cell, for who holds the running value against it.
+    pub fn count_free_cells(&self) -> u32 {
         self.cells.iter().filter(|cell| cell.is_none()).count() as u32
     }
 
@@ -95,6 +104,7 @@ impl Memory {
             owner,
             value: Value::Undefined,
         }));
+        self.free_cells -= length as u32;
         Ok(Pointer {
             name: owner,
             offset: 0,
@@ -108,6 +118,7 @@ impl Memory {
         };
         let block = self.blocks[index];
         self.cells[block.first..block.first + block.length].fill(None);
+        self.free_cells += block.length as u32;
         self.blocks[index] = Block {
             state: State::Dead,
             first: 0,
