@@ -20,9 +20,25 @@ pub enum Labels {
     Literal,
 }
 
+/// What a run has just done. A stop ends the statement it is found in, then every one around that.
+#[derive(Debug, Clone, Copy, PartialEq, Eq)]
+pub enum Step {
+    LetEntered,
+    /// A while test that held; the body comes next.
+    Turn,
+    Ended {
+        kind: u8,
+        stop: Option<u32>,
+    },
+}
+
+/// Told of each step, with the memory as it is then.
+pub type Onlooker<'run> = &'run mut (dyn FnMut(Step, &Memory) + Send);
+
 pub struct Machine<'table> {
     records: &'table [Record],
     labels: Labels,
+    pub onlooker: Option<Onlooker<'table>>,
     pub memory: Memory,
     pub variables: [u32; VARIABLES],
     pub temporaries: [Option<Value>; TEMPORARIES],
@@ -38,10 +54,17 @@ impl<'table> Machine<'table> {
         Machine {
             records,
             labels,
+            onlooker: None,
             memory,
             variables,
             temporaries,
             fuel,
+        }
+    }
+
+    pub fn tell(&mut self, step: Step) {
+        if let Some(onlooker) = &mut self.onlooker {
+            onlooker(step, &self.memory);
         }
     }
 

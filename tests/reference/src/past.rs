@@ -78,7 +78,7 @@ impl Own for GoingOn {
 pub fn past(table: &[u8], inputs: &[u8], fuel: u32) -> Result<Past, Answer> {
     let (records, inputs) = admit(table, inputs, Language::Source)?;
     let mut own = GoingOn::default();
-    let (ending, memory) = run_accepted(&records, &inputs, fuel, &mut own);
+    let (ending, memory) = run_accepted(&records, &inputs, fuel, &mut own, None);
     Ok(Past {
         reached: own.reached,
         ending,

@@ -4,7 +4,7 @@ use crate::answer::{self, Answer};
 use crate::checker::check;
 use crate::grammar::Language;
 use crate::limits::EXECUTION_BYTES;
-use crate::machine::{inputs_from, Labels, Machine, Stop};
+use crate::machine::{inputs_from, Labels, Machine, Onlooker, Stop};
 use crate::memory::Memory;
 use crate::predicates::holds;
 use crate::record::Record;
@@ -34,7 +34,7 @@ pub fn run_plain(table: &[u8], inputs: &[u8], fuel: u32, memory: &mut [u8]) -> A
     if memory.len() != EXECUTION_BYTES {
         return Answer::of(answer::EXECUTION_LENGTH, 0);
     }
-    let (answer, after) = run_accepted(&records, &inputs, fuel, &mut Asserting);
+    let (answer, after) = run_accepted(&records, &inputs, fuel, &mut Asserting, None);
     memory.copy_from_slice(&after.image());
     answer
 }
@@ -42,8 +42,20 @@ pub fn run_plain(table: &[u8], inputs: &[u8], fuel: u32, memory: &mut [u8]) -> A
 /// The pointer with which a plain run that ended 42 or 50 tried its last read or store.
 pub fn used_pointer(table: &[u8], inputs: &[u8], fuel: u32) -> Option<Pointer> {
     let (records, inputs) = admit(table, inputs, Language::Source).ok()?;
-    let (_, after) = run_accepted(&records, &inputs, fuel, &mut Asserting);
+    let (_, after) = run_accepted(&records, &inputs, fuel, &mut Asserting, None);
     after.astray()
+}
+
+/// A plain run with an onlooker: its answer and memory, or its refusal by 1–9.
+pub fn run_looked_on(
+    table: &[u8],
+    inputs: &[u8],
+    fuel: u32,
+    onlooker: Onlooker,
+) -> Result<(Answer, Memory), Answer> {
+    let (records, inputs) = admit(table, inputs, Language::Source)?;
+    let own = &mut Asserting;
+    Ok(run_accepted(&records, &inputs, fuel, own, Some(onlooker)))
 }
 
 /// The records and inputs of a run, or its refusal by 1–9.
@@ -58,15 +70,17 @@ pub fn admit(
 }
 
 /// Runs an accepted source table from its cleared start to its ending.
-pub fn run_accepted<O: Own + Send>(
-    records: &[Record],
+pub fn run_accepted<'run, O: Own + Send>(
+    records: &'run [Record],
     inputs: &[i64],
     fuel: u32,
     own: &mut O,
+    onlooker: Option<Onlooker<'run>>,
 ) -> (Answer, Memory) {
     // Inputs that passed 9 always fit the cleared memory.
     let memory = Memory::with_inputs(inputs).unwrap_or(Memory::cleared());
     let mut machine = Machine::new(records, Labels::RecordNumber, memory, fuel);
+    machine.onlooker = onlooker;
     with_room(records, move || {
         let last = machine.last();
         let end = run(&mut machine, own, last);

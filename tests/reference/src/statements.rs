@@ -1,7 +1,7 @@
 //! Statements 40 to 47, which both runs share; the rest is each language's own.
 
 use crate::answer::NO_FUEL;
-use crate::machine::{Machine, Stop};
+use crate::machine::{Machine, Step, Stop};
 use crate::memory::State;
 use crate::record::Record;
 use crate::value::Value;
@@ -13,6 +13,15 @@ pub trait Own {
 
 /// Runs statement `number`; a stop names the innermost statement being run.
 pub fn run<O: Own>(machine: &mut Machine, own: &mut O, number: u16) -> Result<(), Stop> {
+    let end = run_untold(machine, own, number);
+    machine.tell(Step::Ended {
+        kind: machine.record(number).kind,
+        stop: end.err().map(|stop| stop.number),
+    });
+    end
+}
+
+fn run_untold<O: Own>(machine: &mut Machine, own: &mut O, number: u16) -> Result<(), Stop> {
     let record = machine.record(number);
     match record.kind {
         40 => Ok(()),
@@ -48,6 +57,7 @@ fn run_while<O: Own>(machine: &mut Machine, own: &mut O, number: u16) -> Result<
         if !condition(machine, number)? {
             return Ok(());
         }
+        machine.tell(Step::Turn);
         run(machine, own, body)?;
     }
 }
@@ -57,6 +67,7 @@ fn run_let<O: Own>(machine: &mut Machine, own: &mut O, number: u16) -> Result<()
     let record = machine.record(number);
     let made = machine.memory.new_block(State::Fixed, 1);
     let block = made.map_err(|fault| machine.stop(fault, number))?;
+    machine.tell(Step::LetEntered);
     machine.variables[usize::from(record.mark)] = block.name;
     run(machine, own, record.a)?;
     machine.memory.end_block(block.name);

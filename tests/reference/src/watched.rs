@@ -3,7 +3,7 @@
 use crate::answer::{self, Answer};
 use crate::grammar::Language;
 use crate::limits::{EXECUTION_BYTES, OBSERVATION_BYTES};
-use crate::machine::{Labels, Machine, Stop};
+use crate::machine::{Labels, Machine, Onlooker, Stop};
 use crate::memory::Memory;
 use crate::observation::Observation;
 use crate::plain::admit;
@@ -115,7 +115,7 @@ pub fn run_watched(
     if observation.len() != OBSERVATION_BYTES {
         return Answer::of(answer::OBSERVATION_LENGTH, 0);
     }
-    let (answer, after, observed) = watch_accepted(&records, &inputs, fuel);
+    let (answer, after, observed) = watch_accepted(&records, &inputs, fuel, None);
     memory.copy_from_slice(&after.image());
     observation.copy_from_slice(&observed.image());
     answer
@@ -124,20 +124,34 @@ pub fn run_watched(
 /// The pointer with which a watched run that ended 42 or 50 tried its last read or store.
 pub fn used_pointer(table: &[u8], inputs: &[u8], fuel: u32) -> Option<Pointer> {
     let (records, inputs) = admit(table, inputs, Language::Target).ok()?;
-    let (_, after, _) = watch_accepted(&records, &inputs, fuel);
+    let (_, after, _) = watch_accepted(&records, &inputs, fuel, None);
     after.astray()
 }
 
+/// A watched run with an onlooker: its answer and execution memory, or its refusal by 1–9.
+pub fn run_looked_on(
+    table: &[u8],
+    inputs: &[u8],
+    fuel: u32,
+    onlooker: Onlooker,
+) -> Result<(Answer, Memory), Answer> {
+    let (records, inputs) = admit(table, inputs, Language::Target)?;
+    let (answer, memory, _) = watch_accepted(&records, &inputs, fuel, Some(onlooker));
+    Ok((answer, memory))
+}
+
 /// Runs an accepted target table from its cleared start to its ending.
-pub fn watch_accepted(
-    records: &[Record],
+pub fn watch_accepted<'run>(
+    records: &'run [Record],
     inputs: &[i64],
     fuel: u32,
+    onlooker: Option<Onlooker<'run>>,
 ) -> (Answer, Memory, Observation) {
     // Inputs that passed 9 always fit the cleared memories.
     let memory = Memory::with_inputs(inputs).unwrap_or(Memory::cleared());
     let observation = observe_inputs(inputs.len()).unwrap_or(Observation::cleared());
     let mut machine = Machine::new(records, Labels::Literal, memory, fuel);
+    machine.onlooker = onlooker;
     let mut watching = Watching { observation };
     with_room(records, move || {
         let last = machine.last();
