@@ -59,6 +59,12 @@ pub fn is_mirrored(answer: Answer, memory: &[u8], observation: &[u8]) -> bool {
     answer.led_nowhere() || observation == mirror(memory)
 }
 
+/// The cells of kind 0 among the bytes of an execution memory.
+pub fn free_cells(memory: &[u8]) -> u32 {
+    let cells = memory[NAMES * BLOCK_BYTES..].chunks(CELL_BYTES);
+    cells.filter(|cell| cell[0] == 0).count() as u32
+}
+
 /// The observation memory that mirrors an execution memory, byte by byte: "For its block states
 /// 0, 1, 2, 3 the observation states are 0, 1, 1, 2, with equal first and length".
 pub fn mirror(memory: &[u8]) -> Vec<u8> {

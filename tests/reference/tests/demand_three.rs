@@ -4,7 +4,7 @@
 use reference::answer::PLAIN_ENDINGS;
 use reference::checker::{check_source, check_target};
 use reference::generator::Generator;
-use reference::host::{inputs, is_mirrored, plain, translated, watched};
+use reference::host::{free_cells, inputs, is_mirrored, plain, translated, watched};
 use reference::past::{past, Past, Truth};
 use reference::translator::translation;
 use reference::Answer;
@@ -78,12 +78,11 @@ fn most_records_from_one(source: &[u8]) -> usize {
 }
 
 /// "Free cells plus lengths of live blocks make 1,024"; free cells are those of kind 0.
-fn free_cells_add_up(memory: &[u8], free_cells: u32) {
-    let (blocks, cells) = memory.split_at(2040);
+fn free_cells_add_up(memory: &[u8], reported: u32) {
     let length = |block: &[u8]| u32::from(u16::from_le_bytes([block[4], block[5]]));
-    let live: u32 = blocks.chunks(8).map(length).sum();
-    let free = cells.chunks(16).filter(|cell| cell[0] == 0).count() as u32;
-    assert_eq!((free, free + live), (free_cells, 1024));
+    let live: u32 = memory[..2040].chunks(8).map(length).sum();
+    let free = free_cells(memory);
+    assert_eq!((free, free + live), (reported, 1024));
 }
 
 /// One program through everything demand 3 says of it.
