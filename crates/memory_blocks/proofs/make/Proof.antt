@@ -20,9 +20,8 @@ use Rattle.memory_blocks.proofs.place.Reads as place-reads
 use Rattle.memory_counts.proofs.next_name.Reads as next-name-reads
 use Rattle.memory_counts.proofs.take.Reads as take-reads
 
--- where a name and cells were found, and where the block has them
-abbrev Fitting : Type 0
-Fitting = lts.After-place-arg (
+abbrev claims : lts.Claims
+claims = (
   next-name-reads.Asked,
   next-name-reads.Learnt,
   free-run-reads.Asked,
@@ -31,19 +30,14 @@ Fitting = lts.After-place-arg (
   place-reads.Learnt,
   take-reads.Asked,
   take-reads.Learnt,
-) reads.Pre reads.Post
+)
 
+-- where a name was found, and where cells for the block were
 abbrev Named : Type 0
-Named = lts.After-k (
-  next-name-reads.Asked,
-  next-name-reads.Learnt,
-  free-run-reads.Asked,
-  free-run-reads.Learnt,
-  place-reads.Asked,
-  place-reads.Learnt,
-  take-reads.Asked,
-  take-reads.Learnt,
-) reads.Pre reads.Post
+Named = lts.After-k claims reads.Pre reads.Post
+
+abbrev Fitting : Type 0
+Fitting = lts.After-place-arg claims reads.Pre reads.Post
 
 name : (c : Named) → let s = c .before .before .before .before in
     nextName (memoryOf (now (s .args .mem))) ≡ Search.At (c .k .given .0 .0)

@@ -1,4 +1,5 @@
 -- `memory_freeing::release` meets its contract. Assumes nothing.
+use native.Mathlib.Omega.{arith}
 use Rattle.rules.specs.Memory.{Memory}
 use Rattle.rules.specs.declared.{Block.Block}
 use Rattle.memory_counts.proofs.CountLaws.{counted-is, end-counted, counted-end}
@@ -21,7 +22,7 @@ put-block-requires c κs = search needs
 give-back-requires : tie.Need-give-back-requires
 give-back-requires c κs =
     let s = c .before .before .before .before .before in
-    end-counted (s .pre .0) (s .args .name) (s .args .first) (s .args .n) (s .pre .1)
+    omega (arith, end-counted (s .pre .0) (s .args .name) (s .args .first) (s .args .n) (s .pre .1))
 
 returns : tie.Need-returns
 returns c =

@@ -1,11 +1,18 @@
 use mathlib.Core.Path.{sym, _∙_}
-use Rattle.rules.specs.Memory.{freeable, makeBlock}
+use denote.Ref.{now}
+use Rattle.rules.specs.Memory.{freeable, makeBlock, storeNew}
 use Rattle.rules.specs.Layout.{memoryOf}
+use Rattle.memory_counts.specs.Counted.{Counted}
+use Rattle.run_changes.specs.Changing.{Does}
 use Rattle.run_changes.proofs.ChangeLaws.{name-fits, does-new, does-unmade}
 use Rattle.run_changes.proofs.CountedChanges.{counted-stored}
 use borrow.Author.Needs.{needs}
 use Rattle.run_allocation.proofs.store_new.Statement.{statement}
 use Rattle.run_allocation.proofs.store_new.Tie as tie
+use Rattle.run_allocation.proofs.store_new.Reads as reads
+use Rattle.run_allocation.proofs.store_new.Lts as lts
+use Rattle.memory_blocks.proofs.make.Reads as make-reads
+use Rattle.memory.proofs.store.Reads as store-reads
 
 make-requires : tie.Need-make-requires
 make-requires c κs = c .before .before .pre
@@ -22,15 +29,27 @@ store-requires c κs =
 enum-known-c : tie.Need-enum-known-c
 enum-known-c c = search needs
 
-returns : tie.Need-returns
-returns c =
-    let s = c .before .before .before .before .before .before .before .before .args in
-    let w = c .before .before .before .before .before .make .ensures in (
+-- the block is made; its pointer is stored, or the store has stopped
+abbrev Stored : Type 0
+Stored =
+    lts.After-store (make-reads.Asked, make-reads.Learnt, store-reads.Asked, store-reads.Learnt) reads.Pre reads.Post
+
+stored : (c : Stored) → let s = c .before .before .before .before .before .before .before .before .args in
+    let m = memoryOf (now (s .mem)) in
+    Does (storeNew m (s .p) (makeBlock m freeable (s .n))) (c .store .result) (now (s .mem)) (c .store .last .0)
+    × Counted (memoryOf (c .store .last .0)) (c .before .before .before .before .before .make .last .1 .0)
+stored c =
+    let after-make = c .before .before .before .before .before in
+    let s = after-make .before .before .before .args in
+    let w = after-make .make .ensures in (
       does-new (s .p) (makeBlock (memoryOf (s .mem .now)) freeable (s .n)) (s .mem .now) _ (w .1 .0) _ _ _
           (sym (c .before .before .before .k .given .1) ∙ w .0)
           (record { number = c .store .ensures .0; memory = c .store .ensures .1 }),
       counted-stored (w .1 .1) (s .p) _ (c .store .ensures .1),
     )
+
+returns : tie.Need-returns
+returns c = stored c
 
 returns-2 : tie.Need-returns-2
 returns-2 c =
