@@ -26,7 +26,7 @@ exists() {
     */*.*) [ -e "crates/$name" ] ;;
     */*) [ -f "crates/${name%%/*}/must-fail/${name#*/}.edit" ] ;;
     [A-Z]*.*)
-        grep -qE "^ *((pub|abbrev|unfoldable|record|data) )*${name#*.} *[:(]" \
+        grep -qE "^ *((pub|abbrev|unfoldable|record|data) )*${name#*.} *[:({]" \
             crates/rules*/specs/"${name%%.*}.antt" crates/rules*/proofs{,/*}/"${name%%.*}.antt"
         ;;
     [A-Z]*)
