@@ -12,10 +12,10 @@ use Rattle.rules.specs.declared.{Pointer.Pointer, Value.Value, Search.Search, B
 use Rattle.rules.specs.declared.{Recorded.Recorded}
 use Rattle.rules.proofs.runs.Keeping.{AnyNumber, MadeKeeps, at-cell}
 use Rattle.rules.proofs.memory.MemoryLaws.{map-setNamed, named-map, named-in}
-use Rattle.rules.proofs.memory.Invariant.{recordsOf, Invariant, changedMemory}
+use Rattle.rules.proofs.memory.Invariant.{Invariant, changedMemory}
 use Rattle.rules.proofs.memory.Totals.{lengthOf, liveLength, total}
 use Rattle.rules.proofs.memory.Room.{HasRoom, room}
-use Rattle.rules.proofs.memory.BlockChanges.{onward-make, onward-cell, recorded-for, end-invariant, dead-is-not-live}
+use Rattle.rules.proofs.memory.BlockChanges.{onward-make, recorded-for, end-invariant, dead-is-not-live}
 
 -- the lengths of live blocks, after the block of one name was set
 live-setNamed : (l : List Recorded) (k : ℕ) (x : Recorded) → 1 ≤ k → k ≤ length l

@@ -10,7 +10,7 @@ use Rattle.rules.specs.Checker.{inputsFault}
 use Rattle.rules.specs.Trees.{Statement}
 use Rattle.rules.specs.TargetTrees.{TargetStatement}
 use Rattle.rules.specs.Nodes.{sourceProgram, targetProgram}
-use Rattle.rules.specs.Memory.{Memory, storeCell, fixed, makeBlock, endBlock, countFree, startMemory}
+use Rattle.rules.specs.Memory.{Memory, storeCell, fixed, countFree, startMemory}
 use Rattle.rules.specs.Evaluation.{Variables}
 use Rattle.rules.specs.Flow.{Outcome, ending}
 use Rattle.rules.specs.Plain.{plainMeaning, run, startVariables}

@@ -19,7 +19,7 @@ use Rattle.rules.proofs.runs.Outcomes.{AnyBlock, staying, outcomes-state, chang
 use Rattle.rules.proofs.runs.SourceRuns.{MeaningKeeps, run-reaches}
 use Rattle.rules.proofs.runs.TargetRuns.{WatchKeeps, watch-reaches, taken-keeps, operating, querying, negating}
 use Rattle.rules.proofs.runs.TargetRuns.{storing, deleting, initialising}
-use Rattle.rules_counting.specs.Counting.{History, begun, stored, blockMade, blockEnded}
+use Rattle.rules_counting.specs.Counting.{History, stored, blockMade, blockEnded}
 
 module _ (m₀ : Memory) where
   abbrev Keeps : Change Memory → Type 0

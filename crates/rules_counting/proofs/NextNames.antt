@@ -2,7 +2,6 @@
 use Prim.Native.Nat.{ℕ, suc, _≤_, _<_}
 use native.Mathlib.Omega.{arith}
 use native.Mathlib.Nat.{eq-or-lt-of-le}
-use native.Mathlib.Decide.{ℕ-discrete}
 use mathlib.Core.Path.{_≡_, refl, sym, ap, _∙_}
 use mathlib.Core.Logic.{⊎-elim}
 use mathlib.Core.Bool.{Bool, true, false, cond, true≢false}
@@ -19,7 +18,7 @@ use Rattle.rules.proofs.runs.Keeping.{AnyNumber, MadeKeeps}
 use Rattle.rules.proofs.memory.MemoryLaws.{named-setNamed-other}
 use Rattle.rules.proofs.memory.Invariant.{Invariant, becomes-given}
 use Rattle.rules.proofs.memory.Room.{Room, HasRoom, room}
-use Rattle.rules.proofs.memory.BlockChanges.{onward-make, make-given, end-given, dead-is-not-live}
+use Rattle.rules.proofs.memory.BlockChanges.{onward-make, make-given, end-given}
 use Rattle.rules_counting.specs.Counting.{nameFrom}
 
 pub name-past : (k : ℕ) → nameCount < k → Search.Nothing ≡ nameFrom k

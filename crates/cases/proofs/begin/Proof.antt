@@ -6,11 +6,6 @@ use Rattle.memory_counts.proofs.CountLaws.{counted-start}
 use borrow.Author.Needs.{needs}
 use Rattle.cases.proofs.begin.Statement.{statement}
 use Rattle.cases.proofs.begin.Tie as tie
-use Rattle.cases.proofs.begin.Reads as reads
-use Rattle.cases.proofs.begin.Lts as lts
-use Rattle.memory_blocks.proofs.make.Reads as make-reads
-use Rattle.memory_counts.proofs.start.Reads as start-reads
-use Rattle.memory_start.proofs.start.Reads as start-reads′
 
 -- 7 and 9
 abbrev inputs : List ℕ

@@ -1,5 +1,5 @@
 -- `memory_freeing::end` meets its contract. Assumes nothing.
-use mathlib.Core.Path.{_≡_, refl, sym, ap, _∙_, subst}
+use mathlib.Core.Path.{_≡_, refl, sym, ap, _∙_}
 use Rattle.rules.specs.Layout.{memoryOf}
 use Rattle.rules.specs.Memory.{recordedOf, blockOf}
 use Rattle.rules.specs.declared.{Block.Block}
@@ -7,10 +7,6 @@ use Rattle.memory_cell_changes.proofs.Writing.{unchanged}
 use borrow.Author.Needs.{needs}
 use Rattle.memory_freeing.proofs.end.Statement.{statement}
 use Rattle.memory_freeing.proofs.end.Tie as tie
-use Rattle.memory_freeing.proofs.end.Reads as reads
-use Rattle.memory_freeing.proofs.end.Lts as lts
-use Rattle.memory_cells.proofs.block.Reads as block-reads
-use Rattle.memory_freeing.proofs.release.Reads as release-reads
 
 block-requires : tie.Need-block-requires
 block-requires c κs = search needs

@@ -1,9 +1,9 @@
 -- `memory_freeing::free` meets its contract. Assumes nothing.
-use mathlib.Core.Path.{_≡_, refl, sym, ap, _∙_, subst}
+use mathlib.Core.Path.{_≡_, refl, ap}
 use Rattle.rules.specs.Layout.{memoryOf}
 use mir.Syntax.{w64}
 use mir.Val.{SFits}
-use lib.IntN.{ℤ, pos}
+use lib.IntN.{pos}
 use mir.Val.{ofZ}
 use Rattle.rules.specs.Memory.{freeAt, stopped}
 use Rattle.number.proofs.Integers.{of-bits}
@@ -12,9 +12,6 @@ use Rattle.memory_freeing.proofs.Steps.{not-first}
 use borrow.Author.Needs.{needs}
 use Rattle.memory_freeing.proofs.free.Statement.{statement}
 use Rattle.memory_freeing.proofs.free.Tie as tie
-use Rattle.memory_freeing.proofs.free.Reads as reads
-use Rattle.memory_freeing.proofs.free.Lts as lts
-use Rattle.memory_freeing.proofs.free_block.Reads as free-block-reads
 
 free-block-requires : tie.Need-free-block-requires
 free-block-requires c κs = search needs

@@ -8,10 +8,6 @@ use Rattle.memory_cell_changes.proofs.Writing.{becomes-then}
 use borrow.Author.Needs.{needs}
 use Rattle.memory_freeing.proofs.release.Statement.{statement}
 use Rattle.memory_freeing.proofs.release.Tie as tie
-use Rattle.memory_freeing.proofs.release.Reads as reads
-use Rattle.memory_freeing.proofs.release.Lts as lts
-use Rattle.memory_cell_fills.proofs.fill.Reads as fill-reads
-use Rattle.memory_block_changes.proofs.put_block.Reads as put-block-reads
 
 fill-requires : tie.Need-fill-requires
 fill-requires c κs = search needs
