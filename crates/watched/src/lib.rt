@@ -32,8 +32,8 @@ fn run_from_start(
     table: &Table,
     n: usize,
     mem: &mut ExecutionMemory,
-    counts: &mut Counts,
     obs: &mut ObservationMemory,
+    counts: &mut Counts,
     fuel: u32,
 ) -> Ended
     requires { ⌜ Ready (now table) n startVariables (lent (now mem) (now obs) (replicate temporariesLength 0))
@@ -51,8 +51,8 @@ fn run_from_start(
         &variables,
         &mut temporaries,
         mem,
-        counts,
         obs,
+        counts,
         fuel,
     )
 }
@@ -61,8 +61,8 @@ fn run_from_start(
 fn run_table(
     table: &[u8],
     mem: &mut ExecutionMemory,
-    counts: &mut Counts,
     obs: &mut ObservationMemory,
+    counts: &mut Counts,
     fuel: u32,
 ) -> Ended
     requires { ⌜ (check target (now table) ≡ Checked.Accepted) × FitsMemory (memoryOf (now mem))
@@ -75,7 +75,7 @@ fn run_table(
 {
     let mut whole = [0u8; TABLE_LENGTH];
     run_buffers::copy(&mut whole[..], table);
-    run_from_start(&whole, table.len() / 16, mem, counts, obs, fuel)
+    run_from_start(&whole, table.len() / 16, mem, obs, counts, fuel)
 }
 
 // Lays out the inputs in both memories and runs an accepted table.
@@ -93,7 +93,7 @@ fn run_memories(
     memory_start::start(mem, inputs);
     watched_noting::start_observation(obs, inputs.len() / 8);
     let mut counts = memory_counts::start(inputs.len() / 8);
-    let r = run_table(table, mem, &mut counts, obs, fuel);
+    let r = run_table(table, mem, obs, &mut counts, fuel);
     Answer {
         number: r.number,
         record: r.statement,

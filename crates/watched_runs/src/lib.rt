@@ -24,8 +24,8 @@ pub fn run(
     variables: &Variables,
     temporaries: &mut Temporaries,
     mem: &mut ExecutionMemory,
-    counts: &mut Counts,
     obs: &mut ObservationMemory,
+    counts: &mut Counts,
     fuel: u32,
 ) -> Ended
     requires { ⌜ Ready (now table) n (variablesOf (now variables)) (lent (now mem) (now obs) (now temporaries))
@@ -39,14 +39,14 @@ pub fn run(
     let mut left = fuel;
     while table::kind(&table[..], at) == 44 {
         let first = table::child_a(&table[..], at);
-        let r = run(table, first, variables, temporaries, mem, counts, obs, left);
+        let r = run(table, first, variables, temporaries, mem, obs, counts, left);
         if r.number != 0 {
             return r;
         }
         left = r.fuel;
         at = table::child_b(&table[..], at);
     }
-    run_single(table, at, variables, temporaries, mem, counts, obs, left)
+    run_single(table, at, variables, temporaries, mem, obs, counts, left)
 }
 
 // Runs statement n, which is no sequence.
@@ -56,8 +56,8 @@ fn run_single(
     variables: &Variables,
     temporaries: &mut Temporaries,
     mem: &mut ExecutionMemory,
-    counts: &mut Counts,
     obs: &mut ObservationMemory,
+    counts: &mut Counts,
     fuel: u32,
 ) -> Ended
     requires { ⌜ Ready (now table) n (variablesOf (now variables)) (lent (now mem) (now obs) (now temporaries))
@@ -69,10 +69,10 @@ fn run_single(
     ensures counts { λ _. ⌜ Counted (memoryOf (now (mem .exit))) (now (counts .exit)) ⌝ }
 {
     match table::kind(&table[..], n) {
-        45 | 66 => branch(table, n, variables, temporaries, mem, counts, obs, fuel),
-        46 => repeat(table, n, variables, temporaries, mem, counts, obs, fuel),
-        47 => enclose(table, n, variables, temporaries, mem, counts, obs, fuel),
-        _ => watched_statements::step(table, n, variables, temporaries, mem, counts, obs, fuel),
+        45 | 66 => branch(table, n, variables, temporaries, mem, obs, counts, fuel),
+        46 => repeat(table, n, variables, temporaries, mem, obs, counts, fuel),
+        47 => enclose(table, n, variables, temporaries, mem, obs, counts, fuel),
+        _ => watched_statements::step(table, n, variables, temporaries, mem, obs, counts, fuel),
     }
 }
 
@@ -83,8 +83,8 @@ fn branch(
     variables: &Variables,
     temporaries: &mut Temporaries,
     mem: &mut ExecutionMemory,
-    counts: &mut Counts,
     obs: &mut ObservationMemory,
+    counts: &mut Counts,
     fuel: u32,
 ) -> Ended
     requires { ⌜ Ready (now table) n (variablesOf (now variables)) (lent (now mem) (now obs) (now temporaries))
@@ -98,8 +98,8 @@ fn branch(
     let then = table::child_b(&table[..], n);
     let other = table::child_c(&table[..], n);
     match watched_choices::test(table, n, variables, &*temporaries, &*mem) {
-        Test::Yes => run(table, then, variables, temporaries, mem, counts, obs, fuel),
-        Test::No => run(table, other, variables, temporaries, mem, counts, obs, fuel),
+        Test::Yes => run(table, then, variables, temporaries, mem, obs, counts, fuel),
+        Test::No => run(table, other, variables, temporaries, mem, obs, counts, fuel),
         Test::Stopped(k) => Ended {
             number: k,
             statement: watched_choices::statement_of(table, n),
@@ -115,8 +115,8 @@ fn repeat(
     variables: &Variables,
     temporaries: &mut Temporaries,
     mem: &mut ExecutionMemory,
-    counts: &mut Counts,
     obs: &mut ObservationMemory,
+    counts: &mut Counts,
     fuel: u32,
 ) -> Ended
     requires { ⌜ Ready (now table) n (variablesOf (now variables)) (lent (now mem) (now obs) (now temporaries))
@@ -133,7 +133,7 @@ fn repeat(
         left -= 1;
         match run_children::test_a(table, n, variables, &*temporaries, &*mem) {
             Test::Yes => {
-                let r = run(table, b, variables, temporaries, mem, counts, obs, left);
+                let r = run(table, b, variables, temporaries, mem, obs, counts, left);
                 if r.number != 0 {
                     return r;
                 }
@@ -169,8 +169,8 @@ fn enclose(
     variables: &Variables,
     temporaries: &mut Temporaries,
     mem: &mut ExecutionMemory,
-    counts: &mut Counts,
     obs: &mut ObservationMemory,
+    counts: &mut Counts,
     fuel: u32,
 ) -> Ended
     requires { ⌜ Ready (now table) n (variablesOf (now variables)) (lent (now mem) (now obs) (now temporaries))
@@ -182,7 +182,7 @@ fn enclose(
     ensures counts { λ _. ⌜ Counted (memoryOf (now (mem .exit))) (now (counts .exit)) ⌝ }
 {
     match memory_blocks::make(mem, counts, false, 1) {
-        Making::Name(k) => run_inside(table, n, variables, temporaries, mem, counts, obs, fuel, k),
+        Making::Name(k) => run_inside(table, n, variables, temporaries, mem, obs, counts, fuel, k),
         Making::Stopped(c) => Ended {
             number: c,
             statement: watched_choices::statement_of(table, n),
@@ -198,8 +198,8 @@ fn run_inside(
     variables: &Variables,
     temporaries: &mut Temporaries,
     mem: &mut ExecutionMemory,
-    counts: &mut Counts,
     obs: &mut ObservationMemory,
+    counts: &mut Counts,
     fuel: u32,
     k: u16,
 ) -> Ended
@@ -213,7 +213,7 @@ fn run_inside(
 {
     let inner = run_variables::name_variable(*variables, table::mark(&table[..], n) as usize, k);
     let body = table::child_a(&table[..], n);
-    let r = run(table, body, &inner, temporaries, mem, counts, obs, fuel);
+    let r = run(table, body, &inner, temporaries, mem, obs, counts, fuel);
     if r.number == 0 {
         memory_freeing::end(mem, counts, k);
     }

@@ -143,8 +143,8 @@ fn act(
     variables: &Variables,
     temporaries: &mut Temporaries,
     mem: &mut ExecutionMemory,
-    counts: &mut Counts,
     obs: &mut ObservationMemory,
+    counts: &mut Counts,
 ) -> u32
     requires { ⌜ Ready (now table) n (variablesOf (now variables)) (lent (now mem) (now obs) (now temporaries))
         × IsAct (kindOf (now table) n)
@@ -174,8 +174,8 @@ pub fn step(
     variables: &Variables,
     temporaries: &mut Temporaries,
     mem: &mut ExecutionMemory,
-    counts: &mut Counts,
     obs: &mut ObservationMemory,
+    counts: &mut Counts,
     fuel: u32,
 ) -> Ended
     requires { ⌜ Ready (now table) n (variablesOf (now variables)) (lent (now mem) (now obs) (now temporaries))
@@ -186,6 +186,6 @@ pub fn step(
         (lent (now (mem .exit)) (now (obs .exit)) (now (temporaries .exit))) ⌝ }
     ensures counts { λ _. ⌜ Counted (memoryOf (now (mem .exit))) (now (counts .exit)) ⌝ }
 {
-    let number = act(table, n, variables, temporaries, mem, counts, obs);
+    let number = act(table, n, variables, temporaries, mem, obs, counts);
     run_endings::conclude(number, watched_choices::statement_of(table, n), fuel)
 }

@@ -52,7 +52,7 @@ returns c =
     entry-ends (s .args .inputs .now) (s .pre .1) (after-start .start .last .0)
     (after-start-observation .start-observation .last .0) (after-start .start .ensures)
     (after-start-observation .start-observation .ensures) (s .args .table .now) (s .args .fuel)
-    (c .run-table .result) _ _ (freeIn (c .run-table .last .1 .1 .0)) (c .run-table .ensures .0)
+    (c .run-table .result) _ _ (freeIn (c .run-table .last .1 .1 .1 .0)) (c .run-table .ensures .0)
     (c .run-table .ensures .1 .free)
 
 pub run-memories-spec : {M : Type 1} → statement M

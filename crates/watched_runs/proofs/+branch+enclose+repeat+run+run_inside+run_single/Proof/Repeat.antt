@@ -20,12 +20,12 @@ use Rattle.watched_runs.proofs.+branch+enclose+repeat+run+run_inside+ru
 use Rattle.watched_runs.proofs.+branch+enclose+repeat+run+run_inside+run_single.Proof.Cycle.{repeat-claims}
 
 abbrev Inv-loop : repeat-lts.InvT-loop
-Inv-loop table n variables temporaries₀ mem₀ counts₀ obs₀ fuel b left₀ temporaries mem counts obs left =
+Inv-loop table n variables temporaries₀ mem₀ obs₀ counts₀ fuel b left₀ temporaries mem obs counts left =
     Remaining table n (variablesOf variables) (lent mem₀ obs₀ temporaries₀) fuel n (lent mem obs temporaries) left
     × Counted (memoryOf mem) counts
 
 abbrev μ-loop : repeat-lts.MeasureT-loop
-μ-loop table n variables temporaries₀ mem₀ counts₀ obs₀ fuel b left₀ temporaries mem counts obs left = left
+μ-loop table n variables temporaries₀ mem₀ obs₀ counts₀ fuel b left₀ temporaries mem obs counts left = left
 
 module _ (t : ℕ) where
   child-b-requires : repeat-lts.Need-child-b-requires (repeat-claims t) (repeat-at t) repeat.Post Inv-loop μ-loop
@@ -68,7 +68,7 @@ module _ (t : ℕ) where
       Part (s .args .table .now) n (variablesOf (s .args .variables .now))
       (lent (s .args .mem .now) (s .args .obs .now) (s .args .temporaries .now)) (s .args .fuel) n
       (lent (loop .mem) (loop .obs) (loop .temporaries)) (loop .left) (childB (s .args .table .now) n) n
-      (loop .left - 1) (c .run .result) (lent (last .1 .0) (last .1 .1 .1 .0) (last .0))
+      (loop .left - 1) (c .run .result) (lent (last .1 .0) (last .1 .1 .0) (last .0))
   turn c =
       let after-enum-told = c .before .before .before .before .before in
       let after-test-a = after-enum-told .before .before in

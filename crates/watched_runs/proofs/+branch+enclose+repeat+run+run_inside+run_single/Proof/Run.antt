@@ -16,13 +16,13 @@ use Rattle.watched_runs.proofs.+branch+enclose+repeat+run+run_inside+ru
 use Rattle.watched_runs.proofs.+branch+enclose+repeat+run+run_inside+run_single.Proof.Cycle.{run-at, run-claims}
 
 abbrev Inv-loop : run-lts.InvT-loop
-Inv-loop table n variables temporaries₀ mem₀ counts₀ obs₀ fuel at₀ left₀ temporaries mem counts obs at left =
+Inv-loop table n variables temporaries₀ mem₀ obs₀ counts₀ fuel at₀ left₀ temporaries mem obs counts at left =
     let y = lent mem obs temporaries in
     Remaining table n (variablesOf variables) (lent mem₀ obs₀ temporaries₀) fuel at y left
     × Ready table at (variablesOf variables) y × (at ≤ n) × Counted (memoryOf mem) counts
 
 abbrev μ-loop : run-lts.MeasureT-loop
-μ-loop table n variables temporaries₀ mem₀ counts₀ obs₀ fuel at₀ left₀ temporaries mem counts obs at left = at
+μ-loop table n variables temporaries₀ mem₀ obs₀ counts₀ fuel at₀ left₀ temporaries mem obs counts at left = at
 
 module _ (t : ℕ) where
   loop-holds : run-lts.Need-loop-holds (run-claims t) (run-at t) run.Post Inv-loop μ-loop
@@ -59,7 +59,7 @@ module _ (t : ℕ) where
       Part T (s .args .n) (variablesOf (s .args .variables .now))
       (lent (s .args .mem .now) (s .args .obs .now) (s .args .temporaries .now)) (s .args .fuel) (loop .at)
       (lent (loop .mem) (loop .obs) (loop .temporaries)) (loop .left) (childA T (loop .at)) (childB T (loop .at))
-      (loop .left) (c .run .result) (lent (last .1 .0) (last .1 .1 .1 .0) (last .0))
+      (loop .left) (c .run .result) (lent (last .1 .0) (last .1 .1 .0) (last .0))
   first c =
       let after-child-a = c .before .before .before .before .before in
       let after-if1 = after-child-a .before .before in

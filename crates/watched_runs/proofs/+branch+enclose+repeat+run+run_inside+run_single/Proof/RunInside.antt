@@ -46,7 +46,7 @@ module _ (t : ℕ) where
       let last = c .run .last .1 .1 .1 in
       Runs T (childA T n) (extend (variablesOf (s .args .variables .now)) (markOf T n) (s .args .k)) (s .args .fuel)
       (c .run .result) (lent (s .args .mem .now) (s .args .obs .now) (s .args .temporaries .now))
-      (lent (last .1 .0) (last .1 .1 .1 .0) (last .0))
+      (lent (last .1 .0) (last .1 .1 .0) (last .0))
   child c =
       let after-child-a = c .before .before .before .before .before .before in
       let after-name-variable = after-child-a .before .before in
