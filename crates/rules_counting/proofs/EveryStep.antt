@@ -12,7 +12,7 @@ use Rattle.rules.specs.TargetTrees.{TargetStatement}
 use Rattle.rules.specs.Nodes.{sourceProgram, targetProgram}
 use Rattle.rules.specs.Memory.{Memory, storeCell, fixed, countFree, startMemory}
 use Rattle.rules.specs.Evaluation.{Variables}
-use Rattle.rules.specs.Flow.{Outcome, ending}
+use Rattle.rules.specs.Flow.{Outcome, finished, ending}
 use Rattle.rules.specs.Plain.{plainMeaning, run, startVariables}
 use Rattle.rules.specs.Watched.{WatchedState, watch}
 use Rattle.rules.specs.Answers.{inputsOf, watchedStart}
@@ -52,39 +52,43 @@ history-right {m} {m₂} (blockEnded {m₁} k first n h e q) y =
 
 right : {m m₁ : Memory} {c : ℕ} → Invariant m → c ≡ countFree (m .cells) → History m m₁ → RightAt m c m₁
 right {m} {m₁} y e h =
-    record { history = h; value = ap (λ (k : ℕ). running k h) e ∙ history-right h y .1 }
+    record { history = h; value = λ g. ap (λ (k : ℕ). running k g) e ∙ history-right g y .1 }
 
--- where a statement starts
+-- where a statement has finished, and where one starts
 module _ (m₀ : Memory) where
+  plain-finished : (a : Statement) (ρ : Variables) (m : Memory) (f : ℕ) {m₁ : Memory} {f₁ : ℕ} → run a ρ m f ≡ finished m₁ f₁
+      → History m₀ m → History m₀ m₁
+  plain-finished a ρ m f e h =
+      subst (History m₀) (ap (λ (o : Outcome Memory). ending o .state) e) (plain-history m₀ a ρ m f h)
+
   plain-start : {b a : Statement} {σ ρ : Variables} {m₁ m : Memory} {g f : ℕ} → Starts plainMeaning b σ m₁ g a ρ m f
       → History m₀ m → History m₀ m₁
   plain-start steps.itself h = h
   plain-start (steps.first s) h = plain-start s h
-  plain-start (steps.second {a = a} {ρ = ρ} {x = m} {f = f} e s) h =
-      plain-start s (subst (History m₀) (ap (λ (o : Outcome Memory). ending o .state) e) (plain-history m₀ a ρ m f h))
+  plain-start (steps.second {a = a} {ρ = ρ} {x = m} {f = f} e s) h = plain-start s (plain-finished a ρ m f e h)
   plain-start (steps.yes e s) h = plain-start s h
   plain-start (steps.no e s) h = plain-start s h
   plain-start (steps.turn e s) h = plain-start s h
-  plain-start (steps.again {a = a} {ρ = ρ} {x = m} {f = f} d e s) h =
-      plain-start s (subst (History m₀) (ap (λ (o : Outcome Memory). ending o .state) e) (plain-history m₀ a ρ m f h))
+  plain-start (steps.again {a = a} {ρ = ρ} {x = m} {f = f} d e s) h = plain-start s (plain-finished a ρ m f e h)
   plain-start (steps.inside e s) h =
       plain-start s (subst (MadeKeeps (λ k m₁. History m₀ m₁) AnyNumber) e (new-history m₀ h fixed 1))
+
+  watched-finished : (a : TargetStatement) (ρ : Variables) (x : WatchedState) (f : ℕ) {y : WatchedState} {g : ℕ}
+      → watch a ρ x f ≡ finished y g → History m₀ (x .memory) → History m₀ (y .memory)
+  watched-finished a ρ x f e h =
+      subst (History m₀) (ap (λ (o : Outcome WatchedState). ending o .state .memory) e) (watched-history m₀ a ρ x f h)
 
   watched-start : {b a : TargetStatement} {σ ρ : Variables} {y x : WatchedState} {g f : ℕ}
       → TargetStarts b σ y g a ρ x f → History m₀ (x .memory) → History m₀ (y .memory)
   watched-start steps.itself h = h
   watched-start (steps.first s) h = watched-start s h
-  watched-start (steps.second {a = a} {ρ = ρ} {x = x} {f = f} e s) h =
-      watched-start s
-      (subst (History m₀) (ap (λ (o : Outcome WatchedState). ending o .state .memory) e) (watched-history m₀ a ρ x f h))
+  watched-start (steps.second {a = a} {ρ = ρ} {x = x} {f = f} e s) h = watched-start s (watched-finished a ρ x f e h)
   watched-start (steps.yes e s) h = watched-start s h
   watched-start (steps.no e s) h = watched-start s h
   watched-start (steps.yesOn e s) h = watched-start s h
   watched-start (steps.noOn e s) h = watched-start s h
   watched-start (steps.turn e s) h = watched-start s h
-  watched-start (steps.again {a = a} {ρ = ρ} {x = x} {f = f} d e s) h =
-      watched-start s
-      (subst (History m₀) (ap (λ (o : Outcome WatchedState). ending o .state .memory) e) (watched-history m₀ a ρ x f h))
+  watched-start (steps.again {a = a} {ρ = ρ} {x = x} {f = f} d e s) h = watched-start s (watched-finished a ρ x f e h)
   watched-start (steps.inside e s) h =
       watched-start s (subst (MadeKeeps (λ k m₁. History m₀ m₁) AnyNumber) e (new-history m₀ h fixed 1))
 

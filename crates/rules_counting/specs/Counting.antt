@@ -29,11 +29,11 @@ running c (stored p v h e) = running c h
 running c (blockMade u n k h e) = running c h - n
 running c (blockEnded k first n h e q) = running c h + n
 
--- "after each step it is the number of cells of kind 0 in the execution memory": the value, which was c at memory m, is
--- right at memory m₁
+-- "after each step it is the number of cells of kind 0 in the execution memory": memory m, where the value was c, has
+-- become m₁, and whichever way it did so, the value is right there
 pub record RightAt (m : Memory) (c : ℕ) (m₁ : Memory) : Type 0 where
   pub history : History m m₁
-  pub value : running c history ≡ countFree (m₁ .cells)
+  pub value : (h : History m m₁) → running c h ≡ countFree (m₁ .cells)
 
 -- the steps of a run: a run of statement a, with variables ρ, state x and fuel f, starts statement b, with σ, y and g
 pub data Starts {S : Type 0} (M : Meaning S) (b : Statement) (σ : Variables) (y : S) (g : ℕ)
