@@ -36,8 +36,7 @@ module _ {A S : Type 0} (children : A → List (Option A)) (K : A → ℕ → �
   EndsAt a (finished x f) = Unit {0}
   EndsAt a (ended c s ρ w x f) = There (λ b. K b c s ρ x) (statementOn children w a)
 
-  -- J is of the state where a statement starts, with the variables as they are
-  module _ (J : S → Type 0) (a : A) where
+  module _ (a : A) where
     abbrev IsChild : ℕ → A → Type 0
     IsChild n b = getD (children a) n none ≡ some b
 
@@ -47,11 +46,11 @@ module _ {A S : Type 0} (children : A → List (Option A)) (K : A → ℕ → �
     ends-into n b (ended c s ρ w x f) e h =
         subst (λ (q : Option A). There (λ d. K d c s ρ x) (ofChild q (λ d. statementOn children w d))) (sym e) h
 
-    -- child n, and what follows it
-    ends-next : (n : ℕ) (b : A) (o : Outcome S) (k : S → ℕ → Outcome S) → IsChild n b → EndsAt b o
+    -- child n, and what follows it; J is of the state where a statement starts, with the variables as they are
+    ends-next : (J : S → Type 0) (n : ℕ) (b : A) (o : Outcome S) (k : S → ℕ → Outcome S) → IsChild n b → EndsAt b o
         → J (ending o .state) → ((x : S) (f : ℕ) → J x → EndsAt a (k x f)) → EndsAt a (next (into n o) k)
-    ends-next n b (finished x f) k e h j g = g x f j
-    ends-next n b (ended c s ρ w x f) k e h j g = ends-into n b (ended c s ρ w x f) e h
+    ends-next J n b (finished x f) k e h j g = g x f j
+    ends-next J n b (ended c s ρ w x f) k e h j g = ends-into n b (ended c s ρ w x f) e h
 
     ends-after : (s : ℕ) (ρ : Variables) (f : ℕ) (c : Change S) → ChangeStops (λ k x. K a k s ρ x) c
         → EndsAt a (after s ρ f c)
@@ -66,17 +65,17 @@ module _ {A S : Type 0} (children : A → List (Option A)) (K : A → ℕ → �
     ends-decide s ρ Test.No x f o p k h g = g
     ends-decide s ρ (Test.Stopped c) x f o p k h g = k
 
-    ends-turns : (s : ℕ) (ρ : Variables) (holds : S → Test) (n : ℕ) (b : A) (body : S → ℕ → Outcome S) → IsChild n b
-        → ((x : S) → J x → TestStops (λ c. K a c s ρ x) (holds x)) → ((x : S) → J x → K a 32 s ρ x)
+    ends-turns : (J : S → Type 0) (s : ℕ) (ρ : Variables) (holds : S → Test) (n : ℕ) (b : A) (body : S → ℕ → Outcome S)
+        → IsChild n b → ((x : S) → J x → TestStops (λ c. K a c s ρ x) (holds x)) → ((x : S) → J x → K a 32 s ρ x)
         → ((x : S) (f : ℕ) → J x → EndsAt b (body x f) × J (ending (body x f) .state))
         → (g : ℕ) (x : S) (f : ℕ) → J x → EndsAt a (turns g s ρ holds (λ y k. into n (body y k)) x f)
     unfolding turns statementOn
-    ends-turns s ρ holds n b body e t out h zero x f j = out x j
-    ends-turns s ρ holds n b body e t out h (suc g) x zero j = out x j
-    ends-turns s ρ holds n b body e t out h (suc g) x (suc f) j =
+    ends-turns J s ρ holds n b body e t out h zero x f j = out x j
+    ends-turns J s ρ holds n b body e t out h (suc g) x zero j = out x j
+    ends-turns J s ρ holds n b body e t out h (suc g) x (suc f) j =
         ends-decide s ρ (holds x) x f _ (finished x f) (t x j)
-        (ends-next n b (body x f) _ e (h x f j .0) (h x f j .1) (λ y k i.
-        ends-turns s ρ holds n b body e t out h g y k i))
+        (ends-next J n b (body x f) _ e (h x f j .0) (h x f j .1) (λ y k i.
+        ends-turns J s ρ holds n b body e t out h g y k i))
         tt
 
     -- I is of the new block's name and the state with it
@@ -129,7 +128,7 @@ module _ {S : Type 0} {M : Meaning S} {J : Variables → S → Type 0} {K : Stat
     (h : SourceEnds M J K) where
   act : (a : Statement) (s : ℕ) (ρ : Variables) (f : ℕ) (c : Change S) → ChangeStops (λ k x. K a k s ρ x) c
       → EndsAt parts K a (after s ρ f c)
-  act a s ρ f c k = ends-after parts K (J ρ) a s ρ f c k
+  act a s ρ f c k = ends-after parts K a s ρ f c k
 
   pub run-ends-at : (a : Statement) (ρ : Variables) (x : S) (f : ℕ) → J ρ x → EndsAt parts K a (runBy M a ρ x f)
   unfolding runBy
@@ -140,20 +139,20 @@ module _ {S : Type 0} {M : Meaning S} {J : Variables → S → Type 0} {K : Stat
       act (new s p e) s ρ f (M .allocates p e ρ x) (h .allocates s p e ρ x j)
   run-ends-at (free s e) ρ x f j = act (free s e) s ρ f (M .frees e ρ x) (h .frees s e ρ x j)
   run-ends-at (sequence s a b) ρ x f j =
-      ends-next parts K (J ρ) (sequence s a b) 0 a (runBy M a ρ x f) (λ y g. into 1 (runBy M b ρ y g)) refl
+      ends-next parts K (sequence s a b) (J ρ) 0 a (runBy M a ρ x f) (λ y g. into 1 (runBy M b ρ y g)) refl
       (run-ends-at a ρ x f j) (h .keeps a ρ x f j) (λ y g i.
-      ends-into parts K (J ρ) (sequence s a b) 1 b (runBy M b ρ y g) refl (run-ends-at b ρ y g i))
+      ends-into parts K (sequence s a b) 1 b (runBy M b ρ y g) refl (run-ends-at b ρ y g i))
   run-ends-at (branch s e a b) ρ x f j =
-      ends-decide parts K (J ρ) (branch s e a b) s ρ (M .decides e ρ x) x f (into 1 (runBy M a ρ x f))
+      ends-decide parts K (branch s e a b) s ρ (M .decides e ρ x) x f (into 1 (runBy M a ρ x f))
       (into 2 (runBy M b ρ x f)) (h .branches s e a b ρ x j)
-      (ends-into parts K (J ρ) (branch s e a b) 1 a (runBy M a ρ x f) refl (run-ends-at a ρ x f j))
-      (ends-into parts K (J ρ) (branch s e a b) 2 b (runBy M b ρ x f) refl (run-ends-at b ρ x f j))
+      (ends-into parts K (branch s e a b) 1 a (runBy M a ρ x f) refl (run-ends-at a ρ x f j))
+      (ends-into parts K (branch s e a b) 2 b (runBy M b ρ x f) refl (run-ends-at b ρ x f j))
   run-ends-at (while s e b) ρ x f j =
-      ends-turns parts K (J ρ) (while s e b) s ρ (λ y. M .decides e ρ y) 1 b (λ y g. runBy M b ρ y g) refl
+      ends-turns parts K (while s e b) (J ρ) s ρ (λ y. M .decides e ρ y) 1 b (λ y g. runBy M b ρ y g) refl
       (λ y i. h .turns-on s e b ρ y i) (λ y i. h .out-of-fuel s e b ρ y i)
       (λ y g i. (run-ends-at b ρ y g i, h .keeps b ρ y g i)) f x f j
   run-ends-at (letIn s z b) ρ x f j =
-      ends-let parts K (J ρ) (letIn s z b) (λ k y. J (extend ρ z k) y) s ρ x f (M .makes x) (M .ends) 0 b
+      ends-let parts K (letIn s z b) (λ k y. J (extend ρ z k) y) s ρ x f (M .makes x) (M .ends) 0 b
       (λ k y g. runBy M b (extend ρ z k) y g) refl (h .makes s z b ρ x j)
       (λ k y i. run-ends-at b (extend ρ z k) y f i)
   run-ends-at (assert s p) ρ x f j =
@@ -203,7 +202,7 @@ module _ {J : Variables → WatchedState → Type 0} {K : TargetStatement → �
     (h : TargetEnds J K) where
   target-act : (a : TargetStatement) (s : ℕ) (ρ : Variables) (f : ℕ) (c : Change WatchedState)
       → ChangeStops (λ k x. K a k s ρ x) c → EndsAt targetParts K a (after s ρ f c)
-  target-act a s ρ f c k = ends-after targetParts K (J ρ) a s ρ f c k
+  target-act a s ρ f c k = ends-after targetParts K a s ρ f c k
 
   pub watch-ends-at : (a : TargetStatement) (ρ : Variables) (x : WatchedState) (f : ℕ) → J ρ x
       → EndsAt targetParts K a (watch a ρ x f)
@@ -216,20 +215,20 @@ module _ {J : Variables → WatchedState → Type 0} {K : TargetStatement → �
   watch-ends-at (target.free s e) ρ x f j =
       target-act (target.free s e) s ρ f (freeing e ρ x) (h .frees s e ρ x j)
   watch-ends-at (target.sequence s a b) ρ x f j =
-      ends-next targetParts K (J ρ) (target.sequence s a b) 0 a (watch a ρ x f) (λ y g. into 1 (watch b ρ y g)) refl
+      ends-next targetParts K (target.sequence s a b) (J ρ) 0 a (watch a ρ x f) (λ y g. into 1 (watch b ρ y g)) refl
       (watch-ends-at a ρ x f j) (h .keeps a ρ x f j) (λ y g i.
-      ends-into targetParts K (J ρ) (target.sequence s a b) 1 b (watch b ρ y g) refl (watch-ends-at b ρ y g i))
+      ends-into targetParts K (target.sequence s a b) 1 b (watch b ρ y g) refl (watch-ends-at b ρ y g i))
   watch-ends-at (target.branch s e a b) ρ x f j =
-      ends-decide targetParts K (J ρ) (target.branch s e a b) s ρ (condition (valueIn e ρ x)) x f (into 1 (watch a ρ x f))
+      ends-decide targetParts K (target.branch s e a b) s ρ (condition (valueIn e ρ x)) x f (into 1 (watch a ρ x f))
       (into 2 (watch b ρ x f)) (h .branches s e a b ρ x j)
-      (ends-into targetParts K (J ρ) (target.branch s e a b) 1 a (watch a ρ x f) refl (watch-ends-at a ρ x f j))
-      (ends-into targetParts K (J ρ) (target.branch s e a b) 2 b (watch b ρ x f) refl (watch-ends-at b ρ x f j))
+      (ends-into targetParts K (target.branch s e a b) 1 a (watch a ρ x f) refl (watch-ends-at a ρ x f j))
+      (ends-into targetParts K (target.branch s e a b) 2 b (watch b ρ x f) refl (watch-ends-at b ρ x f j))
   watch-ends-at (target.while s e b) ρ x f j =
-      ends-turns targetParts K (J ρ) (target.while s e b) s ρ (λ y. condition (valueIn e ρ y)) 1 b (λ y g. watch b ρ y g)
+      ends-turns targetParts K (target.while s e b) (J ρ) s ρ (λ y. condition (valueIn e ρ y)) 1 b (λ y g. watch b ρ y g)
       refl (λ y i. h .turns-on s e b ρ y i) (λ y i. h .out-of-fuel s e b ρ y i)
       (λ y g i. (watch-ends-at b ρ y g i, h .keeps b ρ y g i)) f x f j
   watch-ends-at (target.letIn s z b) ρ x f j =
-      ends-let targetParts K (J ρ) (target.letIn s z b) (λ k y. J (extend ρ z k) y) s ρ x f (making x) closing 0 b
+      ends-let targetParts K (target.letIn s z b) (λ k y. J (extend ρ z k) y) s ρ x f (making x) closing 0 b
       (λ k y g. watch b (extend ρ z k) y g) refl (h .makes s z b ρ x j)
       (λ k y i. watch-ends-at b (extend ρ z k) y f i)
   watch-ends-at (target.takeAddress s n p) ρ x f j =
@@ -247,10 +246,10 @@ module _ {J : Variables → WatchedState → Type 0} {K : TargetStatement → �
   watch-ends-at (target.takeNot s n) ρ x f j =
       target-act (target.takeNot s n) s ρ f (taken x n (negating n x)) (h .takes-not s n ρ x j)
   watch-ends-at (target.branchOn s n a b) ρ x f j =
-      ends-decide targetParts K (J ρ) (target.branchOn s n a b) s ρ (condition (holding x n)) x f (into 1 (watch a ρ x f))
+      ends-decide targetParts K (target.branchOn s n a b) s ρ (condition (holding x n)) x f (into 1 (watch a ρ x f))
       (into 2 (watch b ρ x f)) (h .branches-on s n a b ρ x j)
-      (ends-into targetParts K (J ρ) (target.branchOn s n a b) 1 a (watch a ρ x f) refl (watch-ends-at a ρ x f j))
-      (ends-into targetParts K (J ρ) (target.branchOn s n a b) 2 b (watch b ρ x f) refl (watch-ends-at b ρ x f j))
+      (ends-into targetParts K (target.branchOn s n a b) 1 a (watch a ρ x f) refl (watch-ends-at a ρ x f j))
+      (ends-into targetParts K (target.branchOn s n a b) 2 b (watch b ρ x f) refl (watch-ends-at b ρ x f j))
   watch-ends-at (target.assertOn s n) ρ x f j =
       target-act (target.assertOn s n) s ρ f (asserted x (condition (holding x n)))
       (h .asserts-on s n ρ x j)
