@@ -74,11 +74,8 @@ module _ (ρ : Variables) (x : WatchedState) (j : WatchStarted ρ x) where
   abbrev Silent : ℕ → Type 0
   Silent c = VariablesNamed ρ (x .memory) × (Pointed ρ x → ToldApart c (x .memory) none)
 
-  quiet : (c : ℕ) → (Pointed ρ x → ToldApart c (x .memory) none) → Silent c
-  quiet c h = (j .1, h)
-
   operations-silent : (c : ℕ) → Among operationEndings c → Silent c
-  operations-silent c h = quiet c (operations (temporaryOf (x .temporaries)) ρ (x .memory) none c h)
+  operations-silent c h = (j .1, operations (temporaryOf (x .temporaries)) ρ (x .memory) none c h)
 
   held-silent : (n : ℕ) → Gives AnyValue Silent (holding x n)
   held-silent n =
@@ -86,7 +83,7 @@ module _ (ρ : Variables) (x : WatchedState) (j : WatchStarted ρ x) where
       (any-held (temporaryOf (x .temporaries)) ρ (x .memory) none (temporaryOf (x .temporaries) n))
 
   contradicted : Silent 48
-  contradicted = quiet 48 (λ n. other (x .memory) none 48 (omega arith) (omega arith))
+  contradicted = (j .1, λ n. other (x .memory) none 48 (omega arith) (omega arith))
 
   pub operating-silent : (q : Operator) (n : ℕ) → Gives AnyValue Silent (operating q n x)
   operating-silent q n =

@@ -2,6 +2,7 @@
 use Prim.Native.Nat.{ℕ, zero, suc}
 use native.Mathlib.Omega.{arith}
 use mathlib.Core.Path.{_≡_, refl}
+use mathlib.Core.Logic.{_≢_}
 use lib.IntN.{ℤ, pos, negsuc}
 use Rattle.rules.specs.Trees.{Expression, Place}
 use Rattle.rules.specs.Memory.{Memory, blockOf, locate, atCell, changed, stopped, setCell, storeCell, nextName}
@@ -56,8 +57,8 @@ module _ {T : Type 0} (τ : Holding T) (ρ : Variables) where
     StoreTells c m = Tells τ ρ m (usedStoring p e τ ρ m) c
 
     -- another number, found before the store
-    earlier : (m : Memory) (c : ℕ) → ToldApart c m (usedStoring p e τ ρ m) → StoreTells c m
-    earlier m c h n = h
+    earlier : (m : Memory) (c : ℕ) → c ≢ 42 → c ≢ 50 → StoreTells c m
+    earlier m c d o n = other m (usedStoring p e τ ρ m) c d o
 
     stored-at : (m : Memory) (q : Pointer) (v w : Value) → findPlace p τ ρ m ≡ Found.Place q
         → evaluate e τ ρ m ≡ Evaluated.Value v → ChangeStops StoreTells (storeCell m q w)
@@ -76,10 +77,8 @@ module _ {T : Type 0} (τ : Holding T) (ρ : Variables) where
     made-told : (m : Memory) (q : Pointer) (v : Value) (n : ℕ) (r s : Search) → Invariant m
         → findPlace p τ ρ m ≡ Found.Place q → evaluate e τ ρ m ≡ Evaluated.Value v → HasRoom m (suc n) r s
         → ChangeStops StoreTells (storeNew m q (makeAt m freeable (suc n) r s))
-    made-told m q v n Search.Nothing s y a b h =
-        earlier m 31 (other m (usedStoring p e τ ρ m) 31 (omega arith) (omega arith))
-    made-told m q v n (Search.At k) Search.Nothing y a b h =
-        earlier m 30 (other m (usedStoring p e τ ρ m) 30 (omega arith) (omega arith))
+    made-told m q v n Search.Nothing s y a b h = earlier m 31 (omega arith) (omega arith)
+    made-told m q v n (Search.At k) Search.Nothing y a b h = earlier m 30 (omega arith) (omega arith)
     made-told m q v n (Search.At k) (Search.At first) y a b h =
         let m₁ = withBlock m freeable k first (suc n) in
         let kept = read-kept m freeable (suc n) k first h y in
@@ -93,21 +92,17 @@ module _ {T : Type 0} (τ : Holding T) (ρ : Variables) where
       where
         sized : (q : Pointer) (v : Value) (z : ℤ) → findPlace p τ ρ m ≡ Found.Place q
             → evaluate e τ ρ m ≡ Evaluated.Value v → ChangeStops StoreTells (newOfSize m q z)
-        sized q v (pos zero) a b =
-            earlier m 45 (other m (usedStoring p e τ ρ m) 45 (omega arith) (omega arith))
+        sized q v (pos zero) a b = earlier m 45 (omega arith) (omega arith)
         sized q v (pos (suc n)) a b = made-told m q v n (nextName m) (freeRun m (suc n)) y a b (room m (suc n))
-        sized q v (negsuc n) a b =
-            earlier m 45 (other m (usedStoring p e τ ρ m) 45 (omega arith) (omega arith))
+        sized q v (negsuc n) a b = earlier m 45 (omega arith) (omega arith)
 
         go : (f : Found) (r : Evaluated) → findPlace p τ ρ m ≡ f → evaluate e τ ρ m ≡ r
             → ChangeStops StoreTells (allocated m f r)
         go (Found.Stopped c) r a b = λ n. rw a (place-stopped m p c a n)
         go (Found.Place q) (Evaluated.Stopped c) a b = λ n. rw (a, b) (value-stopped m e c b n)
-        go (Found.Place q) (Evaluated.Value Value.Undefined) a b =
-            earlier m 40 (other m (usedStoring p e τ ρ m) 40 (omega arith) (omega arith))
+        go (Found.Place q) (Evaluated.Value Value.Undefined) a b = earlier m 40 (omega arith) (omega arith)
         go (Found.Place q) (Evaluated.Value (Value.Integer z)) a b = sized q (Value.Integer z) z a b
-        go (Found.Place q) (Evaluated.Value (Value.Pointer x)) a b =
-            earlier m 40 (other m (usedStoring p e τ ρ m) 40 (omega arith) (omega arith))
+        go (Found.Place q) (Evaluated.Value (Value.Pointer x)) a b = earlier m 40 (omega arith) (omega arith)
 
   -- kind 43
   pub freed-told : (e : Expression T) (m : Memory)
