@@ -3,7 +3,6 @@
 use super::grow::{Grower, Holds};
 use super::{order, Generator};
 use crate::checker::{check_source, check_target};
-use crate::record::table;
 
 /// Percent; about one program in four ends 42 or 50.
 const ASTRAY: u64 = 12;
@@ -44,25 +43,18 @@ impl Grower<'_> {
 impl Generator {
     /// An accepted source table, half of them child-first and half in another valid order.
     pub fn astray_source(&mut self) -> Vec<u8> {
-        loop {
-            let mut grown = self.grown(false, ASTRAY);
-            if self.random.chance(50) {
-                grown = order::shuffled(&grown, &mut self.random);
+        self.until_accepted(check_source, |generator| {
+            let grown = generator.grown(false, ASTRAY);
+            if generator.random.chance(50) {
+                order::shuffled(&grown, &mut generator.random)
+            } else {
+                grown
             }
-            let grown = table(&grown);
-            if check_source(&grown).number == 0 {
-                return grown;
-            }
-        }
+        })
     }
 
     /// An accepted target table that is no translation.
     pub fn astray_target(&mut self) -> Vec<u8> {
-        loop {
-            let grown = table(&self.grown(true, ASTRAY));
-            if check_target(&grown).number == 0 {
-                return grown;
-            }
-        }
+        self.until_accepted(check_target, |generator| generator.grown(true, ASTRAY))
     }
 }

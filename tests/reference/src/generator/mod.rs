@@ -11,6 +11,7 @@ pub mod random;
 mod statements;
 mod targets;
 
+use crate::answer::Answer;
 use crate::checker::{check_source, check_target};
 use crate::grammar::Language;
 use crate::limits::{EXECUTION_BYTES, OBSERVATION_BYTES, SOURCE_RECORDS, TARGET_RECORDS};
@@ -54,17 +55,14 @@ impl Generator {
     }
 
     pub fn child_first_source(&mut self) -> Vec<u8> {
-        loop {
-            let mut grown = self.grown(false, 0);
-            if self.random.chance(4) {
-                let size = SOURCE_RECORDS - self.random.index(3);
+        self.until_accepted(check_source, |generator| {
+            let mut grown = generator.grown(false, 0);
+            if generator.random.chance(4) {
+                let size = SOURCE_RECORDS - generator.random.index(3);
                 pad(&mut grown, size);
             }
-            let grown = table(&grown);
-            if check_source(&grown).number == 0 {
-                return grown;
-            }
-        }
+            grown
+        })
     }
 
     pub fn shuffled_source(&mut self) -> Vec<u8> {
@@ -82,20 +80,17 @@ impl Generator {
     }
 
     pub fn hand_made_target(&mut self) -> Vec<u8> {
-        loop {
-            let mut grown = self.grown(true, 0);
-            if self.random.chance(1) {
-                let size = TARGET_RECORDS - self.random.index(3);
+        self.until_accepted(check_target, |generator| {
+            let mut grown = generator.grown(true, 0);
+            if generator.random.chance(1) {
+                let size = TARGET_RECORDS - generator.random.index(3);
                 pad(&mut grown, size);
             }
-            if self.random.chance(30) {
-                grown = order::shuffled(&grown, &mut self.random);
+            if generator.random.chance(30) {
+                grown = order::shuffled(&grown, &mut generator.random);
             }
-            let grown = table(&grown);
-            if check_target(&grown).number == 0 {
-                return grown;
-            }
-        }
+            grown
+        })
     }
 
     pub fn translated_target(&mut self) -> Vec<u8> {
@@ -105,12 +100,23 @@ impl Generator {
 
     /// A translation with a few fields changed, still accepted.
     pub fn changed_target(&mut self) -> Vec<u8> {
+        self.until_accepted(check_target, |generator| {
+            let mut list = records(&generator.translated_target());
+            perturbed(&mut list, &mut generator.random);
+            list
+        })
+    }
+
+    /// Makes tables until the check accepts one.
+    fn until_accepted(
+        &mut self,
+        check: fn(&[u8]) -> Answer,
+        mut make: impl FnMut(&mut Generator) -> Vec<Record>,
+    ) -> Vec<u8> {
         loop {
-            let mut list = records(&self.translated_target());
-            perturbed(&mut list, &mut self.random);
-            let changed = table(&list);
-            if check_target(&changed).number == 0 {
-                return changed;
+            let made = table(&make(self));
+            if check(&made).number == 0 {
+                return made;
             }
         }
     }
