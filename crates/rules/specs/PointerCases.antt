@@ -1,6 +1,6 @@
 -- 02 §2: "a freed block and an overrun" in small programs, "in program and assertions, alike in a plain and a watched
 -- run", with inputs 7, 9: variable 0 points to the two of them.
-use mathlib.Core.List.{List, [], _∷_}
+use mathlib.Core.List.{List, [], _∷_, _++_}
 use lib.IntN.{ℤ, pos}
 use Rattle.rules.specs.Records.{Record}
 use Rattle.rules.specs.Cases.{of, ofAll, literal, five, letFive}
@@ -28,23 +28,25 @@ assertAt z =
     variableZero ∷ of 2 1 0 ∷ literal z ∷ of 5 2 3 ∷ of 11 4 0 ∷ of 2 5 0 ∷ of 20 6 0 ∷ literal (pos 9) ∷ of 20 8 0
     ∷ ofAll 32 7 7 9 0 (pos 0) ∷ of 48 10 0 ∷ []
 
--- p = new 2; free p; and then v0 = *(p + z)
+-- p = new 2; free p: the first six records of a program that lets p
+abbrev pub newAndFree : List Record
+newAndFree = five ∷ literal (pos 2) ∷ of 42 1 2 ∷ five ∷ of 2 4 0 ∷ of 43 5 0 ∷ []
+
+-- and then v0 = *(p + z)
 abbrev pub readFreed : ℤ → List Record
 readFreed z =
-    five ∷ literal (pos 2) ∷ of 42 1 2 ∷ five ∷ of 2 4 0 ∷ of 43 5 0
-    ∷ variableZero ∷ five ∷ of 2 8 0 ∷ literal z ∷ of 5 9 10 ∷ of 11 11 0 ∷ of 2 12 0 ∷ of 41 7 13
-    ∷ of 44 6 14 ∷ of 44 3 15 ∷ letFive 16 ∷ []
+    newAndFree ++ (variableZero ∷ five ∷ of 2 8 0 ∷ literal z ∷ of 5 9 10 ∷ of 11 11 0 ∷ of 2 12 0 ∷ of 41 7 13
+    ∷ of 44 6 14 ∷ of 44 3 15 ∷ letFive 16 ∷ [])
 
 -- and then *(p + z) = 5
 abbrev pub storeFreed : ℤ → List Record
 storeFreed z =
-    five ∷ literal (pos 2) ∷ of 42 1 2 ∷ five ∷ of 2 4 0 ∷ of 43 5 0
-    ∷ five ∷ of 2 7 0 ∷ literal z ∷ of 5 8 9 ∷ of 11 10 0 ∷ literal (pos 5) ∷ of 41 11 12
-    ∷ of 44 6 13 ∷ of 44 3 14 ∷ letFive 15 ∷ []
+    newAndFree ++ (five ∷ of 2 7 0 ∷ literal z ∷ of 5 8 9 ∷ of 11 10 0 ∷ literal (pos 5) ∷ of 41 11 12
+    ∷ of 44 6 13 ∷ of 44 3 14 ∷ letFive 15 ∷ [])
 
 -- and then assert *(p + z) = 9
 abbrev pub assertFreed : ℤ → List Record
 assertFreed z =
-    five ∷ literal (pos 2) ∷ of 42 1 2 ∷ five ∷ of 2 4 0 ∷ of 43 5 0
-    ∷ five ∷ of 2 7 0 ∷ literal z ∷ of 5 8 9 ∷ of 11 10 0 ∷ of 2 11 0 ∷ of 20 12 0 ∷ literal (pos 9) ∷ of 20 14 0
-    ∷ ofAll 32 7 13 15 0 (pos 0) ∷ of 48 16 0 ∷ of 44 6 17 ∷ of 44 3 18 ∷ letFive 19 ∷ []
+    newAndFree ++ (five ∷ of 2 7 0 ∷ literal z ∷ of 5 8 9 ∷ of 11 10 0 ∷ of 2 11 0 ∷ of 20 12 0
+    ∷ literal (pos 9) ∷ of 20 14 0 ∷ ofAll 32 7 13 15 0 (pos 0) ∷ of 48 16 0
+    ∷ of 44 6 17 ∷ of 44 3 18 ∷ letFive 19 ∷ [])
