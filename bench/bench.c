@@ -2,7 +2,8 @@
  * Each pair is run in turns and the best time of each counts, so that a busy machine does not decide.
  *   bench                    times and ratios
  *   bench tables             the tables' names
- *   bench library|c TABLE    one plain run, for counting instructions */
+ *   bench library|c plain|watched TABLE
+ *                            one run, the watched one of the translation, for counting instructions */
 #include "interpreter.h"
 #include "layout.h"
 #include "programs.h"
@@ -99,14 +100,22 @@ static void build(const program *p)
     p->build();
 }
 
-static int run_once(const char *which, const char *name)
+/* The plain run of a table, or the watched run of its translation. */
+static int run_once(const char *which, const char *language, const char *name)
 {
     static execution_memory m;
-    run *r = strcmp(which, "library") == 0 ? library_plain : c_plain;
+    static observation_memory o;
+    static uint8_t out[OUTPUT];
+    int in_c = strcmp(which, "c") == 0;
     for (size_t i = 0; i < PROGRAM_COUNT; i++)
         if (strcmp(programs[i].name, name) == 0) {
             build(&programs[i]);
-            return r((const uint8_t *)table, table_records * sizeof(record), &m, NULL).number;
+            const uint8_t *source = (const uint8_t *)table;
+            size_t length = table_records * sizeof(record);
+            if (strcmp(language, "plain") == 0)
+                return (in_c ? c_plain : library_plain)(source, length, &m, &o).number;
+            recorder_answer made = recorder_translate(source, length, out, sizeof out);
+            return (in_c ? c_watched : library_watched)(out, made.record * sizeof(record), &m, &o).number;
         }
     return 2;
 }
@@ -122,8 +131,8 @@ int main(int argc, char **argv)
 {
     if (argc == 2)
         return list_tables();
-    if (argc == 3)
-        return run_once(argv[1], argv[2]);
+    if (argc == 4)
+        return run_once(argv[1], argv[2], argv[3]);
     static uint8_t out[OUTPUT];
     const uint8_t *source = (const uint8_t *)table;
     double watched_by_plain[PROGRAM_COUNT];

@@ -1,14 +1,17 @@
 #!/usr/bin/env bash
-# Instructions of one call on each table, counted by callgrind: instructions.sh BENCH
+# Instructions of one call on each table, plain, and watched of its translation, counted by callgrind: instructions.sh BENCH
 set -euo pipefail
 bench=$1
-count() { # WHICH FUNCTION TABLE
-    valgrind --tool=callgrind --callgrind-out-file=/dev/null --toggle-collect="$2" "$bench" "$1" "$3" 2>&1 |
+count() { # WHICH RUN FUNCTION TABLE
+    valgrind --tool=callgrind --callgrind-out-file=/dev/null --toggle-collect="$3" "$bench" "$1" "$2" "$4" 2>&1 |
         sed -n 's/.*Collected : *\([0-9]*\).*/\1/p'
 }
-printf '%-25s %14s %14s %8s\n' table library C ratio
+printf '%-8s %-25s %14s %14s %8s\n' run table library C ratio
 "$bench" tables | while IFS= read -r table; do
-    library=$(count library recorder_run_plain "$table")
-    c=$(count c interpreter_run_plain "$table")
-    awk -v t="$table" -v l="$library" -v c="$c" 'BEGIN { printf "%-25s %14d %14d %8.2f\n", t, l, c, l / c }'
+    for run in plain watched; do
+        library=$(count library "$run" "recorder_run_$run" "$table")
+        c=$(count c "$run" "interpreter_run_$run" "$table")
+        awk -v r="$run" -v t="$table" -v l="$library" -v c="$c" \
+            'BEGIN { printf "%-8s %-25s %14d %14d %8.2f\n", r, t, l, c, l / c }'
+    done
 done
