@@ -35,7 +35,7 @@ abbrev pub refusals : List ℕ
 refusals = 1 ∷ 2 ∷ 3 ∷ 4 ∷ 5 ∷ 6 ∷ 7 ∷ 8 ∷ 9 ∷ 20 ∷ 21 ∷ 22 ∷ []
 
 -- what an operator or a query can stop with: "40 wrong sort of value. .. 43 overflow. 44 zero divisor. .. 47 base, offset
--- or length of a block not live"
+-- or length of a block not live", and by 02 §4 the comparison of a pointer into one
 abbrev pub operationEndings : List ℕ
 operationEndings = 40 ∷ 43 ∷ 44 ∷ 47 ∷ []
 

@@ -7,9 +7,9 @@ use lib.IntN.{ℤ, pos}
 use Rattle.rules.specs.Trees.{Operator, shift, Query, valid, initialised, base, offset, blockLength, Expression}
 use Rattle.rules.specs.Trees.{literal, read, address, operation, shifted, Place, variable, pointed, temporary}
 use Rattle.rules.specs.Trees.{Term, value, asked, combined, Predicate, holds, compared, negated, both, either}
-use Rattle.rules.specs.Numbers.{operate, truthValue, truth, tested}
+use Rattle.rules.specs.Numbers.{Liveness, operate, truthValue, truth, tested}
 use Rattle.rules.specs.Memory.{Memory, recordedOf, blockOf, cellOf, locate, locatedIn, readCell, onValue}
-use Rattle.rules.specs.Memory.{onPlace, onPointer}
+use Rattle.rules.specs.Memory.{liveBlock, onPlace, onPointer}
 use Rattle.rules.specs.Types.{Pointer, Value, Evaluated, Found, Test, Located, Recorded, Cell, Temporary}
 
 -- the block of each variable
@@ -36,8 +36,8 @@ abbrev pub addressOf : Found → Evaluated
 addressOf f = onPlace f Evaluated.Stopped (λ p. Evaluated.Value (Value.Pointer p))
 
 -- A, then B, then the operation
-abbrev pub operated : Operator → Evaluated → Evaluated → Evaluated
-operated o a b = onValue a Evaluated.Stopped (λ x. onValue b Evaluated.Stopped (λ y. operate o x y))
+abbrev pub operated : Liveness → Operator → Evaluated → Evaluated → Evaluated
+operated live o a b = onValue a Evaluated.Stopped (λ x. onValue b Evaluated.Stopped (λ y. operate live o x y))
 
 -- "Places evaluate expressions and expressions read places."
 unfoldable mutual
@@ -45,8 +45,8 @@ unfoldable mutual
   evaluate (literal z) τ ρ m = Evaluated.Value (Value.Integer z)
   evaluate (read p) τ ρ m = onPlace (findPlace p τ ρ m) Evaluated.Stopped (readCell m)
   evaluate (address p) τ ρ m = addressOf (findPlace p τ ρ m)
-  evaluate (operation o a b) τ ρ m = operated o (evaluate a τ ρ m) (evaluate b τ ρ m)
-  evaluate (shifted a b) τ ρ m = operated shift (evaluate a τ ρ m) (evaluate b τ ρ m)
+  evaluate (operation o a b) τ ρ m = operated (liveBlock m) o (evaluate a τ ρ m) (evaluate b τ ρ m)
+  evaluate (shifted a b) τ ρ m = operated (liveBlock m) shift (evaluate a τ ρ m) (evaluate b τ ρ m)
 
   pub findPlace : {T : Type 0} → Place T → Holding T → Variables → Memory → Found
   findPlace (variable x) τ ρ m = Found.Place (record { name = ρ x; offset = pos 0 })
@@ -99,7 +99,7 @@ findSource p ρ m = findPlace p noTemporaries ρ m
 unfoldable pub evaluateTerm : Term → Variables → Memory → Evaluated
 evaluateTerm (value e) ρ m = evaluateSource e ρ m
 evaluateTerm (asked q t) ρ m = onValue (evaluateTerm t ρ m) Evaluated.Stopped (queryMemory q m)
-evaluateTerm (combined o a b) ρ m = operated o (evaluateTerm a ρ m) (evaluateTerm b ρ m)
+evaluateTerm (combined o a b) ρ m = operated (liveBlock m) o (evaluateTerm a ρ m) (evaluateTerm b ρ m)
 
 -- by a test of a value: what to go on with where it is true, and where it is 0
 abbrev pub onTest : {A : Type 0} → Test → (ℕ → A) → A → A → A
@@ -120,7 +120,7 @@ orElse v b = onTest (tested v) Evaluated.Stopped (Evaluated.Value v) b
 
 unfoldable pub evaluatePredicate : Predicate → Variables → Memory → Evaluated
 evaluatePredicate (holds q t) ρ m = onValue (evaluateTerm t ρ m) Evaluated.Stopped (queryMemory q m)
-evaluatePredicate (compared o a b) ρ m = operated o (evaluateTerm a ρ m) (evaluateTerm b ρ m)
+evaluatePredicate (compared o a b) ρ m = operated (liveBlock m) o (evaluateTerm a ρ m) (evaluateTerm b ρ m)
 evaluatePredicate (negated a) ρ m = onValue (evaluatePredicate a ρ m) Evaluated.Stopped opposite
 evaluatePredicate (both a b) ρ m =
     let later = evaluatePredicate b ρ m in

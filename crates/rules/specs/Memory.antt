@@ -21,6 +21,11 @@ recordedOf (Block.Fixed first n) = Recorded.Live first n
 recordedOf (Block.Freeable first n) = Recorded.Live first n
 recordedOf Block.Dead = Recorded.Dead
 
+abbrev pub isLive : Recorded → Bool
+isLive Recorded.Unused = false
+isLive (Recorded.Live first n) = true
+isLive Recorded.Dead = false
+
 -- a list's element by a name: names count from 1, and d stands for a name that has no record
 abbrev pub named : {A : Type 0} → List A → ℕ → A → A
 named l zero d = d
@@ -32,6 +37,10 @@ setNamed l (suc k) x = set l k x
 
 abbrev pub blockOf : Memory → ℕ → Block
 blockOf m k = named (m .blocks) k Block.Dead
+
+-- 02 §4: "an expression, there too, asks the execution memory"
+abbrev pub liveBlock : Memory → ℕ → Bool
+liveBlock m k = isLive (recordedOf (blockOf m k))
 
 abbrev pub cellOf : Memory → ℕ → Cell
 cellOf m i = getD (m .cells) i Cell.Free

@@ -110,26 +110,35 @@ onPointerAndInteger nearest p y = Evaluated.Stopped 40
 onPointerAndInteger atMost p y = Evaluated.Stopped 40
 onPointerAndInteger equal p y = Evaluated.Stopped 40
 
--- "Equality takes two integers or two pointers"
-unfoldable pub onPointers : Operator → Pointer → Pointer → Evaluated
-onPointers equal p q = truthValue (samePointer p q)
-onPointers add p q = Evaluated.Stopped 40
-onPointers subtract p q = Evaluated.Stopped 40
-onPointers multiply p q = Evaluated.Stopped 40
-onPointers divide p q = Evaluated.Stopped 40
-onPointers nearest p q = Evaluated.Stopped 40
-onPointers atMost p q = Evaluated.Stopped 40
-onPointers shift p q = Evaluated.Stopped 40
+-- whether the block of each name is live, as told by the memory that an operation asks
+abbrev pub Liveness : Type 0
+Liveness = ℕ → Bool
 
--- an operator on two values
-unfoldable pub operate : Operator → Value → Value → Evaluated
-operate o Value.Undefined y = Evaluated.Stopped 40
-operate o (Value.Integer x) Value.Undefined = Evaluated.Stopped 40
-operate o (Value.Integer x) (Value.Integer y) = onIntegers o x y
-operate o (Value.Integer x) (Value.Pointer q) = Evaluated.Stopped 40
-operate o (Value.Pointer p) Value.Undefined = Evaluated.Stopped 40
-operate o (Value.Pointer p) (Value.Integer y) = onPointerAndInteger o p y
-operate o (Value.Pointer p) (Value.Pointer q) = onPointers o p q
+-- 02 §4: "Operator 7 with a pointer into a dead block on either side ends 47"
+abbrev pub comparedPointers : Liveness → Pointer → Pointer → Evaluated
+comparedPointers live p q =
+    cond (live (p .name) && live (q .name)) (truthValue (samePointer p q)) (Evaluated.Stopped 47)
+
+-- "Equality takes two integers or two pointers"
+unfoldable pub onPointers : Liveness → Operator → Pointer → Pointer → Evaluated
+onPointers live equal p q = comparedPointers live p q
+onPointers live add p q = Evaluated.Stopped 40
+onPointers live subtract p q = Evaluated.Stopped 40
+onPointers live multiply p q = Evaluated.Stopped 40
+onPointers live divide p q = Evaluated.Stopped 40
+onPointers live nearest p q = Evaluated.Stopped 40
+onPointers live atMost p q = Evaluated.Stopped 40
+onPointers live shift p q = Evaluated.Stopped 40
+
+-- an operator on two values. 02 §4: "The order for one operation becomes 49, 40, 47, 44, 43."
+unfoldable pub operate : Liveness → Operator → Value → Value → Evaluated
+operate live o Value.Undefined y = Evaluated.Stopped 40
+operate live o (Value.Integer x) Value.Undefined = Evaluated.Stopped 40
+operate live o (Value.Integer x) (Value.Integer y) = onIntegers o x y
+operate live o (Value.Integer x) (Value.Pointer q) = Evaluated.Stopped 40
+operate live o (Value.Pointer p) Value.Undefined = Evaluated.Stopped 40
+operate live o (Value.Pointer p) (Value.Integer y) = onPointerAndInteger o p y
+operate live o (Value.Pointer p) (Value.Pointer q) = onPointers live o p q
 
 -- "Conditions are integers, true when not 0"
 abbrev pub tested : Value → Test

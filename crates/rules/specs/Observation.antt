@@ -1,4 +1,5 @@
--- The observation memory and its eight calls: store block, delete block, initialise, and five queries.
+-- The observation memory and its nine calls: store block, delete block, initialise, five queries, and whether a block is
+-- live.
 use Prim.Native.Nat.{ℕ, zero, suc, _+_}
 use mathlib.Core.Bool.{Bool, true, false, not, _&&_, _||_}
 use mathlib.Core.List.{List, [], _∷_, map}
@@ -7,7 +8,7 @@ use lib.IntN.{ℤ, pos, negsuc}
 use lib.ListN.{length, getD, set, replicate}
 use Rattle.rules.specs.Sizes.{nameCount, cellCount}
 use Rattle.rules.specs.Trees.{Query}
-use Rattle.rules.specs.Memory.{Memory, recordedOf, named, locatedIn, lowestRun, fill, onInteger, setNamed}
+use Rattle.rules.specs.Memory.{Memory, recordedOf, isLive, named, locatedIn, lowestRun, fill, onInteger, setNamed}
 use Rattle.rules.specs.Memory.{onPointer}
 use Rattle.rules.specs.Evaluation.{isInitialised, queried}
 use Rattle.rules.specs.Types.{Pointer, Value, Evaluated, Located, Search, Recorded}
@@ -88,6 +89,10 @@ markAt o Located.Outside = refused 48
 
 abbrev pub initialise : Observation → Value → Noted
 initialise o v = onPointer v refused (λ p. markAt o (locateMark o p))
+
+-- 02 §4: "kind 63 asks the observation memory, a ninth call beside the eight of document 01"
+abbrev pub liveRecord : Observation → ℕ → Bool
+liveRecord o k = isLive (recordOf o k)
 
 -- the five queries
 abbrev pub queryObservation : Query → Observation → Value → Evaluated

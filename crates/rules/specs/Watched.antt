@@ -16,7 +16,7 @@ use Rattle.rules.specs.Plain.{asserted}
 use Rattle.rules.specs.Evaluation.{Variables, Holding, held, evaluate, findPlace, addressOf, operated, opposite}
 use Rattle.rules.specs.Evaluation.{condition, extend}
 use Rattle.rules.specs.Observation.{Observation, Noted, noted, refused, storeBlock, deleteBlock, initialise}
-use Rattle.rules.specs.Observation.{queryObservation}
+use Rattle.rules.specs.Observation.{liveRecord, queryObservation}
 use Rattle.rules.specs.Types.{Value, Evaluated, Found, Temporary}
 
 -- "64 temporaries t0–t63, empty at first"
@@ -112,7 +112,8 @@ watch (letIn s y b) ρ x f =
     (λ k x₁ f₁. into 0 (watch b (extend ρ y k) x₁ f₁))
 watch (takeAddress s n p) ρ x f = after s ρ f (taken x n (addressOf (placeIn p ρ x)))
 watch (takeValue s n e) ρ x f = after s ρ f (taken x n (valueIn e ρ x))
-watch (takeOperation s n q) ρ x f = after s ρ f (taken x n (operated q (holding x (suc n)) (holding x (suc (suc n)))))
+watch (takeOperation s n q) ρ x f =
+    after s ρ f (taken x n (operated (liveRecord (x .observation)) q (holding x (suc n)) (holding x (suc (suc n)))))
 watch (takeQuery s n q) ρ x f =
     after s ρ f (taken x n (onValue (holding x (suc n)) Evaluated.Stopped (queryObservation q (x .observation))))
 watch (takeNot s n) ρ x f = after s ρ f (taken x n (onValue (holding x (suc n)) Evaluated.Stopped opposite))

@@ -7,7 +7,7 @@ use lib.IntN.{ℤ}
 use borrow.Author.Tests.{lt-ltb}
 use Rattle.rules.specs.Trees.{Operator, Query, valid, initialised, base, offset, blockLength, Expression}
 use Rattle.rules.specs.Trees.{Place}
-use Rattle.rules.specs.Numbers.{inRange, truthValue}
+use Rattle.rules.specs.Numbers.{inRange, truthValue, Liveness}
 use Rattle.rules.specs.Memory.{Memory, cellOf, locatedIn}
 use Rattle.rules.specs.Evaluation.{Variables, Holding, held, addressOf, operated, evaluate}
 use Rattle.rules.specs.Evaluation.{findPlace, isValid, initialisedAt, ofLive, queried, opposite}
@@ -35,9 +35,9 @@ moved-fits p z h e = (h .0, e)
 truth-fits : (b : Bool) → FitsEvaluated (truthValue b)
 truth-fits b = truth-gives FitsValue AnyNumber (λ z e. e) moved-fits (λ c h. tt) b
 
-pub operated-fits : (o : Operator) (a b : Evaluated) → FitsEvaluated a → FitsEvaluated b
-    → FitsEvaluated (operated o a b)
-operated-fits o a b g h = operated-gives FitsValue AnyNumber (λ z e. e) moved-fits (λ c h. tt) o a b g h
+pub operated-fits : (live : Liveness) (o : Operator) (a b : Evaluated) → FitsEvaluated a → FitsEvaluated b
+    → FitsEvaluated (operated live o a b)
+operated-fits live o a b g h = operated-gives FitsValue AnyNumber (λ z e. e) moved-fits (λ c h. tt) live o a b g h
 
 -- queries
 ofLive-fits : (b : Recorded) (f : ℕ → Value) → FitsRecorded b → ((n : ℕ) → n < 65536 → FitsValue (f n))

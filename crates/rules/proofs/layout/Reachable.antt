@@ -16,7 +16,7 @@ use Rattle.rules.specs.Memory.{allocated, freed}
 use Rattle.rules.specs.Evaluation.{Variables, Holding, noTemporaries, held, evaluate, findPlace, addressOf}
 use Rattle.rules.specs.Evaluation.{evaluateSource, findSource, evaluatePredicate, condition}
 use Rattle.rules.specs.Evaluation.{extend}
-use Rattle.rules.specs.Observation.{Observation, Noted}
+use Rattle.rules.specs.Observation.{Observation, Noted, liveRecord}
 use Rattle.rules.specs.Observation as observation
 use Rattle.rules.specs.Flow.{Outcome, into, after, runBy}
 use Rattle.rules.specs.Plain.{asserted, run, startVariables}
@@ -230,7 +230,7 @@ module _ (J : Memory → Type 0) (v : MemoryInvariant J) (O : Observation → Ty
       (v .fitting (x .memory) (i .memory-kept)) σ e (h .2))
   watch-keeps (takeOperation s n q) σ h ρ r x f i =
       taken-kept x i s ρ f n (operating q n x)
-      (operated-fits q (holding x (suc n)) (holding x (suc (suc n))) (held-kept x i (suc n))
+      (operated-fits (liveRecord (x .observation)) q (holding x (suc n)) (holding x (suc (suc n))) (held-kept x i (suc n))
       (held-kept x i (suc (suc n))))
   watch-keeps (takeQuery s n q) σ h ρ r x f i =
       taken-kept x i s ρ f n (querying q n x)

@@ -9,7 +9,7 @@ use borrow.Author.Tests.{eqb-true, eqb-false, ltb-true, ltb-false}
 use lib.Dec.{ltb, eqb}
 use lib.IntN.{ℤ, pos, negsuc, natAbs, _-ℤ_, _*ℤ_}
 use Rattle.rules.specs.Nodes.{operatorOf}
-use Rattle.rules.specs.Numbers.{isNegative, signed, signsDiffer, toNearest, quotientOf, IsNearest}
+use Rattle.rules.specs.Numbers.{isNegative, signed, signsDiffer, toNearest, quotientOf, IsNearest, Liveness}
 use Rattle.rules.specs.Numbers.{ranged, numbered, onIntegers, operate}
 use Rattle.rules.proofs.numbers.Signs.{signed-itself, magnitude-signed, product-signed, quotient-times}
 use Rattle.rules.proofs.numbers.Signs.{distance, alike-apart, unlike-apart, divided-is, magnitude-positive}
@@ -159,13 +159,13 @@ nearest-given x y p =
 
 -- For every x and every y other than 0, operator 5 gives a q with 2·|x − q·y| ≤ |y|, even where that is an equality, and
 -- no other number is so. That q ends 43 where it leaves 64 bits.
-pub operator-5-gives-the-nearest : (x y : ℤ) → (y ≡ pos 0 → ⊥)
+pub operator-5-gives-the-nearest : (live : Liveness) (x y : ℤ) → (y ≡ pos 0 → ⊥)
     → let q = quotientOf toNearest x y in
-    (operate (operatorOf 5) (Value.Integer x) (Value.Integer y) ≡ numbered (ranged q))
+    (operate live (operatorOf 5) (Value.Integer x) (Value.Integer y) ≡ numbered (ranged q))
     × IsNearest x y q
     × ((r : ℤ) → IsNearest x y r → r ≡ q)
 unfolding onIntegers operate
-operator-5-gives-the-nearest x y z =
+operator-5-gives-the-nearest live x y z =
     let p = magnitude-positive y z in
     let given = nearest-given x y p in
     (ap numbered (sym (divided-is toNearest x y z)), given, λ r h. nearest-alone x y r (quotientOf toNearest x y) p h given)

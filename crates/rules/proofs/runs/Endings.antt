@@ -9,7 +9,7 @@ use Rattle.rules.specs.TargetTrees.{TargetStatement}
 use Rattle.rules.specs.Memory.{Memory, Change, changeIn, fixed, makeBlock, assigned, allocated, freed}
 use Rattle.rules.specs.Evaluation.{Variables, noTemporaries, held, evaluate, findPlace, addressOf}
 use Rattle.rules.specs.Evaluation.{evaluateSource, findSource, evaluatePredicate, condition}
-use Rattle.rules.specs.Observation.{Observation, Noted, recordOf, queryObservation, isMarked}
+use Rattle.rules.specs.Observation.{Observation, Noted, recordOf, queryObservation, isMarked, liveRecord}
 use Rattle.rules.specs.Flow.{Outcome, finished, ended, ending}
 use Rattle.rules.specs.Plain.{plainMeaning, run}
 use Rattle.rules.specs.Watched.{Temporaries, temporaryOf, WatchedState, withMemory, valueIn, placeIn, holding}
@@ -138,8 +138,8 @@ watch-ends = record {
   takes-value = λ n e ρ x v. taken-ends x n (valueIn e ρ x) (target-among e (x .temporaries) ρ (x .memory));
   takes-operation = λ n q x v.
       taken-ends x n (operating q n x)
-      (operated-among AnyValue (λ z. tt) (λ p. tt) temporaryEndings (watchedly .enough) q (holding x (suc n))
-      (holding x (suc (suc n))) (held-among (temporaryOf (x .temporaries) (suc n)))
+      (operated-among AnyValue (λ z. tt) (λ p. tt) temporaryEndings (watchedly .enough) (liveRecord (x .observation)) q
+      (holding x (suc n)) (holding x (suc (suc n))) (held-among (temporaryOf (x .temporaries) (suc n)))
       (held-among (temporaryOf (x .temporaries) (suc (suc n)))));
   takes-query = λ n q x v.
       taken-ends x n (querying q n x)

@@ -7,7 +7,7 @@ use lib.IntN.{ℤ, pos}
 use Rattle.rules.specs.Trees.{Operator, shift, Expression, literal, read, address, operation, shifted, Place}
 use Rattle.rules.specs.Trees.{variable, pointed, temporary}
 use Rattle.rules.specs.Numbers.{inRange}
-use Rattle.rules.specs.Memory.{Memory, cellOf, locate, defined, readCell}
+use Rattle.rules.specs.Memory.{Memory, cellOf, locate, defined, readCell, liveBlock}
 use Rattle.rules.specs.Evaluation.{Variables, Holding, held, pointedBy, addressOf, operated, evaluate, findPlace}
 use Rattle.rules.proofs.acceptance.Sound.{Scope, SoundExpression, SoundPlace}
 use Rattle.rules.proofs.runs.Operations.{operated-gives}
@@ -60,8 +60,9 @@ module _ (G : Value → Type 0) (numbers : (z : ℤ) → inRange z ≡ true → 
     {T : Type 0} (N : T → Type 0) (τ : Holding T) (holding : (t : T) → EvaluatedHas G (held (τ t))) (ρ : Variables)
     (σ : Scope) (addresses : (x : ℕ) → σ x ≡ true → G (Value.Pointer (record { name = ρ x; offset = pos 0 })))
     (m : Memory) (cells : (i : ℕ) → CellHas G (cellOf m i)) where
-  both-has : (o : Operator) (a b : Evaluated) → EvaluatedHas G a → EvaluatedHas G b → EvaluatedHas G (operated o a b)
-  both-has o a b g h = operated-gives G AnyNumber numbers moves (λ c x. tt) o a b g h
+  both-has : (o : Operator) (a b : Evaluated) → EvaluatedHas G a → EvaluatedHas G b
+      → EvaluatedHas G (operated (liveBlock m) o a b)
+  both-has o a b g h = operated-gives G AnyNumber numbers moves (λ c x. tt) (liveBlock m) o a b g h
 
   mutual
     unfolding evaluate

@@ -7,8 +7,8 @@ use lib.IntN.{ℤ}
 use Rattle.rules.specs.Trees.{Operator, shift, Query, Expression}
 use Rattle.rules.specs.Trees.{literal, read, address, operation, shifted, Place, variable, pointed, temporary}
 use Rattle.rules.specs.Trees.{Term, value, asked, combined, Predicate, holds, compared, negated, both, either}
-use Rattle.rules.specs.Numbers.{tested}
-use Rattle.rules.specs.Memory.{Memory, cellOf, locate, defined, readCell, onValue}
+use Rattle.rules.specs.Numbers.{tested, Liveness}
+use Rattle.rules.specs.Memory.{Memory, cellOf, locate, defined, readCell, onValue, liveBlock}
 use Rattle.rules.specs.Evaluation.{Variables, Holding, noTemporaries, held, pointedBy, addressOf, operated}
 use Rattle.rules.specs.Evaluation.{evaluate, findPlace, queried, queryMemory, evaluateTerm, onTest, opposite}
 use Rattle.rules.specs.Evaluation.{evaluatePredicate, condition}
@@ -50,10 +50,11 @@ module _ (G : Value → Type 0) (integers : (z : ℤ) → G (Value.Integer z))
   pub condition-among : (e : Evaluated) → EvaluatedAmong G numbers e → TestStops (Among numbers) (condition e)
   condition-among e h = condition-stops G (Among numbers) (λ z e. integers z) (λ p z g e. pointers _) operations e h
 
-  pub operated-among : (o : Operator) (a b : Evaluated) → EvaluatedAmong G numbers a → EvaluatedAmong G numbers b
-      → EvaluatedAmong G numbers (operated o a b)
-  operated-among o a b g h =
-      operated-gives G (Among numbers) (λ z e. integers z) (λ p z g e. pointers _) operations o a b g h
+  pub operated-among : (live : Liveness) (o : Operator) (a b : Evaluated) → EvaluatedAmong G numbers a
+      → EvaluatedAmong G numbers b
+      → EvaluatedAmong G numbers (operated live o a b)
+  operated-among live o a b g h =
+      operated-gives G (Among numbers) (λ z e. integers z) (λ p z g e. pointers _) operations live o a b g h
 
   defined-among : (c : Cell) → EvaluatedAmong G numbers (defined c)
   defined-among Cell.Free = enough 41 refl
@@ -91,9 +92,9 @@ module _ (G : Value → Type 0) (integers : (z : ℤ) → G (Value.Integer z))
         (findPlace-among p τ h ρ m) (λ l u. readCell-among m l)
     evaluate-among (address p) τ h ρ m = addressOf-among (findPlace p τ ρ m) (findPlace-among p τ h ρ m)
     evaluate-among (operation o a b) τ h ρ m =
-        operated-among o (evaluate a τ ρ m) (evaluate b τ ρ m) (evaluate-among a τ h ρ m) (evaluate-among b τ h ρ m)
+        operated-among (liveBlock m) o (evaluate a τ ρ m) (evaluate b τ ρ m) (evaluate-among a τ h ρ m) (evaluate-among b τ h ρ m)
     evaluate-among (shifted a b) τ h ρ m =
-        operated-among shift (evaluate a τ ρ m) (evaluate b τ ρ m) (evaluate-among a τ h ρ m) (evaluate-among b τ h ρ m)
+        operated-among (liveBlock m) shift (evaluate a τ ρ m) (evaluate b τ ρ m) (evaluate-among a τ h ρ m) (evaluate-among b τ h ρ m)
 
     pub findPlace-among : {T : Type 0} (p : Place T) (τ : Holding T) → ((t : T) → EvaluatedAmong G numbers (held (τ t)))
         → (ρ : Variables) (m : Memory) → FoundAmong numbers (findPlace p τ ρ m)
@@ -110,7 +111,7 @@ module _ (G : Value → Type 0) (integers : (z : ℤ) → G (Value.Integer z))
   evaluateTerm-among (asked q t) ρ m =
       among-value (evaluateTerm t ρ m) _ (evaluateTerm-among t ρ m) (λ v u. queryMemory-among q m v)
   evaluateTerm-among (combined o a b) ρ m =
-      operated-among o (evaluateTerm a ρ m) (evaluateTerm b ρ m) (evaluateTerm-among a ρ m) (evaluateTerm-among b ρ m)
+      operated-among (liveBlock m) o (evaluateTerm a ρ m) (evaluateTerm b ρ m) (evaluateTerm-among a ρ m) (evaluateTerm-among b ρ m)
 
   tested-then : (v : Value) (x y : Evaluated) → EvaluatedAmong G numbers x → EvaluatedAmong G numbers y
       → EvaluatedAmong G numbers (onTest (tested v) Evaluated.Stopped x y)
@@ -124,7 +125,7 @@ module _ (G : Value → Type 0) (integers : (z : ℤ) → G (Value.Integer z))
   evaluatePredicate-among (holds q t) ρ m =
       among-value (evaluateTerm t ρ m) _ (evaluateTerm-among t ρ m) (λ v u. queryMemory-among q m v)
   evaluatePredicate-among (compared o a b) ρ m =
-      operated-among o (evaluateTerm a ρ m) (evaluateTerm b ρ m) (evaluateTerm-among a ρ m) (evaluateTerm-among b ρ m)
+      operated-among (liveBlock m) o (evaluateTerm a ρ m) (evaluateTerm b ρ m) (evaluateTerm-among a ρ m) (evaluateTerm-among b ρ m)
   evaluatePredicate-among (negated a) ρ m =
       among-value (evaluatePredicate a ρ m) _ (evaluatePredicate-among a ρ m) (λ v u. opposite-among v)
   evaluatePredicate-among (both a b) ρ m =

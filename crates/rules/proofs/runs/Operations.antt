@@ -1,6 +1,6 @@
 -- What operators, queries and tests give: a value of which G holds, or a stop with a number of which C does.
 use Prim.Native.Nat.{ℕ}
-use mathlib.Core.Bool.{Bool, true, false, cond}
+use mathlib.Core.Bool.{Bool, true, false, cond, _&&_}
 use mathlib.Core.Path.{_≡_, refl}
 use lib.Dec.{eqb}
 use lib.IntN.{ℤ, pos, natAbs, _+ℤ_, _-ℤ_, _*ℤ_}
@@ -9,7 +9,7 @@ use Rattle.rules.specs.Trees.{Query, valid, initialised, base, offset, b
 use Rattle.rules.specs.Trees.{Operator, add, subtract, multiply, divide, nearest, atMost, equal, shift}
 use Rattle.rules.specs.Numbers.{inRange, ranged, quotientOf, towardZero, toNearest, divided}
 use Rattle.rules.specs.Numbers.{stopNumber, numbered, truthValue, onIntegers, onPointerAndInteger, onPointers}
-use Rattle.rules.specs.Numbers.{operate, sameInteger, samePointer, tested}
+use Rattle.rules.specs.Numbers.{Liveness, operate, sameInteger, samePointer, tested}
 use Rattle.rules.specs.Memory.{Memory, blockOf, cellOf, recordedOf, locatedIn}
 use Rattle.rules.specs.Evaluation.{operated, opposite, condition, isInitialised, isValid, initialisedAt, ofLive}
 use Rattle.rules.specs.Evaluation.{queried, queryMemory}
@@ -79,31 +79,36 @@ module _ (G : Value → Type 0) (C : ℕ → Type 0) (numbers : (z : ℤ) → in
   onPointerAndInteger-gives atMost p y h = stops _ refl
   onPointerAndInteger-gives equal p y h = stops _ refl
 
-  onPointers-gives : (o : Operator) (p q : Pointer) → Gives G C (onPointers o p q)
+  onPointers-gives : (live : Liveness) (o : Operator) (p q : Pointer) → Gives G C (onPointers live o p q)
   unfolding onPointers
-  onPointers-gives equal p q = truth-gives (samePointer p q)
-  onPointers-gives add p q = stops _ refl
-  onPointers-gives subtract p q = stops _ refl
-  onPointers-gives multiply p q = stops _ refl
-  onPointers-gives divide p q = stops _ refl
-  onPointers-gives nearest p q = stops _ refl
-  onPointers-gives atMost p q = stops _ refl
-  onPointers-gives shift p q = stops _ refl
+  onPointers-gives live equal p q = pick (live (p .name) && live (q .name))
+    where
+      pick : (b : Bool) → Gives G C (cond b (truthValue (samePointer p q)) (Evaluated.Stopped 47))
+      pick true = truth-gives (samePointer p q)
+      pick false = stops _ refl
+  onPointers-gives live add p q = stops _ refl
+  onPointers-gives live subtract p q = stops _ refl
+  onPointers-gives live multiply p q = stops _ refl
+  onPointers-gives live divide p q = stops _ refl
+  onPointers-gives live nearest p q = stops _ refl
+  onPointers-gives live atMost p q = stops _ refl
+  onPointers-gives live shift p q = stops _ refl
 
-  pub operate-gives : (o : Operator) (x y : Value) → G x → Gives G C (operate o x y)
+  pub operate-gives : (live : Liveness) (o : Operator) (x y : Value) → G x → Gives G C (operate live o x y)
   unfolding operate
-  operate-gives o Value.Undefined y h = stops _ refl
-  operate-gives o (Value.Integer x) Value.Undefined h = stops _ refl
-  operate-gives o (Value.Integer x) (Value.Integer y) h = onIntegers-gives o x y
-  operate-gives o (Value.Integer x) (Value.Pointer q) h = stops _ refl
-  operate-gives o (Value.Pointer p) Value.Undefined h = stops _ refl
-  operate-gives o (Value.Pointer p) (Value.Integer y) h = onPointerAndInteger-gives o p y h
-  operate-gives o (Value.Pointer p) (Value.Pointer q) h = onPointers-gives o p q
+  operate-gives live o Value.Undefined y h = stops _ refl
+  operate-gives live o (Value.Integer x) Value.Undefined h = stops _ refl
+  operate-gives live o (Value.Integer x) (Value.Integer y) h = onIntegers-gives o x y
+  operate-gives live o (Value.Integer x) (Value.Pointer q) h = stops _ refl
+  operate-gives live o (Value.Pointer p) Value.Undefined h = stops _ refl
+  operate-gives live o (Value.Pointer p) (Value.Integer y) h = onPointerAndInteger-gives o p y h
+  operate-gives live o (Value.Pointer p) (Value.Pointer q) h = onPointers-gives live o p q
 
-  pub operated-gives : (o : Operator) (a b : Evaluated) → Gives G C a → Gives G C b → Gives G C (operated o a b)
-  operated-gives o a b g h =
+  pub operated-gives : (live : Liveness) (o : Operator) (a b : Evaluated) → Gives G C a → Gives G C b
+      → Gives G C (operated live o a b)
+  operated-gives live o a b g h =
       on-value (Gives G C) C Evaluated.Stopped (λ c x. x) a _ g (λ x u.
-      on-value (Gives G C) C Evaluated.Stopped (λ c x. x) b _ h (λ y w. operate-gives o x y u))
+      on-value (Gives G C) C Evaluated.Stopped (λ c x. x) b _ h (λ y w. operate-gives live o x y u))
 
   pub tested-stops : (v : Value) → TestStops C (tested v)
   tested-stops Value.Undefined = stops _ refl

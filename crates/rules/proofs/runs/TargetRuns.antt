@@ -11,7 +11,7 @@ use Rattle.rules.specs.Memory.{allocated, freed}
 use Rattle.rules.specs.Memory.{onValue}
 use Rattle.rules.specs.Evaluation.{Variables, addressOf, operated, opposite, condition, extend}
 use Rattle.rules.specs.Observation.{Observation, Noted, noted, refused, storeBlock, deleteBlock, initialise}
-use Rattle.rules.specs.Observation.{queryObservation}
+use Rattle.rules.specs.Observation.{queryObservation, liveRecord}
 use Rattle.rules.specs.Flow.{into}
 use Rattle.rules.specs.Plain.{asserted}
 use Rattle.rules.specs.Watched.{WatchedState, watching, withMemory, valueIn, placeIn, holding, taken, observed}
@@ -50,7 +50,7 @@ abbrev pub freeing : Expression ℕ → Variables → WatchedState → Change Wa
 freeing e ρ x = changeIn (withMemory x) (freed (x .memory) (valueIn e ρ x))
 
 abbrev pub operating : Operator → ℕ → WatchedState → Evaluated
-operating q n x = operated q (holding x (suc n)) (holding x (suc (suc n)))
+operating q n x = operated (liveRecord (x .observation)) q (holding x (suc n)) (holding x (suc (suc n)))
 
 abbrev pub querying : Query → ℕ → WatchedState → Evaluated
 querying q n x = onValue (holding x (suc n)) Evaluated.Stopped (queryObservation q (x .observation))

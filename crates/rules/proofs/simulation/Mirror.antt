@@ -7,13 +7,13 @@ use mathlib.Core.List.{map}
 use lib.IntN.{pos}
 use lib.ListN.{set, List·getD-map}
 use Rattle.rules.specs.Trees.{Query}
-use Rattle.rules.specs.Memory.{Memory, recordedOf, blockOf, cellOf, locate, locatedIn, setCell, setNamed}
+use Rattle.rules.specs.Memory.{Memory, recordedOf, blockOf, cellOf, locate, locatedIn, setCell, setNamed, isLive}
 use Rattle.rules.specs.Memory.{lowestRun, isFree, freeRun, fill, Use, blockFor, withBlock, withoutCells}
-use Rattle.rules.specs.Memory.{endBlock}
+use Rattle.rules.specs.Memory.{endBlock, liveBlock}
 use Rattle.rules.specs.Evaluation.{isInitialised, queried, queryMemory}
 use Rattle.rules.specs.Observation.{recordOf, covered, markRun, noted, storeAt, storeBlock, deleteAt, isMarked}
 use Rattle.rules.specs.Observation.{deleteBlock, locateMark, markAt, initialise, queryObservation, pointerTo}
-use Rattle.rules.specs.Observation.{mirror}
+use Rattle.rules.specs.Observation.{mirror, liveRecord}
 use Rattle.rules.proofs.memory.MemoryLaws.{map-set, map-setNamed, map-fill, named-map, coverage, Covered, some}
 use Rattle.rules.proofs.memory.MemoryLaws.{none}
 use Rattle.rules.proofs.memory.MemoryLaws.{covered-is}
@@ -25,6 +25,10 @@ use Rattle.rules.specs.Types.{Pointer, Value, Located, Search, Block, Re
 module _ (m : Memory) where
   pub mirror-record : (k : ℕ) → recordOf (mirror m) k ≡ recordedOf (blockOf m k)
   mirror-record k = named-map recordedOf (m .blocks) k Block.Dead
+
+  -- of every block both memories say the same: whether it is live
+  pub mirror-live : liveRecord (mirror m) ≡ liveBlock m
+  mirror-live = fun-ext (λ k. ap isLive (mirror-record k))
 
   pub mirror-marks : _≡_ {A = ℕ → Bool} (λ i. isMarked (mirror m) i) (λ i. isInitialised (cellOf m i))
   mirror-marks = fun-ext (λ i. List·getD-map isInitialised (m .cells) i Cell.Free)

@@ -1,7 +1,7 @@
 -- The watched run of a translated term or predicate leaves in its temporary what evaluating gives.
 use Prim.Native.Nat.{ℕ, suc, _<_}
 use native.Mathlib.Omega.{arith}
-use mathlib.Core.Path.{_≡_, refl, ap, _∙_}
+use mathlib.Core.Path.{_≡_, refl, ap, _∙_, sym}
 use mathlib.Core.Logic.{_≢_}
 use lib.ListN.{length, set, length-set}
 use lib.Seq.{getD-set-same, getD-set-other}
@@ -11,17 +11,17 @@ use Rattle.rules.specs.Trees.{Place, variable, pointed, temporary, Term,
 use Rattle.rules.specs.Trees.{holds, compared, negated, both, either}
 use Rattle.rules.specs.TargetTrees.{skip, sequence, takeOperation, takeQuery, takeNot, branchOn}
 use Rattle.rules.specs.Numbers.{operate, tested}
-use Rattle.rules.specs.Memory.{Memory, readCell, onValue, onPlace}
+use Rattle.rules.specs.Memory.{Memory, readCell, onValue, onPlace, liveBlock}
 use Rattle.rules.specs.Evaluation.{Variables, pointedBy, addressOf, operated, evaluate, findPlace, queryMemory}
 use Rattle.rules.specs.Evaluation.{evaluateSource, findSource, evaluateTerm, onTest, opposite, andThen, orElse}
 use Rattle.rules.specs.Evaluation.{evaluatePredicate, condition}
-use Rattle.rules.specs.Observation.{Observation, queryObservation, mirror}
+use Rattle.rules.specs.Observation.{Observation, queryObservation, mirror, liveRecord}
 use Rattle.rules.specs.Flow.{TreePath, Outcome, finished, ended, into, next, after, decide}
 use Rattle.rules.specs.Watched.{Temporaries, temporaryOf, heldIn, WatchedState, watching, taken, watch}
 use Rattle.rules.specs.Translation.{embed, embedPlace, translateTerm, translatePredicate}
 use Rattle.rules.proofs.acceptance.Sound.{Scope, SoundTerm, SoundPredicate}
 use Rattle.rules.proofs.runs.TargetRuns.{operating, querying, negating}
-use Rattle.rules.proofs.simulation.Mirror.{mirror-query}
+use Rattle.rules.proofs.simulation.Mirror.{mirror-query, mirror-live}
 use Rattle.rules.specs.Types.{Value, Evaluated, Test, Temporary}
 
 -- a source expression gives the same in the target, whatever the temporaries hold
@@ -33,8 +33,8 @@ mutual
   embed-is (literal z) τ ρ m = refl
   embed-is (read p) τ ρ m = ap (λ r. onPlace r Evaluated.Stopped (readCell m)) (embedPlace-is p τ ρ m)
   embed-is (address p) τ ρ m = ap addressOf (embedPlace-is p τ ρ m)
-  embed-is (operation o a b) τ ρ m = λ i. operated o (embed-is a τ ρ m i) (embed-is b τ ρ m i)
-  embed-is (shifted a b) τ ρ m = λ i. operated shift (embed-is a τ ρ m i) (embed-is b τ ρ m i)
+  embed-is (operation o a b) τ ρ m = λ i. operated (liveBlock m) o (embed-is a τ ρ m i) (embed-is b τ ρ m i)
+  embed-is (shifted a b) τ ρ m = λ i. operated (liveBlock m) shift (embed-is a τ ρ m i) (embed-is b τ ρ m i)
 
   pub embedPlace-is : (p : Place ⊥) (τ : Temporaries) (ρ : Variables) (m : Memory)
       → findPlace (embedPlace p) (temporaryOf τ) ρ m ≡ findSource p ρ m
@@ -131,10 +131,11 @@ module _ (s : ℕ) (ρ : Variables) (m : Memory) (o : Observation) (f : ℕ) whe
   gives-operation : (q : Operator) (n : ℕ) (v u : Value) (τ₁ τ₂ : Temporaries) → n < 64
       → temporaryOf τ₁ (suc n) ≡ Temporary.Holds v → temporaryOf τ₂ (suc (suc n)) ≡ Temporary.Holds u → Full τ₂
       → Alike (suc (suc n)) τ₂ τ₁
-      → Gives n s ρ τ₁ m o f (operate q v u)
+      → Gives n s ρ τ₁ m o f (operate (liveRecord o) q v u)
       (after s ρ f (taken (watching m o τ₂) n (operating q n (watching m o τ₂))))
   gives-operation q n v u τ₁ τ₂ b h g l p =
-      rw (p (suc n) (omega arith) ∙ h, g) (gives-taken n τ₁ τ₂ (operate q v u) b l (λ k c. p k (omega arith)))
+      rw (p (suc n) (omega arith) ∙ h, g)
+      (gives-taken n τ₁ τ₂ (operate (liveRecord o) q v u) b l (λ k c. p k (omega arith)))
 
 -- a query of the mirror is a query of the execution memory
 gives-query : (q : Query) (s : ℕ) (ρ : Variables) (n : ℕ) (m : Memory) (f : ℕ) (v : Value) (τ τ₁ : Temporaries)
@@ -160,7 +161,7 @@ term-agrees (combined o a b) σ ρ m s n τ f d l =
     (λ v τ₁ h l₁ p. gives-from s ρ m (mirror m) f (λ k c. p k (omega arith))
     (gives-next s ρ m (mirror m) f _ (watch (takeOperation s n o) ρ)
     (term-agrees b σ ρ m s (suc (suc n)) τ₁ f (d .2) l₁)
-    (λ u τ₂ g l₂ q. gives-operation s ρ m (mirror m) f o n v u τ₁ τ₂ (omega arith) h g l₂ q)))
+    (λ u τ₂ g l₂ q. rw (sym (mirror-live m)) (gives-operation s ρ m (mirror m) f o n v u τ₁ τ₂ (omega arith) h g l₂ q))))
 
 pub predicate-agrees : (a : Predicate) (σ : Scope) (ρ : Variables) (m : Memory) (s n : ℕ) (τ : Temporaries) (f : ℕ)
     → SoundPredicate a σ n → Full τ
