@@ -4,6 +4,7 @@ pub mod Invariant
 pub mod Room
 pub mod Owners
 pub mod Pointing
+pub mod ComparedPointers
 pub mod BlockChanges
 pub mod Changes
 pub mod PlainKept

@@ -8,7 +8,7 @@ use Rattle.rules.specs.Memory.{Memory, Change, changed, stopped, changeIn}
 use Rattle.rules.specs.Evaluation.{Variables}
 use Rattle.rules.specs.Evaluation.{condition, opposite}
 use Rattle.rules.specs.Plain.{asserted}
-use Rattle.rules.specs.Observation.{Noted, noted, refused, recordOf, isMarked}
+use Rattle.rules.specs.Observation.{Noted, noted, refused, recordOf, isMarked, liveRecord}
 use Rattle.rules.specs.Watched.{WatchedState, temporaryOf, withMemory, valueIn, holding, taken}
 use Rattle.rules.specs.Watched.{observed}
 use Rattle.rules.specs.Answers.{operationEndings}
@@ -87,8 +87,8 @@ module _ (ρ : Variables) (x : WatchedState) (j : WatchStarted ρ x) where
 
   pub operating-silent : (q : Operator) (n : ℕ) → Gives AnyValue Silent (operating q n x)
   operating-silent q n =
-      operated-gives AnyValue Silent (λ z e. tt) (λ p z k e. tt) operations-silent q (holding x (suc n))
-      (holding x (suc (suc n))) (held-silent (suc n)) (held-silent (suc (suc n)))
+      operated-gives AnyValue Silent (λ z e. tt) (λ p z k e. tt) operations-silent (liveRecord (x .observation)) q
+      (holding x (suc n)) (holding x (suc (suc n))) (held-silent (suc n)) (held-silent (suc (suc n)))
 
   pub querying-silent : (q : Query) (n : ℕ) → Gives AnyValue Silent (querying q n x)
   querying-silent q n =

@@ -14,6 +14,7 @@ use Rattle.rules.proofs.memory.Invariant.{Invariant}
 use Rattle.rules.proofs.memory.Room.{HasRoom, room}
 use Rattle.rules_endings.specs.UsedPointers.{astray, usedBy, usedTo, usedStoring, ToldApart}
 use Rattle.rules_endings.proofs.KeptEvaluations.{SameValue, SamePlace, evaluate-kept, findPlace-kept, read-kept}
+use Rattle.rules_endings.proofs.KeptEvaluations.{living-kept}
 use Rattle.rules_endings.proofs.UsedLaws.{IsNamed, PointersNamed, Whereabouts, at, dead, outside, whereabouts}
 use Rattle.rules_endings.proofs.UsedLaws.{other, used-dead, used-outside, Tells, Told, FoundTold}
 use Rattle.rules_endings.proofs.UsedLaws.{evaluate-told, findPlace-told}
@@ -82,8 +83,9 @@ module _ {T : Type 0} (τ : Holding T) (ρ : Variables) where
     made-told m q v n (Search.At k) (Search.At first) y a b h =
         let m₁ = withBlock m freeable k first (suc n) in
         let kept = read-kept m freeable (suc n) k first h y in
-        let a₁ : SamePlace (Found.Place q) (findPlace p τ ρ m₁) = rw a at (findPlace-kept m m₁ kept p τ ρ) in
-        let b₁ : SameValue (Evaluated.Value v) (evaluate e τ ρ m₁) = rw b at (evaluate-kept m m₁ kept e τ ρ) in
+        let living = living-kept m freeable (suc n) k first h y in
+        let a₁ : SamePlace (Found.Place q) (findPlace p τ ρ m₁) = rw a at (findPlace-kept m m₁ kept living p τ ρ) in
+        let b₁ : SameValue (Evaluated.Value v) (evaluate e τ ρ m₁) = rw b at (evaluate-kept m m₁ kept living e τ ρ) in
         stored-at m₁ q v (Value.Pointer (record { name = k; offset = pos 0 })) a₁ b₁
 
     pub allocated-told : (m : Memory) → Invariant m

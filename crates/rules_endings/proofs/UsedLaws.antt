@@ -13,7 +13,7 @@ use Rattle.rules.specs.Trees.{variable, pointed, temporary, Term, value, asked,
 use Rattle.rules.specs.Trees.{negated, both, either}
 use Rattle.rules.specs.Numbers.{tested}
 use Rattle.rules.specs.Memory.{Memory, recordedOf, blockOf, cellOf, locatedIn, locate, atCell, defined, readCell}
-use Rattle.rules.specs.Memory.{isUnused, onValue, onPlace}
+use Rattle.rules.specs.Memory.{isUnused, onValue, onPlace, liveBlock}
 use Rattle.rules.specs.Evaluation.{Variables, Holding, noTemporaries, held, pointedBy, addressOf, operated, evaluate}
 use Rattle.rules.specs.Evaluation.{findPlace, evaluateTerm, evaluatePredicate, queryMemory, onTest, opposite, condition}
 use Rattle.rules.specs.Answers.{operationEndings}
@@ -110,11 +110,11 @@ module _ {T : Type 0} (τ : Holding T) (ρ : Variables) (m : Memory) where
   operated-told : (G : Value → Type 0) → ((z : ℤ) → G (Value.Integer z))
       → ((p : Pointer) (z : ℤ) → G (Value.Pointer p) → G (Value.Pointer (record { name = p .name; offset = z })))
       → (o : Operator) (a b : Evaluated) (u v : Option Pointer) → Gives G (Tells u) a → Gives G (Tells v) b
-      → Gives G (Tells (inTurn a u v)) (operated o a b)
+      → Gives G (Tells (inTurn a u v)) (operated (liveBlock m) o a b)
   operated-told G integers moves o (Evaluated.Stopped c) b u v h g = h
   operated-told G integers moves o (Evaluated.Value x) (Evaluated.Stopped c) u v h g = g
   operated-told G integers moves o (Evaluated.Value x) (Evaluated.Value y) u v h g =
-      operate-gives G (Tells v) (λ z e. integers z) (λ p z k e. moves p z k) (operations v) o x y h
+      operate-gives G (Tells v) (λ z e. integers z) (λ p z k e. moves p z k) (operations v) (liveBlock m) o x y h
 
   defined-told : (u : Option Pointer) (c : Cell) → (PointersNamed τ ρ m → CellHas (NamedValue m) c)
       → Told u (defined c)
