@@ -1,2 +1,3 @@
 -- Facts about operators.
 pub mod Operators
+pub mod Asking

@@ -5,7 +5,7 @@ use mathlib.Core.Logic.{_≢_}
 use mathlib.Core.Path.{_≡_, refl}
 use lib.IntN.{ℤ, _+ℤ_}
 use Rattle.rules.specs.Nodes.{operatorOf}
-use Rattle.rules.specs.Numbers.{ranged, onIntegers, moved, onPointerAndInteger, onPointers}
+use Rattle.rules.specs.Numbers.{ranged, onIntegers, moved, onPointerAndInteger, onPointers, Liveness}
 use Rattle.rules.specs.declared.{Pointer.Pointer, Evaluated.Evaluated}
 
 pub other-integers : (k : ℕ) (x y : ℤ) → k ≢ 1 → k ≢ 2 → k ≢ 3 → k ≢ 4 → k ≢ 5 → k ≢ 6 → k ≢ 7
@@ -21,17 +21,18 @@ other-integers (suc (suc (suc (suc (suc (suc zero)))))) x y a b c d e f g = absu
 other-integers (suc (suc (suc (suc (suc (suc (suc zero))))))) x y a b c d e f g = absurd (g refl)
 other-integers (suc (suc (suc (suc (suc (suc (suc (suc k)))))))) x y a b c d e f g = refl
 
-pub other-pointers : (k : ℕ) (p q : Pointer) → k ≢ 7 → onPointers (operatorOf k) p q ≡ Evaluated.Stopped 40
+pub other-pointers : (live : Liveness) (k : ℕ) (p q : Pointer) → k ≢ 7
+    → onPointers live (operatorOf k) p q ≡ Evaluated.Stopped 40
 unfolding onPointers
-other-pointers zero p q h = refl
-other-pointers (suc zero) p q h = refl
-other-pointers (suc (suc zero)) p q h = refl
-other-pointers (suc (suc (suc zero))) p q h = refl
-other-pointers (suc (suc (suc (suc zero)))) p q h = refl
-other-pointers (suc (suc (suc (suc (suc zero))))) p q h = refl
-other-pointers (suc (suc (suc (suc (suc (suc zero)))))) p q h = refl
-other-pointers (suc (suc (suc (suc (suc (suc (suc zero))))))) p q h = absurd (h refl)
-other-pointers (suc (suc (suc (suc (suc (suc (suc (suc k)))))))) p q h = refl
+other-pointers live zero p q h = refl
+other-pointers live (suc zero) p q h = refl
+other-pointers live (suc (suc zero)) p q h = refl
+other-pointers live (suc (suc (suc zero))) p q h = refl
+other-pointers live (suc (suc (suc (suc zero)))) p q h = refl
+other-pointers live (suc (suc (suc (suc (suc zero))))) p q h = refl
+other-pointers live (suc (suc (suc (suc (suc (suc zero)))))) p q h = refl
+other-pointers live (suc (suc (suc (suc (suc (suc (suc zero))))))) p q h = absurd (h refl)
+other-pointers live (suc (suc (suc (suc (suc (suc (suc (suc k)))))))) p q h = refl
 
 -- 0 and what is above 7 shift
 pub no-shift : (k : ℕ) (p : Pointer) (y : ℤ) → k ≢ 0 → k < 8

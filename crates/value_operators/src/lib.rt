@@ -1,12 +1,19 @@
-// Operators on values: integers and pointers; no memory and no table.
+// Operators on values: integers and pointers; no memory and no table. Who knows which blocks are live, asks first.
 ghost use mathlib.Core.Path.{_≡_};
 ghost use Rattle.rules.specs.Nodes.{operatorOf};
 ghost use Rattle.rules.specs.Numbers.{samePointer, numbered, onIntegers, moved, onPointerAndInteger, onPointers};
 ghost use Rattle.rules.specs.Numbers.{operate};
+ghost use Rattle.value_operators.specs.Blocks.{blocksOf, comparedBy, everyLive};
 use rules::Evaluated;
 use rules::Number;
 use rules::Pointer;
 use rules::Value;
+
+// The blocks that an operator asks about, if it does.
+pub enum Compared {
+    Blocks(u16, u16),
+    Nothing,
+}
 
 // What an operator on integers gives: 43 at an overflow, 44 at a zero divisor.
 fn number(n: Number) -> Evaluated
@@ -59,7 +66,7 @@ fn move_pointer(p: Pointer, n: Number) -> Evaluated
 }
 
 fn operate_pointers(k: u8, p: Pointer, q: Pointer) -> Evaluated
-    ensures { λ r. ⌜ r ≡ onPointers (operatorOf k) p q ⌝ }
+    ensures { λ r. ⌜ r ≡ onPointers everyLive (operatorOf k) p q ⌝ }
 {
     if k == 7 {
         value::truth(same_pointer(p, q))
@@ -81,9 +88,35 @@ fn shift(k: u8, p: Pointer, y: i64) -> Evaluated
     move_pointer(p, number::add(p.offset, y))
 }
 
-// An operator on two values: 40 where it does not take their sorts.
+// The blocks of two pointers.
+fn blocks_of(a: Value, b: Value) -> Compared
+    ensures { λ r. ⌜ r ≡ blocksOf a b ⌝ }
+{
+    match a {
+        Value::Undefined => Compared::Nothing,
+        Value::Integer(_) => Compared::Nothing,
+        Value::Pointer(p) => match b {
+            Value::Undefined => Compared::Nothing,
+            Value::Integer(_) => Compared::Nothing,
+            Value::Pointer(q) => Compared::Blocks(p.name, q.name),
+        },
+    }
+}
+
+// The blocks that operator k asks about: those of two pointers that operator 7 compares.
+pub fn find_compared(k: u8, a: Value, b: Value) -> Compared
+    ensures { λ r. ⌜ r ≡ comparedBy k a b ⌝ }
+{
+    if k == 7 {
+        blocks_of(a, b)
+    } else {
+        Compared::Nothing
+    }
+}
+
+// An operator on two values where the blocks that it asks about are live: 40 where it does not take their sorts.
 pub fn operate(k: u8, a: Value, b: Value) -> Evaluated
-    ensures { λ r. ⌜ r ≡ operate (operatorOf k) a b ⌝ }
+    ensures { λ r. ⌜ r ≡ operate everyLive (operatorOf k) a b ⌝ }
 {
     match a {
         Value::Undefined => Evaluated::Stopped(40),

@@ -7,6 +7,7 @@ use mir.Val.{SFits}
 use Rattle.rules.specs.Nodes.{operatorOf}
 use Rattle.rules.specs.Numbers.{operate}
 use Rattle.rules.specs.declared.{Value.Value}
+use Rattle.value_operators.specs.Blocks.{everyLive}
 use Rattle.value_operators.proofs.operate.Statement.{statement}
 use Rattle.value_operators.proofs.operate.Tie as tie
 
@@ -50,14 +51,14 @@ returns : tie.Need-returns
 unfolding operate
 returns c =
     let s = c .before .before in
-    sym (ap (λ (x : Value). operate (operatorOf (s .args .k)) x (s .args .b)) (c .enum-told .given .1))
+    sym (ap (λ (x : Value). operate everyLive (operatorOf (s .args .k)) x (s .args .b)) (c .enum-told .given .1))
 
 returns-2 : tie.Need-returns-2
 unfolding operate
 returns-2 c =
     let a = c .before .before .before in
     let k = a .before .before .args .k in
-    sym (ap₂ (operate (operatorOf k)) (a .a .given .1) (c .enum-told2 .given .1))
+    sym (ap₂ (operate everyLive (operatorOf k)) (a .a .given .1) (c .enum-told2 .given .1))
 
 returns-3 : tie.Need-returns-3
 unfolding operate
@@ -69,21 +70,21 @@ returns-3 c =
     let f : SFits w64 (a .a .given .0 .0) = record { sfits = p .known-told .given .0 .1 } in
     let g : SFits w64 (q .b .given .0 .0) = record { sfits = c .before .known-told2 .given .0 .1 } in
     (simp (toZ-ofZ f, toZ-ofZ g) at (c .operate-integers .ensures))
-    ∙ sym (ap₂ (operate (operatorOf k)) (a .a .given .1) (q .b .given .1))
+    ∙ sym (ap₂ (operate everyLive (operatorOf k)) (a .a .given .1) (q .b .given .1))
 
 returns-4 : tie.Need-returns-4
 unfolding operate
 returns-4 c =
     let a = c .before .before .before in
     let k = a .before .before .args .k in
-    sym (ap₂ (operate (operatorOf k)) (a .a .given .1) (c .enum-told3 .given .1))
+    sym (ap₂ (operate everyLive (operatorOf k)) (a .a .given .1) (c .enum-told3 .given .1))
 
 returns-5 : tie.Need-returns-5
 unfolding operate
 returns-5 c =
     let a = c .before .before .before in
     let k = a .before .before .args .k in
-    sym (ap₂ (operate (operatorOf k)) (a .a2 .given .1) (c .enum-told4 .given .1))
+    sym (ap₂ (operate everyLive (operatorOf k)) (a .a2 .given .1) (c .enum-told4 .given .1))
 
 returns-6 : tie.Need-returns-6
 unfolding operate
@@ -93,7 +94,7 @@ returns-6 c =
     let k = a .before .before .args .k in
     let g : SFits w64 (q .b2 .given .0 .0) = record { sfits = c .before .known-told4 .given .0 .1 } in
     (simp (toZ-ofZ g) at (c .shift .ensures))
-    ∙ sym (ap₂ (operate (operatorOf k)) (a .a2 .given .1) (q .b2 .given .1))
+    ∙ sym (ap₂ (operate everyLive (operatorOf k)) (a .a2 .given .1) (q .b2 .given .1))
 
 returns-7 : tie.Need-returns-7
 unfolding operate
@@ -102,7 +103,7 @@ returns-7 c =
     let a = q .before .before .before in
     let k = a .before .before .args .k in
     c .operate-pointers .ensures
-    ∙ sym (ap₂ (operate (operatorOf k)) (a .a2 .given .1) (q .b3 .given .1))
+    ∙ sym (ap₂ (operate everyLive (operatorOf k)) (a .a2 .given .1) (q .b3 .given .1))
 
 pub operate-spec : {M : Type 1} → statement M
 operate-spec =

@@ -3,6 +3,7 @@ use borrow.Author.Needs.{needs}
 use mathlib.Core.Path.{sym, ap, _∙_}
 use Rattle.rules.specs.Numbers.{truthValue, onPointers}
 use Rattle.value_operators.proofs.Operators.{other-pointers}
+use Rattle.value_operators.specs.Blocks.{everyLive}
 use Rattle.value_operators.proofs.operate_pointers.Statement.{statement}
 use Rattle.value_operators.proofs.operate_pointers.Tie as tie
 
@@ -20,7 +21,7 @@ returns c =
 returns-2 : tie.Need-returns-2
 returns-2 c =
     let a = c .before .args in
-    sym (other-pointers (a .k) (a .p) (a .q) (c .if1 .left))
+    sym (other-pointers everyLive (a .k) (a .p) (a .q) (c .if1 .left))
 
 pub operate-pointers-spec : {M : Type 1} → statement M
 operate-pointers-spec = tie.close (tie.spec same-pointer-requires truth-requires returns returns-2)

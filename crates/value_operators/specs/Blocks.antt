@@ -1,0 +1,29 @@
+-- The blocks that an operator asks about, apart from the memory that it asks.
+use Prim.Native.Nat.{ℕ}
+use mathlib.Core.Bool.{Bool, true, cond, _&&_}
+use lib.Dec.{eqb}
+use Rattle.rules.specs.Numbers.{Liveness}
+use Rattle.rules.specs.declared.{Value.Value, Evaluated.Evaluated}
+use Rattle.value_operators.specs.declared.Compared.{Compared}
+use Rattle.value_operators.specs.declared.Compared.the-variants as compared
+
+-- the blocks of two pointers
+abbrev pub blocksOf : Value → Value → Compared
+blocksOf Value.Undefined y = compared.Nothing
+blocksOf (Value.Integer x) y = compared.Nothing
+blocksOf (Value.Pointer p) Value.Undefined = compared.Nothing
+blocksOf (Value.Pointer p) (Value.Integer y) = compared.Nothing
+blocksOf (Value.Pointer p) (Value.Pointer q) = compared.Blocks (p .name) (q .name)
+
+-- operator 7 alone compares pointers
+abbrev pub comparedBy : ℕ → Value → Value → Compared
+comparedBy k x y = cond (eqb k 7) (blocksOf x y) compared.Nothing
+
+-- what an operator gives where every block is live
+abbrev pub everyLive : Liveness
+everyLive k = true
+
+-- that, or 47 where a block that it compares is not live
+abbrev pub ifLive : Liveness → Compared → Evaluated → Evaluated
+ifLive live (compared.Blocks x y) e = cond (live x && live y) e (Evaluated.Stopped 47)
+ifLive live compared.Nothing e = e

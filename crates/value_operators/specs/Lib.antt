@@ -1,0 +1,2 @@
+-- What the code of operators is held to.
+pub mod Blocks
