@@ -1,7 +1,7 @@
-// The queries of a pointer into the execution memory.
+// The queries of a pointer into the execution memory, and whether a block there is live.
 ghost use mathlib.Core.Path.{_≡_};
 ghost use Prim.Native.Nat.{_<_};
-ghost use Rattle.rules.specs.Memory.{recordedOf, blockOf, cellOf};
+ghost use Rattle.rules.specs.Memory.{recordedOf, blockOf, liveBlock, cellOf};
 ghost use Rattle.rules.specs.Evaluation.{isInitialised, isValid, initialisedAt, ofLive, queried};
 ghost use Rattle.rules.specs.Nodes.{queryOf};
 ghost use Rattle.rules.specs.Layout.{memoryOf, nameLimit};
@@ -46,6 +46,18 @@ fn is_initialised(mem: &ExecutionMemory, l: Located) -> bool
         Located::At(i) => mark(memory_cells::cell(mem, i)),
         Located::Dead => false,
         Located::Outside => false,
+    }
+}
+
+// Whether a block is live.
+pub fn is_live(mem: &ExecutionMemory, name: u16) -> bool
+    ensures { λ r. ⌜ r ≡ liveBlock (memoryOf (now (mem .entry))) name ⌝ }
+{
+    match memory_cells::block(mem, name) {
+        Block::Unused => false,
+        Block::Fixed(_, _) => true,
+        Block::Freeable(_, _) => true,
+        Block::Dead => false,
     }
 }
 

@@ -1,9 +1,10 @@
-// The observation memory: its eight calls, and clearing it. What stands above it uses these promises only.
+// The observation memory: its nine calls, and clearing it. What stands above it uses these promises only.
 ghost use mathlib.Core.Path.{_≡_};
 ghost use Rattle.rules.specs.Observation.{emptyObservation};
 ghost use Rattle.rules.specs.Layout.{observationImage};
 pub use observation_block_queries::base_address;
 pub use observation_block_queries::block_length;
+pub use observation_block_queries::is_live;
 pub use observation_block_queries::offset;
 pub use observation_deleting::delete_block;
 pub use observation_initialising::initialise;

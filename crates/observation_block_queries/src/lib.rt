@@ -1,9 +1,10 @@
-// The observation memory's queries by the block that a pointer names: base address, offset and block length.
+// The observation memory's queries by the block that a pointer names: base address, offset and block length; and whether
+// a block is live.
 ghost use mathlib.Core.Path.{_≡_};
 ghost use lib.IntN.{pos};
 ghost use Rattle.rules.specs.Trees.{base, offset, blockLength};
 ghost use Rattle.rules.specs.Evaluation.{ofLive};
-ghost use Rattle.rules.specs.Observation.{queryObservation};
+ghost use Rattle.rules.specs.Observation.{liveRecord, queryObservation};
 ghost use Rattle.rules.specs.Layout.{observationOf};
 ghost use Rattle.observation_block_queries.specs.Spans.{spanOf};
 use rules::Evaluated;
@@ -31,6 +32,17 @@ fn span_of(b: Recorded) -> i64
         Recorded::Live(_, n) => n as i64,
         Recorded::Unused => 0,
         Recorded::Dead => 0,
+    }
+}
+
+// Whether a block is recorded live; one never recorded is not.
+pub fn is_live(obs: &ObservationMemory, name: u16) -> bool
+    ensures { λ r. ⌜ r ≡ liveRecord (observationOf (now (obs .entry))) name ⌝ }
+{
+    match observation_records::record_of(obs, name) {
+        Recorded::Unused => false,
+        Recorded::Live(_, _) => true,
+        Recorded::Dead => false,
     }
 }
 

@@ -3,7 +3,7 @@ use Prim.Native.Nat.{ℕ}
 use mathlib.Core.Bool.{Bool, true, cond, _&&_}
 use lib.Dec.{eqb}
 use Rattle.rules.specs.Numbers.{Liveness}
-use Rattle.rules.specs.declared.{Value.Value, Evaluated.Evaluated}
+use Rattle.rules.specs.declared.{Value.Value}
 use Rattle.value_operators.specs.declared.Compared.{Compared}
 use Rattle.value_operators.specs.declared.Compared.the-variants as compared
 
@@ -19,11 +19,11 @@ blocksOf (Value.Pointer p) (Value.Pointer q) = compared.Blocks (p .name) (q .nam
 abbrev pub comparedBy : ℕ → Value → Value → Compared
 comparedBy k x y = cond (eqb k 7) (blocksOf x y) compared.Nothing
 
--- what an operator gives where every block is live
+-- whether the blocks that are compared, if any, are live
+abbrev pub areLive : Liveness → Compared → Bool
+areLive live (compared.Blocks x y) = live x && live y
+areLive live compared.Nothing = true
+
+-- as if every block were live
 abbrev pub everyLive : Liveness
 everyLive k = true
-
--- that, or 47 where a block that it compares is not live
-abbrev pub ifLive : Liveness → Compared → Evaluated → Evaluated
-ifLive live (compared.Blocks x y) e = cond (live x && live y) e (Evaluated.Stopped 47)
-ifLive live compared.Nothing e = e

@@ -82,10 +82,11 @@ equal-leads : (records : ℕ → Recorded) (p q : Pointer)
     → (locatedIn (records (p .name)) (p .offset) ≡ locatedIn (records (q .name)) (q .offset))
     × (locatedIn (records (p .name)) (p .offset) ≢ Located.Dead)
 equal-leads records p q h =
-    let live = operator-7-compares-live-blocks (λ k. isLive (records k)) p q (truth true) h in
-    (ap (λ (r : Pointer). locatedIn (records (r .name)) (r .offset))
-    (same-pointer-is p q (truth-is (samePointer p q) (live .2))),
-    live-not-dead (records (p .name)) (p .offset) (live .0))
+    let live = operator-7-compares-live-blocks (λ k. isLive (records k)) p q (truth true) h in (
+      ap (λ (r : Pointer). locatedIn (records (r .name)) (r .offset))
+          (same-pointer-is p q (truth-is (samePointer p q) (live .2))),
+      live-not-dead (records (p .name)) (p .offset) (live .0),
+    )
 
 -- in the execution memory, whose cells they lead to, and in the observation memory
 pub equal-pointers-lead-to-the-same-place : (m : Memory) (p q : Pointer)
