@@ -9,7 +9,7 @@ use Rattle.rules.specs.Records.{recordCount, kindOf, markOf, childA, childB, li
 use Rattle.rules.specs.Kinds.{target, Sort, sortNumber, expression, place, child}
 use Rattle.rules.specs.Trees.{Expression, Place}
 use Rattle.rules.specs.Nodes.{operatorOf, TargetNode, asExpression, asPlace, sortOfNode, nodeAt}
-use Rattle.rules.specs.Memory.{Memory, readCell, onPlace}
+use Rattle.rules.specs.Memory.{Memory, readCell, onPlace, liveBlock}
 use Rattle.rules.specs.Evaluation.{Variables, Holding, held, pointedBy, addressOf, operated, evaluate, findPlace}
 use Rattle.rules.proofs.acceptance.KindViews.{TargetKind, literal, read, address, operation, shifted, variable, pointed}
 use Rattle.rules.proofs.acceptance.KindViews.{temporary}
@@ -97,7 +97,8 @@ module _ (t : List ℕ) (τ : Holding ℕ) (ρ : Variables) (m : Memory) where
     pub record Binary : Type 0 where
       pub a : Below t n expression (childA t n)
       pub b : Below t n expression (childB t n)
-      pub value : valueAt n ≡ operated (operatorOf (markOf t n)) (valueAt (childA t n)) (valueAt (childB t n))
+      pub value : valueAt n
+          ≡ operated (liveBlock m) (operatorOf (markOf t n)) (valueAt (childA t n)) (valueAt (childB t n))
 
     binary-kind : {k : ℕ} → TargetKind expression k → Stands t n expression → kindOf t n ≡ k
         → k ≢ 1 → k ≢ 2 → k ≢ 3 → Binary
@@ -114,16 +115,17 @@ module _ (t : List ℕ) (τ : Holding ℕ) (ρ : Variables) (m : Memory) where
           a = f .a;
           b = f .b;
           value = by-node (f .node)
-              ∙ sym (ap (λ (k : ℕ). operated (operatorOf k) (valueAt (childA t n)) (valueAt (childB t n))) (f .mark));
+              ∙ sym (ap (λ (k : ℕ). operated (liveBlock m) (operatorOf k) (valueAt (childA t n)) (valueAt (childB t n)))
+              (f .mark));
         }
 
     pub binary : Stands t n expression → kindOf t n ≢ 1 → kindOf t n ≢ 2 → kindOf t n ≢ 3 → Binary
     binary h a b c = binary-kind (stands target t n expression h .kind) h refl a b c
 
     pub operation-arm : {r x y : Evaluated} {i j : ℕ} → Binary → i ≡ childA t n → x ≡ valueAt i
-        → j ≡ childB t n → y ≡ valueAt j → r ≡ operated (operatorOf (markOf t n)) x y → r ≡ valueAt n
+        → j ≡ childB t n → y ≡ valueAt j → r ≡ operated (liveBlock m) (operatorOf (markOf t n)) x y → r ≡ valueAt n
     operation-arm h e x f y r =
-        r ∙ ap₂ (operated (operatorOf (markOf t n))) (x ∙ ap valueAt e) (y ∙ ap valueAt f) ∙ sym (h .value)
+        r ∙ ap₂ (operated (liveBlock m) (operatorOf (markOf t n))) (x ∙ ap valueAt e) (y ∙ ap valueAt f) ∙ sym (h .value)
 
     pub variable-arm : {v : ℕ} → Stands t n place → kindOf t n ≡ 10 → v ≡ markOf t n
         → Found.Place (record { name = ρ v; offset = pos 0 }) ≡ foundAt n

@@ -137,7 +137,8 @@ pub fn evaluate(
                 temporaries,
                 mem,
             ) {
-                Evaluated::Value(b) => evaluation_answers::restate(value_operators::operate(
+                Evaluated::Value(b) => evaluation_answers::restate(evaluation_operators::operate(
+                    mem,
                     table::mark(&table[..], n),
                     a,
                     b,

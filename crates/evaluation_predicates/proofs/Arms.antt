@@ -10,7 +10,7 @@ use Rattle.rules.specs.Records.{kindOf, markOf, childA, childB}
 use Rattle.rules.specs.Kinds.{source, target, Sort, sortNumber, expression, term, predicate, child}
 use Rattle.rules.specs.Nodes.{operatorOf, queryOf, SourceNode, asExpression, asTerm, asPredicate, sortOfNode, nodeAt}
 use Rattle.rules.specs.Numbers.{tested}
-use Rattle.rules.specs.Memory.{Memory, onValue}
+use Rattle.rules.specs.Memory.{Memory, onValue, liveBlock}
 use Rattle.rules.specs.Evaluation.{Variables, operated, evaluate, queryMemory, evaluateTerm, evaluatePredicate}
 use Rattle.rules.specs.Evaluation.{opposite, andThen, orElse, onTest}
 use Rattle.rules.specs.Watched.{Temporaries, temporaryOf}
@@ -149,12 +149,12 @@ module _ (t : List ℕ) (ρ : Variables) (m : Memory) where
     asked-arm h e x q r = r ∙ ap₂ askedOf q (x ∙ ap termAt e) ∙ sym (h .value)
 
     pub combined-arm : {r x y : Evaluated} {o i j : ℕ} → Stands t n term → kindOf t n ≡ 24 → o ≡ markOf t n
-        → i ≡ childA t n → x ≡ termAt i → j ≡ childB t n → y ≡ termAt j → r ≡ operated (operatorOf o) x y
+        → i ≡ childA t n → x ≡ termAt i → j ≡ childB t n → y ≡ termAt j → r ≡ operated (liveBlock m) (operatorOf o) x y
         → r ≡ termAt n
     unfolding evaluateTerm
     combined-arm h d o e x f y r =
         r
-        ∙ (λ i. operated (operatorOf (o i)) ((x ∙ ap termAt e) i) ((y ∙ ap termAt f) i))
+        ∙ (λ i. operated (liveBlock m) (operatorOf (o i)) ((x ∙ ap termAt e) i) ((y ∙ ap termAt f) i))
         ∙ sym (by-term (stands-at source t n 24 term h d .node))
 
     pub valid-arm : {r x : Evaluated} {j : ℕ} → Stands t n predicate → kindOf t n ≡ 30 → j ≡ childA t n
@@ -170,12 +170,12 @@ module _ (t : List ℕ) (ρ : Variables) (m : Memory) where
         r ∙ ap (askedOf 2) (x ∙ ap termAt e) ∙ sym (by-predicate (stands-at source t n 31 predicate h d .node))
 
     pub compared-arm : {r x y : Evaluated} {o i j : ℕ} → Stands t n predicate → kindOf t n ≡ 32 → o ≡ markOf t n
-        → i ≡ childA t n → x ≡ termAt i → j ≡ childB t n → y ≡ termAt j → r ≡ operated (operatorOf o) x y
+        → i ≡ childA t n → x ≡ termAt i → j ≡ childB t n → y ≡ termAt j → r ≡ operated (liveBlock m) (operatorOf o) x y
         → r ≡ predicateAt n
     unfolding evaluatePredicate
     compared-arm h d o e x f y r =
         r
-        ∙ (λ i. operated (operatorOf (o i)) ((x ∙ ap termAt e) i) ((y ∙ ap termAt f) i))
+        ∙ (λ i. operated (liveBlock m) (operatorOf (o i)) ((x ∙ ap termAt e) i) ((y ∙ ap termAt f) i))
         ∙ sym (by-predicate (stands-at source t n 32 predicate h d .node))
 
     pub negated-arm : {r x : Evaluated} {j : ℕ} → Stands t n predicate → kindOf t n ≡ 33 → j ≡ childA t n

@@ -2,7 +2,7 @@
 ghost use mathlib.Core.Path.{_≡_};
 ghost use Rattle.rules.specs.Kinds.{source, sortNumber, term, predicate};
 ghost use Rattle.rules.specs.Nodes.{operatorOf, queryOf, asTerm, asPredicate, sortOfNode, nodeAt};
-ghost use Rattle.rules.specs.Memory.{onValue};
+ghost use Rattle.rules.specs.Memory.{liveBlock, onValue};
 ghost use Rattle.rules.specs.Layout.{memoryOf};
 ghost use Rattle.rules.specs.Evaluation.{operated, queryMemory, evaluateTerm, evaluatePredicate, opposite};
 ghost use Rattle.rules.specs.declared.{Evaluated.Evaluated};
@@ -23,12 +23,17 @@ pub enum Joint {
 }
 
 // An operator on what A and B gave: the first stop stays.
-fn combine(k: u8, a: Evaluated, b: Evaluated) -> Evaluated
-    ensures { λ r. ⌜ r ≡ operated (operatorOf k) a b ⌝ }
+fn combine(mem: &ExecutionMemory, k: u8, a: Evaluated, b: Evaluated) -> Evaluated
+    ensures { λ r. ⌜ r ≡ operated (liveBlock (memoryOf (now (mem .entry)))) (operatorOf k) a b ⌝ }
 {
     match a {
         Evaluated::Value(x) => match b {
-            Evaluated::Value(y) => evaluation_answers::restate(value_operators::operate(k, x, y)),
+            Evaluated::Value(y) => evaluation_answers::restate(evaluation_operators::operate(
+                mem,
+                k,
+                x,
+                y,
+            )),
             Evaluated::Stopped(s) => Evaluated::Stopped(s),
         },
         Evaluated::Stopped(s) => Evaluated::Stopped(s),
@@ -100,7 +105,7 @@ fn evaluate_term(
             let b = table::child_b(&table[..], n);
             let x = evaluate_term(table, a, variables, temporaries, mem);
             let y = evaluate_term(table, b, variables, temporaries, mem);
-            combine(operator, x, y)
+            combine(mem, operator, x, y)
         }
         _ => {
             let x = evaluate_term(table, a, variables, temporaries, mem);
@@ -131,7 +136,7 @@ pub fn evaluate_predicate(
             let operator = table::mark(&table[..], n);
             let x = evaluate_term(table, a, variables, temporaries, mem);
             let y = evaluate_term(table, b, variables, temporaries, mem);
-            combine(operator, x, y)
+            combine(mem, operator, x, y)
         }
         33 => oppose(evaluate_predicate(table, a, variables, temporaries, mem)),
         _ => {

@@ -1,5 +1,8 @@
 -- `evaluation_predicates::combine` meets its contract. Assumes nothing.
+use denote.Ref.{now}
 use mathlib.Core.Path.{sym, ap, ap₂, _∙_}
+use Rattle.rules.specs.Layout.{memoryOf}
+use Rattle.rules.specs.Memory.{liveBlock}
 use Rattle.rules.specs.Nodes.{operatorOf}
 use Rattle.rules.specs.Evaluation.{operated}
 use borrow.Author.Needs.{needs}
@@ -29,15 +32,18 @@ returns c =
     let o = c .before in
     let b = o .before .before in
     let a = b .before .before .before in
+    let s = a .before .before in
     c .restate .ensures ∙ o .operate .ensures ∙ sym
-    (ap₂ (operated (operatorOf (a .before .before .args .k))) (a .a .given .1)
+    (ap₂ (operated (liveBlock (memoryOf (now (s .args .mem)))) (operatorOf (s .args .k))) (a .a .given .1)
     (b .b .given .1))
 
 returns-2 : tie.Need-returns-2
 returns-2 c =
     let b = c .before in
     let a = b .before .before .before in
-    sym (ap₂ (operated (operatorOf (a .before .before .args .k))) (a .a .given .1) (b .b2 .given .1))
+    let s = a .before .before in
+    sym (ap₂ (operated (liveBlock (memoryOf (now (s .args .mem)))) (operatorOf (s .args .k))) (a .a .given .1)
+    (b .b2 .given .1))
 
 returns-3 : tie.Need-returns-3
 returns-3 c = rw (c .before .a2 .given .1)

@@ -12,7 +12,7 @@ use Rattle.rules.specs.Records.{kindOf, markOf, childB}
 use Rattle.rules.specs.Kinds.{expression}
 use Rattle.rules.specs.Nodes.{operatorOf}
 use Rattle.rules.specs.Numbers.{operate}
-use Rattle.rules.specs.Memory.{Memory}
+use Rattle.rules.specs.Memory.{Memory, liveBlock}
 use Rattle.rules.specs.Layout.{memoryOf}
 use Rattle.rules.specs.Evaluation.{Variables, Holding, operated}
 use Rattle.rules.specs.Watched.{temporaryOf}
@@ -31,7 +31,7 @@ use Rattle.evaluation.proofs.evaluate_operand.Reads as evaluate-operand
 use Rattle.evaluation.proofs.find_place.Reads as find-place
 use Rattle.evaluation_answers.proofs.address.Reads as address-reads
 use Rattle.evaluation.proofs.fetch.Reads as fetch-reads
-use Rattle.value_operators.proofs.operate.Reads as operate-reads
+use Rattle.evaluation_operators.proofs.operate.Reads as operate-reads
 use Rattle.evaluation_answers.proofs.restate.Reads as restate-reads
 use Rattle.table.proofs.child_a.Reads as child-a-reads
 use Rattle.table.proofs.child_b.Reads as child-b-reads
@@ -225,8 +225,8 @@ module _ (t : ℕ) where
       (i .child-a3 .ensures) (a .evaluate-operand .ensures) (j .child-b .ensures) (b .evaluate-operand2 .ensures)
       (c .restate .ensures
       ∙ o .operate .ensures
-      ∙ ap (λ (k : ℕ). operate (operatorOf k) (x .a .given .0 .0) (y .b .given .0 .0)) (w .mark .ensures)
-      ∙ sym (ap₂ (operated (operatorOf (markOf (now (s .args .table)) (s .args .n)))) (x .a .given .1)
+      ∙ ap (λ (k : ℕ). operate (liveBlock (memory s)) (operatorOf k) (x .a .given .0 .0) (y .b .given .0 .0)) (w .mark .ensures)
+      ∙ sym (ap₂ (operated (liveBlock (memory s)) (operatorOf (markOf (now (s .args .table)) (s .args .n)))) (x .a .given .1)
       (y .b .given .1)))
 
   returns-5 : lts.Need-returns-5 claims entry reads.Post
@@ -241,7 +241,7 @@ module _ (t : ℕ) where
       let s = m .before .before .before in
       operation-arm (now (s .args .table)) (temporaries s) (variables s) (memory s) (s .args .n) (is-operation m)
       (i .child-a3 .ensures) (a .evaluate-operand .ensures) (j .child-b .ensures) (b .evaluate-operand2 .ensures)
-      (sym (ap₂ (operated (operatorOf (markOf (now (s .args .table)) (s .args .n)))) (x .a .given .1) (y .k .given .1)))
+      (sym (ap₂ (operated (liveBlock (memory s)) (operatorOf (markOf (now (s .args .table)) (s .args .n)))) (x .a .given .1) (y .k .given .1)))
 
   returns-6 : lts.Need-returns-6 claims entry reads.Post
   returns-6 c =
@@ -255,7 +255,7 @@ module _ (t : ℕ) where
       let v = valueAt T (temporaries s) (variables s) (memory s) (childB T n) in
       operation-arm (now (s .args .table)) (temporaries s) (variables s) (memory s) (s .args .n) (is-operation m)
       (i .child-a3 .ensures) (a .evaluate-operand .ensures) refl refl
-      (sym (ap (λ (u : Evaluated). operated (operatorOf (markOf T n)) u v) (x .k2 .given .1)))
+      (sym (ap (λ (u : Evaluated). operated (liveBlock (memory s)) (operatorOf (markOf T n)) u v) (x .k2 .given .1)))
 
   pub closed : {M : Type 1} → lts.Closed claims entry reads.Post M
   closed = lts.spec claims entry reads.Post
