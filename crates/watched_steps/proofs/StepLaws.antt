@@ -10,7 +10,7 @@ use Rattle.rules.specs.Trees.{blockLength}
 use Rattle.rules.specs.Nodes.{operatorOf, queryOf, HasSort}
 use Rattle.rules.specs.Memory.{onValue}
 use Rattle.rules.specs.Evaluation.{operated, opposite}
-use Rattle.rules.specs.Observation.{Observation, queryObservation}
+use Rattle.rules.specs.Observation.{Observation, liveRecord, queryObservation}
 use Rattle.rules.specs.Watched.{Temporaries, heldIn}
 use Rattle.rules.specs.declared.{Evaluated.Evaluated}
 use Rattle.evaluation_temporaries.specs.Bytes.{temporariesOf}
@@ -42,7 +42,7 @@ take-last (inr (inr e)) a b = e
 
 module _ (c : ℕ) (τ : Temporaries) (n : ℕ) (o : Observation) {k : ℕ} where
   pub take-operation-is : k ≡ 63
-      → takenOf k c τ n o ≡ operated (operatorOf c) (heldIn τ (suc n)) (heldIn τ (suc (suc n)))
+      → takenOf k c τ n o ≡ operated (liveRecord o) (operatorOf c) (heldIn τ (suc n)) (heldIn τ (suc (suc n)))
   take-operation-is e = ap (λ (j : ℕ). takenOf j c τ n o) e
 
   pub take-query-is : k ≡ 64
@@ -56,7 +56,7 @@ module _ (c : ℕ) (τ : Temporaries) (n : ℕ) (o : Observation) {k : ℕ} wher
 module _ {l l′ : List ℕ} {r m n : ℕ} (o : Observation) (e : m ≡ n) where
   pub takes-operation : {k x c : ℕ} → k ≡ 63 → x ≡ c
       → Takes l l′ r m
-      (operated (operatorOf x) (heldIn (temporariesOf l) (suc m)) (heldIn (temporariesOf l) (suc (suc m))))
+      (operated (liveRecord o) (operatorOf x) (heldIn (temporariesOf l) (suc m)) (heldIn (temporariesOf l) (suc (suc m))))
       → Takes l l′ r n (takenOf k c (temporariesOf l) n o)
   takes-operation {k} {x} {c} q d h = takes-is (take-operation-is c (temporariesOf l) n o q) (rw (e, d) at h)
 

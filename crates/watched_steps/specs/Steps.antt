@@ -9,7 +9,7 @@ use lib.ListN.{set}
 use Rattle.rules.specs.Nodes.{operatorOf, queryOf}
 use Rattle.rules.specs.Memory.{onValue}
 use Rattle.rules.specs.Evaluation.{operated, opposite}
-use Rattle.rules.specs.Observation.{Observation, queryObservation}
+use Rattle.rules.specs.Observation.{Observation, liveRecord, queryObservation}
 use Rattle.rules.specs.Watched.{Temporaries, heldIn}
 use Rattle.rules.specs.declared.{Evaluated.Evaluated, Temporary.Temporary}
 use Rattle.evaluation_temporaries.specs.Bytes.{temporariesOf}
@@ -33,5 +33,5 @@ IsTake k = (k ≡ 63) ⊎ (k ≡ 64) ⊎ (k ≡ 65)
 
 abbrev pub takenOf : ℕ → ℕ → Temporaries → ℕ → Observation → Evaluated
 takenOf k c τ n o =
-    cond (eqb k 63) (operated (operatorOf c) (heldIn τ (suc n)) (heldIn τ (suc (suc n))))
+    cond (eqb k 63) (operated (liveRecord o) (operatorOf c) (heldIn τ (suc n)) (heldIn τ (suc (suc n))))
     (onValue (heldIn τ (suc n)) Evaluated.Stopped (cond (eqb k 64) (queryObservation (queryOf c) o) opposite))

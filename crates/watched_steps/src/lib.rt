@@ -6,13 +6,15 @@ ghost use Rattle.rules.specs.Sizes.{temporaryCount};
 ghost use Rattle.rules.specs.Kinds.{statement, target};
 ghost use Rattle.rules.specs.Records.{kindOf, markOf, childC};
 ghost use Rattle.rules.specs.Nodes.{operatorOf, queryOf, HasSort};
+ghost use Rattle.rules.specs.Numbers.{operate};
 ghost use Rattle.rules.specs.Memory.{onValue};
 ghost use Rattle.rules.specs.Evaluation.{operated, opposite, condition};
-ghost use Rattle.rules.specs.Observation.{queryObservation};
+ghost use Rattle.rules.specs.Observation.{liveRecord, queryObservation};
 ghost use Rattle.rules.specs.Watched.{heldIn};
 ghost use Rattle.rules.specs.Layout.{observationOf};
 ghost use Rattle.rules.specs.declared.{Evaluated.Evaluated};
 ghost use Rattle.evaluation_temporaries.specs.Bytes.{temporariesOf};
+ghost use Rattle.value_operators.specs.Blocks.{areLive};
 ghost use Rattle.watched_steps.specs.Steps.{Takes, IsTake, takenOf};
 use rules::Evaluated;
 use rules::ObservationMemory;
@@ -20,6 +22,7 @@ use rules::Table;
 use rules::Temporaries;
 use rules::Test;
 use rules::Value;
+use value_operators::Compared;
 
 // 60, 61: temporary n takes a value; nothing changes where there is none.
 pub fn take_evaluated(temporaries: &mut Temporaries, n: usize, e: Evaluated) -> u32
@@ -35,20 +38,43 @@ pub fn take_evaluated(temporaries: &mut Temporaries, n: usize, e: Evaluated) -> 
     }
 }
 
+// Whether the blocks that are compared, if any, are recorded live.
+fn are_live(obs: &ObservationMemory, c: Compared) -> bool
+    ensures { λ r. ⌜ r ≡ areLive (liveRecord (observationOf (now (obs .entry)))) c ⌝ }
+{
+    match c {
+        Compared::Blocks(x, y) => {
+            if observation::is_live(obs, x) {
+                observation::is_live(obs, y)
+            } else {
+                false
+            }
+        }
+        Compared::Nothing => true,
+    }
+}
+
+// An operator on two values: 47 where it compares a pointer into a block that is not recorded live.
+fn operate(obs: &ObservationMemory, k: u8, a: Value, b: Value) -> Evaluated
+    ensures { λ r. ⌜ r ≡ operate (liveRecord (observationOf (now (obs .entry)))) (operatorOf k) a b ⌝ }
+{
+    if are_live(obs, value_operators::find_compared(k, a, b)) {
+        value_operators::operate(k, a, b)
+    } else {
+        Evaluated::Stopped(47)
+    }
+}
+
 // 63: temporary n takes operator k of the two after it.
-fn take_operation(temporaries: &mut Temporaries, n: usize, k: u8) -> u32
+fn take_operation(temporaries: &mut Temporaries, obs: &ObservationMemory, n: usize, k: u8) -> u32
     requires { ⌜ n + 2 < temporaryCount ⌝ }
     ensures { λ r. ⌜ Takes (now (temporaries .entry)) (now (temporaries .exit)) r n
-        (operated (operatorOf k) (heldIn (temporariesOf (now (temporaries .entry))) (suc n))
+        (operated (liveRecord (observationOf (now (obs .entry)))) (operatorOf k) (heldIn (temporariesOf (now (temporaries .entry))) (suc n))
         (heldIn (temporariesOf (now (temporaries .entry))) (suc (suc n)))) ⌝ }
 {
     match evaluation_temporaries::read_temporary(&*temporaries, n + 1) {
         Evaluated::Value(a) => match evaluation_temporaries::read_temporary(&*temporaries, n + 2) {
-            Evaluated::Value(b) => take_evaluated(
-                temporaries,
-                n,
-                value_operators::operate(k, a, b),
-            ),
+            Evaluated::Value(b) => take_evaluated(temporaries, n, operate(obs, k, a, b)),
             Evaluated::Stopped(c) => c,
         },
         Evaluated::Stopped(c) => c,
@@ -107,7 +133,7 @@ pub fn take(table: &Table, n: usize, temporaries: &mut Temporaries, obs: &Observ
     let first = table::mark(&table[..], n) as usize;
     let chosen = table::child_c(&table[..], n) as u8;
     match kind {
-        63 => take_operation(temporaries, first, chosen),
+        63 => take_operation(temporaries, obs, first, chosen),
         64 => take_query(temporaries, obs, first, chosen),
         _ => take_not(temporaries, first),
     }

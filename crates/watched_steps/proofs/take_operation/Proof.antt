@@ -6,6 +6,8 @@ use denote.Ref.{now}
 use Rattle.rules.specs.declared.{Evaluated.Evaluated}
 use Rattle.rules.specs.Nodes.{operatorOf}
 use Rattle.rules.specs.Evaluation.{operated}
+use Rattle.rules.specs.Observation.{liveRecord}
+use Rattle.rules.specs.Layout.{observationOf}
 use Rattle.rules.specs.Watched.{heldIn}
 use Rattle.evaluation_temporaries.specs.Bytes.{temporariesOf}
 use Rattle.evaluation_temporaries.proofs.Reading.{holds-at}
@@ -51,8 +53,9 @@ returns c =
     let s = a .before .before .before .before in
     let n = s .args .n in
     let τ = temporariesOf (now (s .args .temporaries)) in
+    let live = liveRecord (observationOf (now (s .args .obs))) in
     takes-is
-    (ap₂ (operated (operatorOf (s .args .k)))
+    (ap₂ (operated live (operatorOf (s .args .k)))
     (holds-at τ (n + 1) (suc n) (omega arith) (a .before .before .read-temporary .ensures) (a .a .given .1))
     (holds-at τ (n + 2) (suc (suc n)) (omega arith) (b .before .before .read-temporary2 .ensures) (b .b .given .1))
     ∙ sym (c .before .operate .ensures)) (c .take-evaluated .ensures)
@@ -64,8 +67,9 @@ returns-2 c =
     let s = a .before .before .before .before in
     let n = s .args .n in
     let τ = temporariesOf (now (s .args .temporaries)) in
+    let live = liveRecord (observationOf (now (s .args .obs))) in
     takes-stop (now (s .args .temporaries)) _ n
-    (ap₂ (operated (operatorOf (s .args .k)))
+    (ap₂ (operated live (operatorOf (s .args .k)))
     (holds-at τ (n + 1) (suc n) (omega arith) (a .before .before .read-temporary .ensures) (a .a .given .1))
     (holds-at τ (n + 2) (suc (suc n)) (omega arith) (b .before .before .read-temporary2 .ensures) (b .c .given .1)))
 
@@ -75,8 +79,9 @@ returns-3 c =
     let s = a .before .before .before .before in
     let n = s .args .n in
     let τ = temporariesOf (now (s .args .temporaries)) in
+    let live = liveRecord (observationOf (now (s .args .obs))) in
     takes-stop (now (s .args .temporaries)) _ n
-    (ap (λ (x : Evaluated). operated (operatorOf (s .args .k)) x (heldIn τ (suc (suc n))))
+    (ap (λ (x : Evaluated). operated live (operatorOf (s .args .k)) x (heldIn τ (suc (suc n))))
     (holds-at τ (n + 1) (suc n) (omega arith) (a .before .before .read-temporary .ensures) (a .c2 .given .1)))
 
 pub take-operation-spec : {M : Type 1} → statement M
