@@ -28,12 +28,7 @@ fn combine(mem: &ExecutionMemory, k: u8, a: Evaluated, b: Evaluated) -> Evaluate
 {
     match a {
         Evaluated::Value(x) => match b {
-            Evaluated::Value(y) => evaluation_answers::restate(evaluation_operators::operate(
-                mem,
-                k,
-                x,
-                y,
-            )),
+            Evaluated::Value(y) => evaluation_operators::operate(mem, k, x, y),
             Evaluated::Stopped(s) => Evaluated::Stopped(s),
         },
         Evaluated::Stopped(s) => Evaluated::Stopped(s),
@@ -105,7 +100,7 @@ fn evaluate_term(
             let b = table::child_b(&table[..], n);
             let x = evaluate_term(table, a, variables, temporaries, mem);
             let y = evaluate_term(table, b, variables, temporaries, mem);
-            combine(mem, operator, x, y)
+            evaluation_answers::restate(combine(mem, operator, x, y))
         }
         _ => {
             let x = evaluate_term(table, a, variables, temporaries, mem);
@@ -136,7 +131,7 @@ pub fn evaluate_predicate(
             let operator = table::mark(&table[..], n);
             let x = evaluate_term(table, a, variables, temporaries, mem);
             let y = evaluate_term(table, b, variables, temporaries, mem);
-            combine(mem, operator, x, y)
+            evaluation_answers::restate(combine(mem, operator, x, y))
         }
         33 => oppose(evaluate_predicate(table, a, variables, temporaries, mem)),
         _ => {

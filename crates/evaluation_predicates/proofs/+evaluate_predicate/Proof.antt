@@ -61,14 +61,14 @@ module _ (t : ℕ) where
     mark-reads.Learnt,
     combine-reads.Asked,
     combine-reads.Learnt,
+    restate-reads.Asked,
+    restate-reads.Learnt,
     deeper,
     reads.Post,
     oppose-reads.Asked,
     oppose-reads.Learnt,
     join-reads.Asked,
     join-reads.Learnt,
-    restate-reads.Asked,
-    restate-reads.Learnt,
   )
 
   abbrev Start : Type 0
@@ -158,6 +158,9 @@ module _ (t : ℕ) where
   combine-requires : lts.Need-combine-requires claims entry reads.Post
   combine-requires c κs = tt
 
+  restate-requires : lts.Need-restate-requires claims entry reads.Post
+  restate-requires c κs = tt
+
   evaluate-predicate-requires : lts.Need-evaluate-predicate-requires claims entry reads.Post
   evaluate-predicate-requires c κs =
       let r = c .before in
@@ -192,8 +195,8 @@ module _ (t : ℕ) where
       let l = joined m .b in
       rw (r .child-b .ensures) (omega arith, l .2)
 
-  restate-requires : lts.Need-restate-requires claims entry reads.Post
-  restate-requires c κs = tt
+  restate-requires-2 : lts.Need-restate-requires-2 claims entry reads.Post
+  restate-requires-2 c κs = tt
 
   returns : lts.Need-returns claims entry reads.Post
   returns c =
@@ -217,7 +220,8 @@ module _ (t : ℕ) where
 
   returns-3 : lts.Need-returns-3 claims entry reads.Post
   returns-3 c =
-      let y = c .before in
+      let k = c .before in
+      let y = k .before in
       let x = y .before in
       let o = x .before in
       let m = o .before .before in
@@ -225,7 +229,8 @@ module _ (t : ℕ) where
       let s = r .before .before .before .before .before .before in
       compared-arm (now (s .args .table)) (variables s) (memory s) (s .args .n) (s .pre .1)
       (kind-is r (m .match .keys3)) (o .mark .ensures) (r .before .before .child-a .ensures)
-      (x .evaluate-term3 .ensures) (r .child-b .ensures) (y .evaluate-term4 .ensures) (c .combine .ensures)
+      (x .evaluate-term3 .ensures) (r .child-b .ensures) (y .evaluate-term4 .ensures)
+      (c .restate .ensures ∙ k .combine .ensures)
 
   returns-4 : lts.Need-returns-4 claims entry reads.Post
   returns-4 c =
@@ -266,7 +271,7 @@ module _ (t : ℕ) where
       (ap (predicateAt T (variables s) (memory s)) (r .child-b .ensures)) in
       joined-arm (now (s .args .table)) (variables s) (memory s) (s .args .n) (joined m)
       (a .child-a .ensures) (x .evaluate-predicate2 .ensures)
-      (_∙_ {b = p .evaluate-predicate3 .result} (c .restate .ensures) b)
+      (_∙_ {b = p .evaluate-predicate3 .result} (c .restate2 .ensures) b)
       (ap (λ (k : ℕ). eqb k 35) (k .kind .ensures)) (sym (o .enum-told .given .1) ∙ u .join .ensures)
 
   closed : {M : Type 1} → lts.Closed claims entry reads.Post M
@@ -282,6 +287,7 @@ module _ (t : ℕ) where
       evaluate-term-requires-3
       evaluate-term-requires-4
       combine-requires
+      restate-requires
       evaluate-predicate-requires
       oppose-requires
       evaluate-predicate-requires-2
@@ -289,7 +295,7 @@ module _ (t : ℕ) where
       enum-known-e
       enum-told
       evaluate-predicate-requires-3
-      restate-requires
+      restate-requires-2
       returns
       returns-2
       returns-3

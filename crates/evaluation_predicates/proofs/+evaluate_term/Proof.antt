@@ -55,10 +55,10 @@ module _ (t : ℕ) where
     reads.Post,
     combine-reads.Asked,
     combine-reads.Learnt,
-    ask-reads.Asked,
-    ask-reads.Learnt,
     restate-reads.Asked,
     restate-reads.Learnt,
+    ask-reads.Asked,
+    ask-reads.Learnt,
   )
 
   abbrev Start : Type 0
@@ -133,6 +133,9 @@ module _ (t : ℕ) where
   combine-requires : lts.Need-combine-requires claims entry reads.Post
   combine-requires c κs = tt
 
+  restate-requires : lts.Need-restate-requires claims entry reads.Post
+  restate-requires c κs = tt
+
   evaluate-term-requires-3 : lts.Need-evaluate-term-requires-3 claims entry reads.Post
   evaluate-term-requires-3 c κs =
       let r = c .before in
@@ -149,8 +152,8 @@ module _ (t : ℕ) where
   ask-requires : lts.Need-ask-requires claims entry reads.Post
   ask-requires c κs = tt
 
-  restate-requires : lts.Need-restate-requires claims entry reads.Post
-  restate-requires c κs = tt
+  restate-requires-2 : lts.Need-restate-requires-2 claims entry reads.Post
+  restate-requires-2 c κs = tt
 
   returns : lts.Need-returns claims entry reads.Post
   returns c =
@@ -163,7 +166,8 @@ module _ (t : ℕ) where
 
   returns-2 : lts.Need-returns-2 claims entry reads.Post
   returns-2 c =
-      let y = c .before in
+      let k = c .before in
+      let y = k .before in
       let x = y .before in
       let j = x .before in
       let o = j .before .before in
@@ -172,7 +176,8 @@ module _ (t : ℕ) where
       let s = r .before .before .before .before in
       combined-arm (now (s .args .table)) (variables s) (memory s) (s .args .n) (s .pre .1)
       (kind-is r (m .match .keys2)) (o .mark .ensures) (r .child-a .ensures) (x .evaluate-term .ensures)
-      (j .child-b .ensures) (y .evaluate-term2 .ensures) (c .combine .ensures)
+      (j .child-b .ensures) (y .evaluate-term2 .ensures)
+      (c .restate .ensures ∙ k .combine .ensures)
 
   returns-3 : lts.Need-returns-3 claims entry reads.Post
   returns-3 c =
@@ -183,7 +188,7 @@ module _ (t : ℕ) where
       let s = r .before .before .before .before in
       asked-arm (now (s .args .table)) (variables s) (memory s) (s .args .n) (asked m)
       (r .child-a .ensures) (x .evaluate-term3 .ensures)
-      (ap (λ (k : ℕ). k - 18) (r .before .before .kind .ensures)) (c .restate .ensures ∙ q .ask .ensures)
+      (ap (λ (k : ℕ). k - 18) (r .before .before .kind .ensures)) (c .restate2 .ensures ∙ q .ask .ensures)
 
   closed : {M : Type 1} → lts.Closed claims entry reads.Post M
   closed = lts.spec claims entry reads.Post
@@ -195,10 +200,11 @@ module _ (t : ℕ) where
       evaluate-term-requires
       evaluate-term-requires-2
       combine-requires
+      restate-requires
       evaluate-term-requires-3
       sub-ask
       ask-requires
-      restate-requires
+      restate-requires-2
       returns
       returns-2
       returns-3

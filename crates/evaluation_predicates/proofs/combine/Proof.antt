@@ -18,9 +18,6 @@ enum-known-b c = search needs
 operate-requires : tie.Need-operate-requires
 operate-requires c κs = search needs
 
-restate-requires : tie.Need-restate-requires
-restate-requires c κs = search needs
-
 enum-known-b-2 : tie.Need-enum-known-b-2
 enum-known-b-2 c = search needs
 
@@ -29,11 +26,10 @@ enum-known-a-2 c = search needs
 
 returns : tie.Need-returns
 returns c =
-    let o = c .before in
-    let b = o .before .before in
+    let b = c .before .before in
     let a = b .before .before .before in
     let s = a .before .before in
-    c .restate .ensures ∙ o .operate .ensures ∙ sym
+    c .operate .ensures ∙ sym
     (ap₂ (operated (liveBlock (memoryOf (now (s .args .mem)))) (operatorOf (s .args .k))) (a .a .given .1)
     (b .b .given .1))
 
@@ -55,7 +51,6 @@ combine-spec =
     enum-known-a
     enum-known-b
     operate-requires
-    restate-requires
     enum-known-b-2
     enum-known-a-2
     returns
