@@ -21,3 +21,4 @@ pub mod TargetRuns
 pub mod EndedAt
 pub mod StoppedAt
 pub mod StoppedVariables
+pub mod AskedMemories

@@ -8,7 +8,7 @@ use Rattle.rules.specs.Memory.{Memory, Change, changed, stopped, changeIn}
 use Rattle.rules.specs.Evaluation.{Variables}
 use Rattle.rules.specs.Evaluation.{condition, opposite}
 use Rattle.rules.specs.Plain.{asserted}
-use Rattle.rules.specs.Observation.{Noted, noted, refused, recordOf, isMarked, liveRecord}
+use Rattle.rules.specs.Observation.{Noted, noted, refused, recordOf, isMarked}
 use Rattle.rules.specs.Watched.{WatchedState, temporaryOf, withMemory, valueIn, holding, taken}
 use Rattle.rules.specs.Watched.{observed}
 use Rattle.rules.specs.Answers.{operationEndings}
@@ -16,6 +16,7 @@ use Rattle.rules.proofs.lists.Among.{Among}
 use Rattle.rules.proofs.runs.Keeping.{AnyValue, AnyState, Gives, TestStops, on-value, on-pointer}
 use Rattle.rules.proofs.runs.Operations.{operated-gives, queried-gives, opposite-gives, condition-stops}
 use Rattle.rules.proofs.runs.TargetRuns.{NotedKeeps, operating, querying, negating, storing, deleting, initialising}
+use Rattle.rules.proofs.runs.TargetRuns.{askedIn}
 use Rattle.rules.proofs.runs.Calls.{store-called, delete-called, initialise-called}
 use Rattle.rules.proofs.runs.EndedAt.{ChangeStops}
 use Rattle.rules.proofs.memory.Invariant.{Onward, changedMemory}
@@ -87,7 +88,7 @@ module _ (ρ : Variables) (x : WatchedState) (j : WatchStarted ρ x) where
 
   pub operating-silent : (q : Operator) (n : ℕ) → Gives AnyValue Silent (operating q n x)
   operating-silent q n =
-      operated-gives AnyValue Silent (λ z e. tt) (λ p z k e. tt) operations-silent (liveRecord (x .observation)) q
+      operated-gives AnyValue Silent (λ z e. tt) (λ p z k e. tt) operations-silent (askedIn x) q
       (holding x (suc n)) (holding x (suc (suc n))) (held-silent (suc n)) (held-silent (suc (suc n)))
 
   pub querying-silent : (q : Query) (n : ℕ) → Gives AnyValue Silent (querying q n x)

@@ -16,7 +16,7 @@ use Rattle.rules.specs.Memory.{allocated, freed}
 use Rattle.rules.specs.Evaluation.{Variables, Holding, noTemporaries, held, evaluate, findPlace, addressOf}
 use Rattle.rules.specs.Evaluation.{evaluateSource, findSource, evaluatePredicate, condition}
 use Rattle.rules.specs.Evaluation.{extend}
-use Rattle.rules.specs.Observation.{Observation, Noted, liveRecord}
+use Rattle.rules.specs.Observation.{Observation, Noted}
 use Rattle.rules.specs.Observation as observation
 use Rattle.rules.specs.Flow.{Outcome, into, after, runBy}
 use Rattle.rules.specs.Plain.{asserted, run, startVariables}
@@ -31,7 +31,7 @@ use Rattle.rules.proofs.runs.Outcomes.{Onwards, Reaches, staying, reach
 use Rattle.rules.proofs.runs.Outcomes.{reach-after}
 use Rattle.rules.proofs.runs.Outcomes.{reach-decide, reach-turns, reach-let, change-in, made-in, asserted-keeps}
 use Rattle.rules.proofs.runs.TargetRuns.{NotedKeeps, taken-keeps, observed-keeps, operating, querying, negating}
-use Rattle.rules.proofs.runs.TargetRuns.{storing, deleting, initialising, making, closing}
+use Rattle.rules.proofs.runs.TargetRuns.{storing, deleting, initialising, making, closing, askedIn}
 use Rattle.rules.proofs.runs.Calls.{store-called, delete-called, initialise-called}
 use Rattle.rules.proofs.lists.Lists.{all-getD, all-set, all-replicate}
 use Rattle.rules.specs.Fits.{FitsName, FitsPointer, FitsValue, FitsTemporary, All, VariablesFit}
@@ -230,7 +230,7 @@ module _ (J : Memory → Type 0) (v : MemoryInvariant J) (O : Observation → Ty
       (v .fitting (x .memory) (i .memory-kept)) σ e (h .2))
   watch-keeps (takeOperation s n q) σ h ρ r x f i =
       taken-kept x i s ρ f n (operating q n x)
-      (operated-fits (liveRecord (x .observation)) q (holding x (suc n)) (holding x (suc (suc n))) (held-kept x i (suc n))
+      (operated-fits (askedIn x) q (holding x (suc n)) (holding x (suc (suc n))) (held-kept x i (suc n))
       (held-kept x i (suc (suc n))))
   watch-keeps (takeQuery s n q) σ h ρ r x f i =
       taken-kept x i s ρ f n (querying q n x)

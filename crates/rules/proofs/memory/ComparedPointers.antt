@@ -9,39 +9,29 @@ use lib.Dec.{eqb, ltb}
 use lib.IntN.{ℤ, pos, negsuc}
 use Rattle.rules.specs.Nodes.{operatorOf}
 use Rattle.rules.specs.Numbers.{Liveness, sameInteger, samePointer, truth, truthValue, onPointers, operate}
+use Rattle.rules.specs.Numbers.{onPointerAndInteger}
 use Rattle.rules.specs.Memory.{Memory, recordedOf, isLive, blockOf, liveBlock, locatedIn, locate}
 use Rattle.rules.specs.Observation.{Observation, recordOf, liveRecord, locateMark}
 use Rattle.rules.proofs.lists.BooleanLaws.{and-split}
 use Rattle.rules.specs.Types.{Pointer, Value, Evaluated, Located, Recorded}
 
--- operator 7 on two pointers, with whoever is asked
-abbrev equated : Liveness → Pointer → Pointer → Evaluated
-equated live p q = operate live (operatorOf 7) (Value.Pointer p) (Value.Pointer q)
-
-equated-is : (live : Liveness) (p q : Pointer)
-    → equated live p q
-    ≡ cond (live (p .name) && live (q .name)) (truthValue (samePointer p q)) (Evaluated.Stopped 47)
-unfolding operate onPointers
-equated-is live p q = refl
-
 -- 02 §4: "Operator 7 with a pointer into a dead block on either side ends 47"
 pub operator-7-ends-47 : (live : Liveness) (p q : Pointer) → (live (p .name) ≡ false) ⊎ (live (q .name) ≡ false)
     → operate live (operatorOf 7) (Value.Pointer p) (Value.Pointer q) ≡ Evaluated.Stopped 47
-operator-7-ends-47 live p q h = equated-is live p q ∙ go (live (p .name)) (live (q .name)) h
+unfolding operate onPointers
+operator-7-ends-47 live p q (inl e) = rw e
+operator-7-ends-47 live p q (inr e) = rw e (neither (live (p .name)))
   where
-    go : (a b : Bool) → (a ≡ false) ⊎ (b ≡ false)
-        → cond (a && b) (truthValue (samePointer p q)) (Evaluated.Stopped 47) ≡ Evaluated.Stopped 47
-    go false b h = refl
-    go true false h = refl
-    go true true (inl e) = absurd (false≢true (sym e))
-    go true true (inr e) = absurd (false≢true (sym e))
+    neither : (b : Bool) → cond (b && false) (truthValue (samePointer p q)) (Evaluated.Stopped 47) ≡ Evaluated.Stopped 47
+    neither true = refl
+    neither false = refl
 
 -- It gives a value only where both blocks are live: 1 where name and offset are the same, else 0.
 pub operator-7-compares-live-blocks : (live : Liveness) (p q : Pointer) (v : Value)
     → operate live (operatorOf 7) (Value.Pointer p) (Value.Pointer q) ≡ Evaluated.Value v
     → (live (p .name) ≡ true) × (live (q .name) ≡ true) × (v ≡ truth (samePointer p q))
-operator-7-compares-live-blocks live p q v h =
-    go (live (p .name)) (live (q .name)) refl refl (sym (equated-is live p q) ∙ h)
+unfolding operate onPointers
+operator-7-compares-live-blocks live p q v h = go (live (p .name)) (live (q .name)) refl refl h
   where
     go : (a b : Bool) → live (p .name) ≡ a → live (q .name) ≡ b
         → cond (a && b) (truthValue (samePointer p q)) (Evaluated.Stopped 47) ≡ Evaluated.Value v
@@ -49,6 +39,13 @@ operator-7-compares-live-blocks live p q v h =
     go true true d e h = (d, e, sym cc)
     go true false d e h = let z : _≡_ {A = ℕ} 0 1 = cc in absurd (omega arith)
     go false b d e h = let z : _≡_ {A = ℕ} 0 1 = cc in absurd (omega arith)
+
+-- 02 §4: "The order for one operation becomes 49, 40, 47": a pointer against an integer ends 40, live or not
+pub operator-7-asks-the-sorts-first : (live : Liveness) (p : Pointer) (z : ℤ)
+    → (operate live (operatorOf 7) (Value.Pointer p) (Value.Integer z) ≡ Evaluated.Stopped 40)
+    × (operate live (operatorOf 7) (Value.Integer z) (Value.Pointer p) ≡ Evaluated.Stopped 40)
+unfolding operate onPointerAndInteger
+operator-7-asks-the-sorts-first live p z = (refl, refl)
 
 same-integer-is : (x y : ℤ) → sameInteger x y ≡ true → x ≡ y
 same-integer-is (pos x) (pos y) h = ap pos (eqb-true x y h)

@@ -12,7 +12,7 @@ use Rattle.rules.specs.TargetTrees as target
 use Rattle.rules.specs.Memory.{Memory, Change, changeIn, cellOf, fixed, makeBlock, endBlock, assigned, allocated}
 use Rattle.rules.specs.Memory.{freed, onValue}
 use Rattle.rules.specs.Evaluation.{Variables, evaluate, findPlace, addressOf, opposite, condition, extend}
-use Rattle.rules.specs.Observation.{Noted, noted, refused, recordOf, queryObservation, isMarked, liveRecord}
+use Rattle.rules.specs.Observation.{Noted, noted, refused, recordOf, queryObservation, isMarked}
 use Rattle.rules.specs.Flow.{Outcome, finished, ended, into, after}
 use Rattle.rules.specs.Plain.{asserted}
 use Rattle.rules.specs.Watched.{Temporaries, temporaryOf, heldIn, WatchedState, withMemory, valueIn, placeIn}
@@ -22,7 +22,7 @@ use Rattle.rules.proofs.runs.Operations.{operated-gives}
 use Rattle.rules.proofs.runs.Keeping.{AnyNumber, any-test, ChangeKeeps, on-value, on-pointer}
 use Rattle.rules.proofs.runs.Outcomes.{Reaches, staying, reach-itself, reach-into, reach-next, reach-after}
 use Rattle.rules.proofs.runs.Outcomes.{reach-decide, reach-turns, reach-let, change-in, made-in, asserted-keeps}
-use Rattle.rules.proofs.runs.TargetRuns.{taken-keeps, operating, querying, negating, storing, deleting}
+use Rattle.rules.proofs.runs.TargetRuns.{taken-keeps, operating, querying, negating, storing, deleting, askedIn}
 use Rattle.rules.proofs.runs.TargetRuns.{initialising}
 use Rattle.rules.proofs.runs.TargetRuns.{making, closing}
 use Rattle.rules.proofs.lists.Lists.{all-getD, all-set}
@@ -236,7 +236,7 @@ watch-given (takeOperation s n q) σ h ρ x f i =
     acted σ ρ x s f (taken x n (operating q n x))
     (taken-given σ ρ x i n (operating q n x)
     (operated-gives (GivenValue (x .memory)) AnyNumber (numbers-given (x .memory)) (moves-given (x .memory))
-    (λ c y. tt) (liveRecord (x .observation)) q
+    (λ c y. tt) (askedIn x) q
     (holding x (suc n)) (holding x (suc (suc n)))
     (held-given σ ρ x i (suc n)) (held-given σ ρ x i (suc (suc n)))))
 watch-given (takeQuery s n q) σ h ρ x f i =

@@ -9,7 +9,7 @@ use Rattle.rules.specs.TargetTrees.{TargetStatement}
 use Rattle.rules.specs.Memory.{Memory, Change, changeIn, fixed, makeBlock, assigned, allocated, freed}
 use Rattle.rules.specs.Evaluation.{Variables, noTemporaries, held, evaluate, findPlace, addressOf}
 use Rattle.rules.specs.Evaluation.{evaluateSource, findSource, evaluatePredicate, condition}
-use Rattle.rules.specs.Observation.{Observation, Noted, recordOf, queryObservation, isMarked, liveRecord}
+use Rattle.rules.specs.Observation.{Observation, Noted, recordOf, queryObservation, isMarked}
 use Rattle.rules.specs.Flow.{Outcome, finished, ended, ending}
 use Rattle.rules.specs.Plain.{plainMeaning, run}
 use Rattle.rules.specs.Watched.{Temporaries, temporaryOf, WatchedState, withMemory, valueIn, placeIn, holding}
@@ -27,7 +27,7 @@ use Rattle.rules.proofs.runs.Outcomes.{Reaches, Anything, AnyBlock, any
 use Rattle.rules.proofs.runs.Outcomes.{made-more}
 use Rattle.rules.proofs.runs.SourceRuns.{MeaningKeeps, run-reaches}
 use Rattle.rules.proofs.runs.TargetRuns.{NotedKeeps, WatchKeeps, watch-reaches, taken-keeps, observed-keeps}
-use Rattle.rules.proofs.runs.TargetRuns.{operating, querying, negating, storing, deleting, initialising}
+use Rattle.rules.proofs.runs.TargetRuns.{operating, querying, negating, storing, deleting, initialising, askedIn}
 use Rattle.rules.proofs.runs.Calls.{store-called, delete-called, initialise-called}
 use Rattle.rules.specs.Types.{Value, Evaluated, Temporary}
 
@@ -138,7 +138,7 @@ watch-ends = record {
   takes-value = λ n e ρ x v. taken-ends x n (valueIn e ρ x) (target-among e (x .temporaries) ρ (x .memory));
   takes-operation = λ n q x v.
       taken-ends x n (operating q n x)
-      (operated-among AnyValue (λ z. tt) (λ p. tt) temporaryEndings (watchedly .enough) (liveRecord (x .observation)) q
+      (operated-among AnyValue (λ z. tt) (λ p. tt) temporaryEndings (watchedly .enough) (askedIn x) q
       (holding x (suc n)) (holding x (suc (suc n))) (held-among (temporaryOf (x .temporaries) (suc n)))
       (held-among (temporaryOf (x .temporaries) (suc (suc n)))));
   takes-query = λ n q x v.

@@ -9,6 +9,7 @@ use Rattle.rules.specs.TargetTrees as target
 use Rattle.rules.specs.Memory.{Memory, Change, changeIn, fixed, Made, madeIn, makeBlock, endBlock, assigned}
 use Rattle.rules.specs.Memory.{allocated, freed}
 use Rattle.rules.specs.Memory.{onValue}
+use Rattle.rules.specs.Numbers.{Liveness}
 use Rattle.rules.specs.Evaluation.{Variables, addressOf, operated, opposite, condition, extend}
 use Rattle.rules.specs.Observation.{Observation, Noted, noted, refused, storeBlock, deleteBlock, initialise}
 use Rattle.rules.specs.Observation.{queryObservation, liveRecord}
@@ -49,8 +50,12 @@ allocating p e ρ x = changeIn (withMemory x) (allocated (x .memory) (placeIn p 
 abbrev pub freeing : Expression ℕ → Variables → WatchedState → Change WatchedState
 freeing e ρ x = changeIn (withMemory x) (freed (x .memory) (valueIn e ρ x))
 
+-- whom kind 63 asks
+abbrev pub askedIn : WatchedState → Liveness
+askedIn x = liveRecord (x .observation)
+
 abbrev pub operating : Operator → ℕ → WatchedState → Evaluated
-operating q n x = operated (liveRecord (x .observation)) q (holding x (suc n)) (holding x (suc (suc n)))
+operating q n x = operated (askedIn x) q (holding x (suc n)) (holding x (suc (suc n)))
 
 abbrev pub querying : Query → ℕ → WatchedState → Evaluated
 querying q n x = onValue (holding x (suc n)) Evaluated.Stopped (queryObservation q (x .observation))
