@@ -115,9 +115,17 @@ impl<'table> Machine<'table> {
             kind => {
                 let left = self.evaluate(record.a)?;
                 let right = self.evaluate(record.b)?;
-                operate(if kind == 4 { record.mark } else { 8 }, left, right)
+                let operator = if kind == 4 { record.mark } else { 8 };
+                self.operate(operator, left, right)
             }
         }
+    }
+
+    /// An operation of an expression, term or predicate: "an expression, there too, asks the execution memory".
+    pub fn operate(&self, operator: u8, left: Value, right: Value) -> Result<Value, u32> {
+        operate(operator, left, right, |pointer| {
+            self.memory.is_live(pointer)
+        })
     }
 
     /// Places 11 and 12 take a pointer "as soon as the place is worked out".

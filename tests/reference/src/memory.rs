@@ -182,6 +182,11 @@ impl Memory {
         Ok(block.length as i64)
     }
 
+    /// Whether the pointer's block is live, wherever its offset lies.
+    pub fn is_live(&self, pointer: Pointer) -> bool {
+        self.live(pointer.name).is_some()
+    }
+
     fn contents(&self, place: usize) -> Value {
         self.cells[place].map_or(Value::Undefined, |cell| cell.value)
     }

@@ -1,4 +1,4 @@
-//! The observation memory, reached through its eight calls only, and its byte image.
+//! The observation memory, reached through its nine calls only, and its byte image.
 
 use crate::answer::{CONTRADICTION, NOT_LIVE};
 use crate::limits::{lowest_run, CELLS, NAMES, OBSERVATION_BYTES};
@@ -84,6 +84,11 @@ impl Observation {
     pub fn length(&self, pointer: Pointer) -> Result<i64, u32> {
         let (_, length) = self.live(pointer.name).ok_or(NOT_LIVE)?;
         Ok(length as i64)
+    }
+
+    /// The ninth call, which 63 asks: a block never recorded is not live.
+    pub fn is_live(&self, pointer: Pointer) -> bool {
+        self.live(pointer.name).is_some()
     }
 
     pub fn blocks(&self) -> &[Observed] {

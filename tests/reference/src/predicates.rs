@@ -1,7 +1,7 @@
 //! Terms and predicates of a source table, worked out on the execution memory.
 
 use crate::machine::Machine;
-use crate::value::{operate, Value};
+use crate::value::Value;
 
 pub fn term(machine: &Machine, number: u16) -> Result<Value, u32> {
     let record = machine.record(number);
@@ -10,7 +10,7 @@ pub fn term(machine: &Machine, number: u16) -> Result<Value, u32> {
         24 => {
             let left = term(machine, record.a)?;
             let right = term(machine, record.b)?;
-            operate(record.mark, left, right)
+            machine.operate(record.mark, left, right)
         }
         kind => {
             let pointer = term(machine, record.a)?.pointer()?;
@@ -34,7 +34,7 @@ pub fn holds(machine: &Machine, number: u16) -> Result<bool, u32> {
         32 => {
             let left = term(machine, record.a)?;
             let right = term(machine, record.b)?;
-            operate(record.mark, left, right)?.truth()
+            machine.operate(record.mark, left, right)?.truth()
         }
         33 => Ok(!holds(machine, record.a)?),
         34 => Ok(holds(machine, record.a)? && holds(machine, record.b)?),

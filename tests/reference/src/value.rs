@@ -1,6 +1,6 @@
 //! Values, and the operators that take any sort of them.
 
-use crate::answer::{OVERFLOW, WRONG_SORT};
+use crate::answer::{NOT_LIVE, OVERFLOW, WRONG_SORT};
 use crate::numbers;
 
 #[derive(Debug, Clone, Copy, PartialEq, Eq)]
@@ -42,13 +42,27 @@ impl Value {
     }
 }
 
-/// Operators 1 to 8 on values already worked out: 40 first, then 44, then 43.
-pub fn operate(operator: u8, left: Value, right: Value) -> Result<Value, u32> {
+/// Operators 1 to 8 on values already worked out: 40 first, then 47, 44, 43. `is_live` asks the memory that knows
+/// whether a pointer's block is live.
+pub fn operate(
+    operator: u8,
+    left: Value,
+    right: Value,
+    is_live: impl Fn(Pointer) -> bool,
+) -> Result<Value, u32> {
     match (operator, left, right) {
-        (7, Value::Pointer(left), Value::Pointer(right)) => Ok(Value::of_truth(left == right)),
+        (7, Value::Pointer(left), Value::Pointer(right)) => equal(left, right, is_live),
         (8, _, _) => shift(left.pointer()?, right.integer()?).map(Value::Pointer),
         _ => numbers::operate(operator, left.integer()?, right.integer()?).map(Value::Integer),
     }
+}
+
+/// 02 §4: "a pointer into a dead block on either side ends 47", whatever the offsets.
+fn equal(left: Pointer, right: Pointer, is_live: impl Fn(Pointer) -> bool) -> Result<Value, u32> {
+    if !is_live(left) || !is_live(right) {
+        return Err(NOT_LIVE);
+    }
+    Ok(Value::of_truth(left == right))
 }
 
 /// "A shift may leave the block", but its offset may not leave 64 bits.

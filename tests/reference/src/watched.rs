@@ -63,7 +63,9 @@ impl Watching {
             63 => {
                 let left = machine.temporary(next)?;
                 let right = machine.temporary(next.saturating_add(1))?;
-                operate(record.c as u8, left, right)
+                // "kind 63 asks the observation memory", whatever the execution memory holds.
+                let is_live = |pointer| self.observation.is_live(pointer);
+                operate(record.c as u8, left, right, is_live)
             }
             64 => self.query(record.c, machine.temporary(next)?.pointer()?),
             _ => Ok(Value::of_truth(!machine.temporary(next)?.truth()?)),

@@ -177,7 +177,7 @@ fn validity_ends_with_the_block_on_both_sides() {
 
 #[test]
 fn pointers_are_equal_where_both_name_and_offset_are() {
-    let cases = [(2, 0, 0), (2, 1, 33), (2, -1, 33), (0, 0, 33), (1, 0, 33)];
+    let cases = [(2, 0, 0), (2, 1, 33), (2, -1, 33), (0, 0, 33)];
     for (variable, by, expected) in cases {
         let in_terms = asserting(|b| {
             let left = b.variable_term(2);
@@ -198,15 +198,22 @@ fn pointers_are_equal_where_both_name_and_offset_are() {
 }
 
 #[test]
-fn dead_pointers_may_be_compared_and_shifted() {
-    let number = asserting(|b| {
-        let left = b.variable_term(1);
-        let term = b.variable_term(1);
-        let zero = b.literal_term(0);
-        let right = b.term_operator(8, term, zero);
+fn a_dead_pointer_may_be_shifted_and_not_compared() {
+    let shifted = |b: &mut Builder| {
+        let pointer = b.variable_term(1);
+        let by = b.literal_term(1);
+        b.term_operator(8, pointer, by)
+    };
+    let asked = asserting(|b| {
+        let pointer = shifted(b);
+        let valid = b.valid(pointer);
+        b.not(valid)
+    });
+    let compared = asserting(|b| {
+        let (left, right) = (shifted(b), shifted(b));
         b.compare(7, left, right)
     });
-    assert_eq!(number, 0);
+    assert_eq!([asked, compared], [0, 47]);
 }
 
 #[test]

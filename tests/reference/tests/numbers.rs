@@ -6,24 +6,16 @@ use reference::value::{self, Pointer, Value};
 
 #[test]
 fn each_operator_does_what_its_number_says() {
+    let operate = |operator, left, right| value::operate(operator, left, right, |_| true);
     let on_7_and_9 = [(1, 16), (2, -2), (3, 63), (4, 0), (5, 1), (6, 1), (7, 0)];
     for (operator, result) in on_7_and_9 {
-        let given = value::operate(operator, Value::Integer(7), Value::Integer(9));
+        let given = operate(operator, Value::Integer(7), Value::Integer(9));
         assert_eq!(given, Ok(Value::Integer(result)), "operator {operator}");
     }
     let pointer = |offset| Value::Pointer(Pointer { name: 2, offset });
-    assert_eq!(
-        value::operate(8, pointer(7), Value::Integer(9)),
-        Ok(pointer(16))
-    );
-    assert_eq!(
-        value::operate(7, pointer(7), pointer(7)),
-        Ok(Value::Integer(1))
-    );
-    assert_eq!(
-        value::operate(7, pointer(7), pointer(9)),
-        Ok(Value::Integer(0))
-    );
+    assert_eq!(operate(8, pointer(7), Value::Integer(9)), Ok(pointer(16)));
+    assert_eq!(operate(7, pointer(7), pointer(7)), Ok(Value::Integer(1)));
+    assert_eq!(operate(7, pointer(7), pointer(9)), Ok(Value::Integer(0)));
 }
 
 #[test]

@@ -46,8 +46,8 @@ fn self_pointing() -> Vec<u8> {
     b.table()
 }
 
-#[test]
-fn a_dead_name_is_not_used_again() {
+/// let p, q in (p = new 1; q = p; free p; p = new 1; assert predicate), and the assertion.
+fn freed_and_made_again(predicate: fn(&mut Builder) -> u16) -> (Vec<u8>, u32) {
     let mut b = Builder::source();
     let first = b.new_in(1, 1);
     let place = b.variable(2);
@@ -55,20 +55,29 @@ fn a_dead_name_is_not_used_again() {
     let keep = b.take(place, old);
     let free = b.free_variable(1);
     let second = b.new_in(1, 1);
-    // Same first cell, other name: the kept pointer stays dead and equals nothing new.
-    let old = b.variable_term(2);
-    let valid = b.valid(old);
-    let invalid = b.not(valid);
-    let new = b.variable_term(1);
-    let old = b.variable_term(2);
-    let same = b.compare(7, new, old);
-    let differ = b.not(same);
-    let predicate = b.and(invalid, differ);
+    let predicate = predicate(&mut b);
     let assertion = b.assert(predicate);
     let body = b.sequence(&[first, keep, free, second, assertion]);
     let inner = b.let_in(2, body);
     b.let_in(1, inner);
-    assert_eq!(end(&b.table()), (0, 0));
+    (b.table(), u32::from(assertion))
+}
+
+#[test]
+fn a_dead_name_is_not_used_again() {
+    // Same first cell, other name: the kept pointer stays dead, and no comparison takes it.
+    let (table, _) = freed_and_made_again(|b| {
+        let old = b.variable_term(2);
+        let valid = b.valid(old);
+        b.not(valid)
+    });
+    assert_eq!(end(&table), (0, 0));
+    let (table, assertion) = freed_and_made_again(|b| {
+        let new = b.variable_term(1);
+        let old = b.variable_term(2);
+        b.compare(7, new, old)
+    });
+    assert_eq!(end(&table), (47, assertion));
 }
 
 #[test]

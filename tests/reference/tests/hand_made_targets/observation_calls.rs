@@ -1,4 +1,4 @@
-//! The eight calls of the observation memory.
+//! The calls of the observation memory but the ninth, which tests/dead_pointers_compared.rs has.
 
 use crate::target::{ends, number, Target};
 use reference::builder::Builder;
