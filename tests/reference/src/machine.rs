@@ -1,10 +1,10 @@
 //! The state of a run, and the evaluation of expressions and places in it.
 
-use crate::answer::{self, Answer, EMPTY_TEMPORARY};
+use crate::answer::{self, Answer, EMPTY_TEMPORARY, NOT_LIVE};
 use crate::limits::{INPUTS, INPUT_BYTES, TEMPORARIES, VARIABLES};
 use crate::memory::Memory;
 use crate::record::Record;
-use crate::value::{operate, Pointer, Value};
+use crate::value::{operate, Compared, Pointer, Value};
 
 /// Where a run stopped before its end: the ending's number and its source statement.
 #[derive(Debug, Clone, Copy, PartialEq, Eq)]
@@ -116,16 +116,31 @@ impl<'table> Machine<'table> {
                 let left = self.evaluate(record.a)?;
                 let right = self.evaluate(record.b)?;
                 let operator = if kind == 4 { record.mark } else { 8 };
-                self.operate(operator, left, right)
+                self.operate(kind, operator, left, right)
             }
         }
     }
 
     /// An operation of an expression, term or predicate: "an expression, there too, asks the execution memory".
-    pub fn operate(&self, operator: u8, left: Value, right: Value) -> Result<Value, u32> {
-        operate(operator, left, right, |pointer| {
-            self.memory.is_live(pointer)
-        })
+    pub fn operate(&self, kind: u8, operator: u8, left: Value, right: Value) -> Result<Value, u32> {
+        let is_live = |pointer| self.memory.is_live(pointer);
+        let result = operate(operator, left, right, is_live);
+        self.keep_compared(kind, left, right, result)
+    }
+
+    /// The result of an operation; the pointers of a comparison that ended 47 are kept.
+    pub fn keep_compared(
+        &self,
+        kind: u8,
+        left: Value,
+        right: Value,
+        result: Result<Value, u32>,
+    ) -> Result<Value, u32> {
+        if let (Err(NOT_LIVE), Value::Pointer(left), Value::Pointer(right)) = (result, left, right)
+        {
+            self.memory.keep_compared(Compared { kind, left, right });
+        }
+        result
     }
 
     /// Places 11 and 12 take a pointer "as soon as the place is worked out".

@@ -5,7 +5,7 @@ use crate::answer::{
     UNDEFINED_READ,
 };
 use crate::limits::{lowest_run, CELLS, EXECUTION_BYTES, NAMES};
-use crate::value::{Pointer, Value};
+use crate::value::{Compared, Pointer, Value};
 
 #[derive(Debug, Clone, Copy, PartialEq, Eq)]
 pub enum State {
@@ -34,8 +34,9 @@ pub struct Memory {
     cells: Vec<Option<Cell>>,
     /// Adjusted where a block is made or ended, so that no ending has to count.
     free_cells: u32,
-    /// Kept for the one who asks why a run ended; the memory is the same without it.
+    /// Kept for the one who asks why a run ended, both this and the next; the memory is the same without them.
     astray: std::cell::Cell<Option<Pointer>>,
+    compared: std::cell::Cell<Option<Compared>>,
 }
 
 impl Memory {
@@ -45,6 +46,7 @@ impl Memory {
             cells: vec![None; CELLS],
             free_cells: CELLS as u32,
             astray: std::cell::Cell::new(None),
+            compared: std::cell::Cell::new(None),
         }
     }
 
@@ -71,6 +73,15 @@ impl Memory {
     /// The pointer of the last read or store that led to no cell, as it was when tried.
     pub fn astray(&self) -> Option<Pointer> {
         self.astray.get()
+    }
+
+    /// The comparison that ended a run 47.
+    pub fn compared(&self) -> Option<Compared> {
+        self.compared.get()
+    }
+
+    pub fn keep_compared(&self, compared: Compared) {
+        self.compared.set(Some(compared));
     }
 
     /// The running value: "after each step it is the number of cells of kind 0".

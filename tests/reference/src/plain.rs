@@ -10,7 +10,7 @@ use crate::predicates::holds;
 use crate::record::Record;
 use crate::room::with_room;
 use crate::statements::{run, Own};
-use crate::value::Pointer;
+use crate::value::{Compared, Pointer};
 
 /// Statement 48, stopping at the first assertion that is false.
 struct Asserting;
@@ -44,6 +44,13 @@ pub fn used_pointer(table: &[u8], inputs: &[u8], fuel: u32) -> Option<Pointer> {
     let (records, inputs) = admit(table, inputs, Language::Source).ok()?;
     let (_, after) = run_accepted(&records, &inputs, fuel, &mut Asserting, None);
     after.astray()
+}
+
+/// The comparison that ended a plain run 47.
+pub fn compared(table: &[u8], inputs: &[u8], fuel: u32) -> Option<Compared> {
+    let (records, inputs) = admit(table, inputs, Language::Source).ok()?;
+    let (_, after) = run_accepted(&records, &inputs, fuel, &mut Asserting, None);
+    after.compared()
 }
 
 /// A plain run with an onlooker: its answer and memory, or its refusal by 1–9.

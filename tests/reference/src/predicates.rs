@@ -10,7 +10,7 @@ pub fn term(machine: &Machine, number: u16) -> Result<Value, u32> {
         24 => {
             let left = term(machine, record.a)?;
             let right = term(machine, record.b)?;
-            machine.operate(record.mark, left, right)
+            machine.operate(record.kind, record.mark, left, right)
         }
         kind => {
             let pointer = term(machine, record.a)?.pointer()?;
@@ -34,7 +34,9 @@ pub fn holds(machine: &Machine, number: u16) -> Result<bool, u32> {
         32 => {
             let left = term(machine, record.a)?;
             let right = term(machine, record.b)?;
-            machine.operate(record.mark, left, right)?.truth()
+            machine
+                .operate(record.kind, record.mark, left, right)?
+                .truth()
         }
         33 => Ok(!holds(machine, record.a)?),
         34 => Ok(holds(machine, record.a)? && holds(machine, record.b)?),

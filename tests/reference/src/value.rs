@@ -42,6 +42,14 @@ impl Value {
     }
 }
 
+/// A comparison of two pointers, and the kind of the record that asked for it.
+#[derive(Debug, Clone, Copy, PartialEq, Eq)]
+pub struct Compared {
+    pub kind: u8,
+    pub left: Pointer,
+    pub right: Pointer,
+}
+
 /// Operators 1 to 8 on values already worked out: 40 first, then 47, 44, 43. `is_live` asks the memory that knows
 /// whether a pointer's block is live.
 pub fn operate(

@@ -10,7 +10,7 @@ use crate::plain::admit;
 use crate::record::Record;
 use crate::room::with_room;
 use crate::statements::{run, Own};
-use crate::value::{operate, Pointer, Value};
+use crate::value::{operate, Compared, Pointer, Value};
 
 /// Statements 60 to 70.
 struct Watching {
@@ -65,7 +65,8 @@ impl Watching {
                 let right = machine.temporary(next.saturating_add(1))?;
                 // "kind 63 asks the observation memory", whatever the execution memory holds.
                 let is_live = |pointer| self.observation.is_live(pointer);
-                operate(record.c as u8, left, right, is_live)
+                let result = operate(record.c as u8, left, right, is_live);
+                machine.keep_compared(record.kind, left, right, result)
             }
             64 => self.query(record.c, machine.temporary(next)?.pointer()?),
             _ => Ok(Value::of_truth(!machine.temporary(next)?.truth()?)),
@@ -128,6 +129,13 @@ pub fn used_pointer(table: &[u8], inputs: &[u8], fuel: u32) -> Option<Pointer> {
     let (records, inputs) = admit(table, inputs, Language::Target).ok()?;
     let (_, after, _) = watch_accepted(&records, &inputs, fuel, None);
     after.astray()
+}
+
+/// The comparison that ended a watched run 47.
+pub fn compared(table: &[u8], inputs: &[u8], fuel: u32) -> Option<Compared> {
+    let (records, inputs) = admit(table, inputs, Language::Target).ok()?;
+    let (_, after, _) = watch_accepted(&records, &inputs, fuel, None);
+    after.compared()
 }
 
 /// A watched run with an onlooker: its answer and execution memory, or its refusal by 1–9.
