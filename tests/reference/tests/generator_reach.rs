@@ -71,6 +71,26 @@ fn targets_run_watched_reach_every_ending_and_often_finish() {
 }
 
 #[test]
+fn programs_that_compare_pointers_often_end_47_and_reach_every_ending() {
+    let mut generator = Generator::new(25);
+    let counts = count(10_000, || {
+        let source = generator.comparing_source();
+        let fuel = generator.fuel_for(&source);
+        plain(&source, &generator.inputs(), fuel).0
+    });
+    reaches(&counts, PLAIN_ENDINGS, 10);
+    reaches(&counts, [0, 47], 1_500);
+    let counts = count(10_000, || {
+        let target = generator.comparing_target();
+        let fuel = generator.fuel_for(&target);
+        watched(&target, &generator.inputs(), fuel).0
+    });
+    reaches(&counts, PLAIN_ENDINGS, 1);
+    reaches(&counts, [48, 49], 200);
+    reaches(&counts, [0, 47], 1_500);
+}
+
+#[test]
 fn changed_translations_are_accepted_and_reach_contradictions() {
     let mut generator = Generator::new(15);
     let counts = count(4_000, || {

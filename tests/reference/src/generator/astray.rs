@@ -1,8 +1,7 @@
 //! Programs that read and store in dead blocks and outside live ones more often than others do.
 
 use super::grow::{Grower, Holds};
-use super::{order, Generator};
-use crate::checker::{check_source, check_target};
+use super::Generator;
 
 /// Percent; about one program in four ends 42 or 50.
 const ASTRAY: u64 = 12;
@@ -41,20 +40,11 @@ impl Grower<'_> {
 }
 
 impl Generator {
-    /// An accepted source table, half of them child-first and half in another valid order.
     pub fn astray_source(&mut self) -> Vec<u8> {
-        self.until_accepted(check_source, |generator| {
-            let grown = generator.grown(false, ASTRAY);
-            if generator.random.chance(50) {
-                order::shuffled(&grown, &mut generator.random)
-            } else {
-                grown
-            }
-        })
+        self.source_grown(|grower| grower.astray = ASTRAY)
     }
 
-    /// An accepted target table that is no translation.
     pub fn astray_target(&mut self) -> Vec<u8> {
-        self.until_accepted(check_target, |generator| generator.grown(true, ASTRAY))
+        self.target_grown(|grower| grower.astray = ASTRAY)
     }
 }

@@ -49,6 +49,8 @@ pub struct Grower<'random> {
     pub wild: u64,
     /// Percent of numbers and places that are looked for where no cell is.
     pub astray: u64,
+    /// Percent of numbers and assertions that compare pointers.
+    pub comparing: u64,
     /// Beyond this many records only small parts are grown.
     pub limit: usize,
 }
@@ -65,6 +67,7 @@ impl<'random> Grower<'random> {
             in_target,
             wild,
             astray: 0,
+            comparing: 0,
             limit,
         }
     }
@@ -99,6 +102,9 @@ impl<'random> Grower<'random> {
         if self.goes_astray() {
             let place = self.place_astray();
             return self.builder.read(place);
+        }
+        if self.compares() {
+            return self.compared_pointers();
         }
         if depth == 0 || self.full() {
             return self.number();

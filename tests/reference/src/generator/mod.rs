@@ -1,6 +1,7 @@
 //! Seeded tables, inputs and buffers for comparing one implementation with another.
 
 mod astray;
+mod comparing;
 pub mod damage;
 mod divisions;
 mod grow;
@@ -56,7 +57,7 @@ impl Generator {
 
     pub fn child_first_source(&mut self) -> Vec<u8> {
         self.until_accepted(check_source, |generator| {
-            let mut grown = generator.grown(false, 0);
+            let mut grown = generator.grown(false, |_| {});
             if generator.random.chance(4) {
                 let size = SOURCE_RECORDS - generator.random.index(3);
                 pad(&mut grown, size);
@@ -81,7 +82,7 @@ impl Generator {
 
     pub fn hand_made_target(&mut self) -> Vec<u8> {
         self.until_accepted(check_target, |generator| {
-            let mut grown = generator.grown(true, 0);
+            let mut grown = generator.grown(true, |_| {});
             if generator.random.chance(1) {
                 let size = TARGET_RECORDS - generator.random.index(3);
                 pad(&mut grown, size);
@@ -192,10 +193,27 @@ impl Generator {
         }
     }
 
-    /// The records of a program as it grew, in child-first order.
-    fn grown(&mut self, in_target: bool, astray: u64) -> Vec<Record> {
+    /// An accepted source table, half of them child-first and half in another valid order.
+    fn source_grown(&mut self, set: fn(&mut Grower)) -> Vec<u8> {
+        self.until_accepted(check_source, |generator| {
+            let grown = generator.grown(false, set);
+            if generator.random.chance(50) {
+                order::shuffled(&grown, &mut generator.random)
+            } else {
+                grown
+            }
+        })
+    }
+
+    /// An accepted target table that is no translation.
+    fn target_grown(&mut self, set: fn(&mut Grower)) -> Vec<u8> {
+        self.until_accepted(check_target, |generator| generator.grown(true, set))
+    }
+
+    /// The records of a program as it grew, in child-first order; how often it does what is `set` before.
+    fn grown(&mut self, in_target: bool, set: fn(&mut Grower)) -> Vec<Record> {
         let mut grower = Grower::new(&mut self.random, in_target);
-        grower.astray = astray;
+        set(&mut grower);
         grower.program();
         grower.builder.records().to_vec()
     }

@@ -162,6 +162,10 @@ impl Grower<'_> {
         if self.in_target {
             return self.own_assertion();
         }
+        if self.compares() {
+            let predicate = self.compared_terms();
+            return self.builder.assert(predicate);
+        }
         let room = self.limit.saturating_sub(self.builder.len());
         let predicate = match self.random.below(100) {
             0 | 1 if room > 75 => {
@@ -236,10 +240,14 @@ impl Grower<'_> {
             parts.push(self.new_and_freed(variable));
         }
         match self.random.below(10) {
+            _ if self.comparing > 0 => parts.push(self.block_to_compare(variable)),
             0..=3 => parts.push(self.take_integer()),
             4..=6 => parts.push(self.take_new()),
             7 => parts.push(self.take_pointer()),
             _ => {}
+        }
+        if self.comparing > 0 && self.random.chance(40) {
+            parts.push(self.let_block(depth));
         }
         parts.push(self.statements(depth.saturating_sub(1)));
         self.scope.pop();
@@ -255,7 +263,10 @@ impl Grower<'_> {
     /// A whole program in child-first order.
     pub fn program(&mut self) -> u16 {
         let depth = self.random.range(1, 5) as u32;
-        if self.random.chance(70) {
+        if self.comparing > 0 {
+            self.relabel();
+            self.let_block(depth)
+        } else if self.random.chance(70) {
             self.let_block(depth)
         } else {
             self.statements(depth)

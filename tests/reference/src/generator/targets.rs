@@ -68,6 +68,11 @@ impl Grower<'_> {
 
     pub fn own_statement(&mut self, depth: u32) -> u16 {
         let mut parts = Vec::new();
+        if self.compares() {
+            self.compare_temporaries(&mut parts);
+            self.relabel();
+            return self.builder.sequence(&parts);
+        }
         match self.random.below(12) {
             0 | 1 => {
                 let mark = self.temporary(1);
