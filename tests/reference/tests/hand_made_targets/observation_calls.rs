@@ -1,4 +1,4 @@
-//! The calls of the observation memory but the ninth, which tests/dead_pointers_compared.rs has.
+//! The calls of the observation memory but the ninth, which comparisons ask.
 
 use crate::target::{ends, number, Target};
 use reference::builder::Builder;
