@@ -133,6 +133,7 @@ static struct value shift(struct value from, int64_t by)
     return __builtin_add_overflow(from.number, by, &offset) ? stopped_otherwise() : pointer(from.name, offset);
 }
 
+/* A comparison of pointers need not ask for live blocks: a run that ended 42 or 50 came past it. */
 static struct value operate(uint32_t operator, struct value x, struct value y)
 {
     if (x.kind == INTEGER && y.kind == INTEGER)

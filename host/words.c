@@ -34,7 +34,7 @@ static const struct {
     {RECORDER_ZERO_DIVISOR, "zero divisor"},
     {RECORDER_BAD_SIZE, "size below 1"},
     {RECORDER_BAD_FREE, "free of anything but the first cell of a live freeable block"},
-    {RECORDER_NOT_LIVE, "base, offset or length of a block not live"},
+    {RECORDER_NOT_LIVE, "base, offset or length of a block not live, or a pointer into one compared"},
     {RECORDER_CONTRADICTION, "call that contradicts the observation memory"},
     {RECORDER_EMPTY_TEMPORARY, "empty temporary"},
     {RECORDER_OUTSIDE_BLOCK, "offset outside a live block"},

@@ -127,7 +127,7 @@ enum recorder_number {
     RECORDER_ZERO_DIVISOR = 44,
     RECORDER_BAD_SIZE = 45,        /* size below 1 */
     RECORDER_BAD_FREE = 46,        /* free of a pointer to anything but the first cell of a live freeable block */
-    RECORDER_NOT_LIVE = 47,        /* base, offset or length of a block not live */
+    RECORDER_NOT_LIVE = 47,        /* base, offset or length of a block not live, or a pointer into one compared */
 
     /* Endings of a watched run only, and never of a translation's. */
     RECORDER_CONTRADICTION = 48,   /* call that contradicts the observation memory's record */
@@ -151,7 +151,8 @@ recorder_answer recorder_translate(const uint8_t *table, size_t table_len, uint8
 
 /* Runs a source table on 1 to 256 inputs, with fuel for its while tests: one unit goes for each. The run clears the
  * memory first, so what it held counts for nothing; afterwards it is as the run left it at its ending. Operator 5
- * divides to the nearest whole number, and an exact half goes to the even one: 5 by 2 is 2, 7 by 2 is 4.
+ * divides to the nearest whole number, and an exact half goes to the even one: 5 by 2 is 2, 7 by 2 is 4. Operator 7
+ * compares two integers, or two pointers into live blocks.
  * Refusals: 1 to 8, 9, then 21. Endings: 0, 30 to 33, 40 to 47, 50.
  */
 recorder_answer recorder_run_plain(const uint8_t *table, size_t table_len, const uint8_t *inputs, size_t inputs_len,
@@ -159,6 +160,9 @@ recorder_answer recorder_run_plain(const uint8_t *table, size_t table_len, const
 
 /* Runs a target table, a translation or any other, on both memories, which it clears first.
  * Refusals: 1 to 7, 9, 21, then 22. Endings: 0, 30 to 33, 40 to 50.
+ *
+ * A run reaches the observation memory by nine calls: kinds 68, 69 and 70, the five queries, and whether a block is
+ * live, which kind 63 asks where it compares pointers. A block never recorded is not live there.
  *
  * With the translation of an accepted source table, equal inputs and equal fuel the answer and the execution memory are
  * those of the plain run. At every ending but 42 and 50 the observation memory mirrors the execution memory: block
