@@ -45,6 +45,8 @@ told 50 'offset 2 is outside block 2, which has 2 cells' one-past-the-end-assert
 told 50 'offset 2 is outside block 2, which has 1 cell' one-past-the-end-asserted --inputs 7
 told 50 'offset -1 is outside block 2, which has 2 cells' offset-below-zero
 told 50 'offset -1 is outside block 2, which has 2 cells' offset-below-zero-asserted
+told 47 'base, offset or length of a block not live, or a pointer into one compared' compare-after-free
+told 47 'base, offset or length of a block not live, or a pointer into one compared' compare-after-free-asserted
 
 # A target table's temporaries stand in no buffer, so that it is told in general words, a translation too.
 "$program" translate examples/read-after-free.txt "$scratch/dead" >"$scratch/said" || fail "translate"
@@ -92,3 +94,22 @@ END
 expect 48 'ending 48 (call that contradicts the observation memory) at statement 9' watch --target "$stored_twice"
 empty=$(table empty <<<'1 67 5 0 0 0 3')
 expect 49 'ending 49 (empty temporary) at statement 3' watch --target "$empty"
+
+# Kind 63 asks the observation memory: a block never recorded is compared with nothing, though it is live.
+unrecorded_compared=$(table unrecorded-compared <<'END'
+ 1 10 0  0  0 0 0   # v0
+ 2  1 0  0  0 0 1   # 1
+ 3 42 0  1  2 0 5   # v0 = new 1
+ 4 10 0  0  0 0 0   # v0
+ 5  2 0  4  0 0 0   # value of v0
+ 6 61 1  5  0 0 5   # t1 = v0
+ 7 10 0  0  0 0 0   # v0
+ 8  2 0  7  0 0 0   # value of v0
+ 9 61 2  8  0 0 5   # t2 = v0
+10 63 0  0  0 7 6   # t0 = (t1 = t2)
+11 44 0  9 10 0 5
+12 44 0  6 11 0 5
+13 44 0  3 12 0 5
+END
+)
+expect 47 'a pointer into one compared) at statement 6' watch --target "$unrecorded_compared"
