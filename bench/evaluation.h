@@ -41,7 +41,8 @@ static inline value operate_integers(unsigned operator, int64_t a, int64_t b)
     }
 }
 
-static inline value operate(unsigned operator, value a, value b)
+/* Operator 7 on two pointers asks one of the two memories whether their blocks are live. */
+static inline value operate(unsigned operator, value a, value b, const block *blocks, liveness *is_live)
 {
     int64_t z;
     if (a.kind == INTEGER && b.kind == INTEGER)
@@ -50,9 +51,17 @@ static inline value operate(unsigned operator, value a, value b)
         return stopped(40);
     if (operator == 8 && b.kind == INTEGER)
         return __builtin_add_overflow(a.number, b.number, &z) ? stopped(43) : pointer(a.name, z);
-    if (operator == 7 && b.kind == POINTER)
-        return integer(a.name == b.name && a.number == b.number);
-    return stopped(40);
+    if (operator != 7 || b.kind != POINTER)
+        return stopped(40);
+    if (!is_live(&blocks[a.name - 1]) || !is_live(&blocks[b.name - 1]))
+        return stopped(47);
+    return integer(a.name == b.name && a.number == b.number);
+}
+
+/* Expressions, terms and predicates ask the execution memory. */
+static inline value operate_on_memory(const machine *m, unsigned operator, value a, value b)
+{
+    return operate(operator, a, b, m->memory->blocks, live);
 }
 
 static inline value held(const machine *m, unsigned temporary)
@@ -99,7 +108,7 @@ static value evaluate(const machine *m, unsigned n)
         b = evaluate(m, r->child[1]);
         if (b.kind == STOPPED)
             return b;
-        return operate(r->kind == 5 ? 8 : r->mark, a, b);
+        return operate_on_memory(m, r->kind == 5 ? 8 : r->mark, a, b);
     }
 }
 
@@ -115,7 +124,7 @@ static value evaluate_term(const machine *m, unsigned n)
         if (a.kind == STOPPED)
             return a;
         b = evaluate_term(m, r->child[1]);
-        return b.kind == STOPPED ? b : operate(r->mark, a, b);
+        return b.kind == STOPPED ? b : operate_on_memory(m, r->mark, a, b);
     default:
         a = pointing(evaluate_term(m, r->child[0]));
         return a.kind == STOPPED ? a : query_memory(m, r->kind - 18, a);
@@ -135,7 +144,7 @@ static value evaluate_predicate(const machine *m, unsigned n)
         if (a.kind == STOPPED)
             return a;
         b = evaluate_term(m, r->child[1]);
-        return b.kind == STOPPED ? b : operate(r->mark, a, b);
+        return b.kind == STOPPED ? b : operate_on_memory(m, r->mark, a, b);
     case 33:
         a = evaluate_predicate(m, r->child[0]);
         return a.kind == STOPPED ? a : integer(a.number == 0);

@@ -69,7 +69,9 @@ static value compute(const machine *m, const record *r)
     case 63:
         a = held(m, r->mark + 1);
         b = held(m, r->mark + 2);
-        return a.kind == STOPPED ? a : b.kind == STOPPED ? b : operate(r->child[2], a, b);
+        if (a.kind == STOPPED || b.kind == STOPPED)
+            return a.kind == STOPPED ? a : b;
+        return operate(r->child[2], a, b, m->observation->blocks, recorded_live);
     case 64:
         a = pointing(held(m, r->mark + 1));
         return a.kind == STOPPED ? a : query_observation(m, r->child[2], a);

@@ -42,9 +42,17 @@ static inline value stopped(uint32_t number)
     return (value){STOPPED, 0, number};
 }
 
+/* Whether a block is live, in one of the two memories. */
+typedef bool liveness(const block *b);
+
 static inline bool live(const block *b)
 {
     return b->state == FIXED || b->state == FREEABLE;
+}
+
+static inline bool recorded_live(const block *b)
+{
+    return b->state == RECORDED;
 }
 
 /* The cell that a pointer leads to, or none. */
@@ -162,7 +170,7 @@ static inline uint32_t delete_block(machine *m, value p)
 static inline uint8_t *mark_at(const machine *m, value p)
 {
     const block *b = &m->observation->blocks[p.name - 1];
-    return b->state == RECORDED && (uint64_t)p.number < b->length ? &m->observation->marks[b->first + p.number] : NULL;
+    return recorded_live(b) && (uint64_t)p.number < b->length ? &m->observation->marks[b->first + p.number] : NULL;
 }
 
 static inline uint32_t initialise(machine *m, value p)
@@ -198,7 +206,7 @@ static inline value query_observation(const machine *m, unsigned query, value p)
 {
     const block *b = &m->observation->blocks[p.name - 1];
     const uint8_t *mark = mark_at(m, p);
-    return describe(query, p, b->state == RECORDED, b->length, mark, mark && *mark);
+    return describe(query, p, recorded_live(b), b->length, mark, mark && *mark);
 }
 
 #endif

@@ -71,15 +71,22 @@ fn run_reference(case: &Case, watched: bool) -> (Answer, Vec<u8>, Vec<u8>) {
     (answer, memory, observation)
 }
 
-/// An accepted source program, with memories that are not refused.
-fn accepted(generator: &mut Generator) -> Case {
-    let case = generator.source_case();
-    let table = generator.accepted_source();
+/// The table with inputs, fuel and memories that are not refused.
+fn unrefused(table: Vec<u8>, generator: &mut Generator) -> Case {
     let fuel = generator.fuel_for(&table);
-    Case { table, fuel, inputs: generator.inputs(), memory: generator.memory(), ..case }
+    let (inputs, memory) = (generator.inputs(), generator.memory());
+    Case { table, fuel, inputs, memory, observation: generator.observation() }
 }
 
-fn compare(what: &str, watched: bool, make: fn(&mut Generator) -> Case) {
+/// Accepted tables that one of the generators makes.
+fn compare_accepted(what: &str, watched: bool, make: fn(&mut Generator) -> Vec<u8>) {
+    compare(what, watched, |generator| {
+        let table = make(generator);
+        unrefused(table, generator)
+    });
+}
+
+fn compare(what: &str, watched: bool, make: impl Fn(&mut Generator) -> Case) {
     let mut generator = Generator::new(5);
     let mut numbers = BTreeMap::new();
     for number in 0..CASES {
@@ -92,7 +99,9 @@ fn compare(what: &str, watched: bool, make: fn(&mut Generator) -> Case) {
 }
 
 fn main() {
-    compare("accepted programs, plain run", false, accepted);
+    compare_accepted("accepted programs, plain run", false, Generator::accepted_source);
     compare("source tables, plain run", false, |generator| generator.source_case());
     compare("target tables, watched run", true, |generator| generator.target_case());
+    compare_accepted("programs that compare pointers, plain run", false, Generator::comparing_source);
+    compare_accepted("targets that compare pointers, watched run", true, Generator::comparing_target);
 }
