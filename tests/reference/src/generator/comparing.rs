@@ -12,8 +12,16 @@ impl Grower<'_> {
         self.comparing > 0 && self.random.chance(self.comparing)
     }
 
+    /// What a let begins with: a block for its variable, and often a let with another.
+    pub fn prepare_to_compare(&mut self, variable: u8, depth: u32, parts: &mut Vec<u16>) {
+        parts.push(self.block_to_compare(variable));
+        if self.random.chance(40) {
+            parts.push(self.let_block(depth));
+        }
+    }
+
     /// The variable points to a block that is freed every other time; in a target it may be recorded and deleted.
-    pub fn block_to_compare(&mut self, variable: u8) -> u16 {
+    fn block_to_compare(&mut self, variable: u8) -> u16 {
         let length = self.random.range(1, 4);
         let mut parts = vec![self.builder.new_in(variable, length)];
         let recorded = self.in_target && self.random.chance(70);

@@ -210,7 +210,7 @@ impl Generator {
         self.until_accepted(check_target, |generator| generator.grown(true, set))
     }
 
-    /// The records of a program as it grew, in child-first order; how often it does what is `set` before.
+    /// The records of a program as it grew, in child-first order; `set` tells what it does more often than others.
     fn grown(&mut self, in_target: bool, set: fn(&mut Grower)) -> Vec<Record> {
         let mut grower = Grower::new(&mut self.random, in_target);
         set(&mut grower);

@@ -240,14 +240,11 @@ impl Grower<'_> {
             parts.push(self.new_and_freed(variable));
         }
         match self.random.below(10) {
-            _ if self.comparing > 0 => parts.push(self.block_to_compare(variable)),
+            _ if self.comparing > 0 => self.prepare_to_compare(variable, depth, &mut parts),
             0..=3 => parts.push(self.take_integer()),
             4..=6 => parts.push(self.take_new()),
             7 => parts.push(self.take_pointer()),
             _ => {}
-        }
-        if self.comparing > 0 && self.random.chance(40) {
-            parts.push(self.let_block(depth));
         }
         parts.push(self.statements(depth.saturating_sub(1)));
         self.scope.pop();
@@ -264,6 +261,7 @@ impl Grower<'_> {
     pub fn program(&mut self) -> u16 {
         let depth = self.random.range(1, 5) as u32;
         if self.comparing > 0 {
+            // A let begins with records of its own, before any statement is labelled.
             self.relabel();
             self.let_block(depth)
         } else if self.random.chance(70) {
