@@ -148,6 +148,11 @@ fn holds_on_11000_shuffled_programs() {
 }
 
 #[test]
+fn holds_on_11000_programs_that_compare_pointers() {
+    on_programs(4, 11_000, Generator::comparing_source).show_every_ending(5);
+}
+
+#[test]
 fn every_amount_of_fuel_up_to_the_need_is_told_alike() {
     let mut generator = Generator::new(3);
     let mut counts = Counts::default();
