@@ -1,5 +1,6 @@
 -- 02 §2: "a freed block and an overrun" in small programs, "in program and assertions, alike in a plain and a watched
--- run", with inputs 7, 9: variable 0 points to the two of them.
+-- run", and 02 §4: comparing pointers "in expressions and in predicates", with inputs 7, 9: variable 0 points to the two
+-- of them.
 use mathlib.Core.List.{List, [], _∷_, _++_}
 use lib.IntN.{ℤ, pos}
 use Rattle.rules.specs.Records.{Record}
@@ -50,3 +51,15 @@ assertFreed z =
     newAndFree ++ (five ∷ of 2 7 0 ∷ literal z ∷ of 5 8 9 ∷ of 11 10 0 ∷ of 2 11 0 ∷ of 20 12 0
     ∷ literal (pos 9) ∷ of 20 14 0 ∷ ofAll 32 7 13 15 0 (pos 0) ∷ of 48 16 0
     ∷ of 44 6 17 ∷ of 44 3 18 ∷ letFive 19 ∷ [])
+
+-- and then v0 = (x = y) of two variables
+abbrev pub compareAfterFree : Record → Record → List Record
+compareAfterFree x y =
+    newAndFree ++ (variableZero ∷ x ∷ of 2 8 0 ∷ y ∷ of 2 10 0 ∷ ofAll 4 7 9 11 0 (pos 0) ∷ of 41 7 12
+    ∷ of 44 6 13 ∷ of 44 3 14 ∷ letFive 15 ∷ [])
+
+-- and then assert x = y
+abbrev pub assertEqualAfterFree : Record → Record → List Record
+assertEqualAfterFree x y =
+    newAndFree ++ (x ∷ of 2 7 0 ∷ of 20 8 0 ∷ y ∷ of 2 10 0 ∷ of 20 11 0 ∷ ofAll 32 7 9 12 0 (pos 0) ∷ of 48 13 0
+    ∷ of 44 6 14 ∷ of 44 3 15 ∷ letFive 16 ∷ [])

@@ -1,4 +1,5 @@
--- A read and a store with a pointer into a dead block end 42 wherever it points, outside a live one 50, by computation.
+-- A read and a store with a pointer into a dead block end 42 wherever it points, outside a live one 50, and a comparison
+-- of such a pointer 47, by computation.
 use mathlib.Core.List.{[], _∷_}
 use mathlib.Core.Path.{_≡_, refl}
 use lib.IntN.{pos, negsuc}
@@ -13,8 +14,10 @@ use Rattle.rules.specs.Flow.{turns, runBy}
 use Rattle.rules.specs.Observation.{covered, markAll}
 use Rattle.rules.specs.Watched.{watch}
 use Rattle.rules.specs.Translation.{embed, translateTerm, translatePredicate, translate}
+use Rattle.rules.specs.Cases.{five}
 use Rattle.rules.specs.CommonErrors.{plainly, watchedly, stops}
 use Rattle.rules.specs.PointerCases.{readAt, storeAt, newAt, assertAt, readFreed, storeFreed, assertFreed}
+use Rattle.rules.specs.PointerCases.{variableZero, compareAfterFree, assertEqualAfterFree}
 
 -- number and statement of the plain run, then of the watched one, program by program
 pub pointers-told-apart :
@@ -43,3 +46,19 @@ unfolding little digits wordAt tabulate flat lookUp formOf lowest recordFault ma
     watchedly stops
 pointers-told-apart =
     (refl, refl, refl, refl, refl, refl, refl, refl, refl, refl, refl, refl, refl, refl, refl, refl)
+
+-- 02 §4: freed on the left, on the right and on both sides; and two live ones
+pub freed-pointers-not-compared :
+    (stops (compareAfterFree five variableZero) ≡ (47 ∷ 13 ∷ 47 ∷ 13 ∷ []))
+    × (stops (compareAfterFree variableZero five) ≡ (47 ∷ 13 ∷ 47 ∷ 13 ∷ []))
+    × (stops (compareAfterFree five five) ≡ (47 ∷ 13 ∷ 47 ∷ 13 ∷ []))
+    × (stops (compareAfterFree variableZero variableZero) ≡ (0 ∷ 0 ∷ 0 ∷ 0 ∷ []))
+    × (stops (assertEqualAfterFree five variableZero) ≡ (47 ∷ 14 ∷ 47 ∷ 14 ∷ []))
+    × (stops (assertEqualAfterFree variableZero five) ≡ (47 ∷ 14 ∷ 47 ∷ 14 ∷ []))
+    × (stops (assertEqualAfterFree five five) ≡ (47 ∷ 14 ∷ 47 ∷ 14 ∷ []))
+    × (stops (assertEqualAfterFree variableZero variableZero) ≡ (0 ∷ 0 ∷ 0 ∷ 0 ∷ []))
+unfolding little digits wordAt tabulate flat lookUp formOf lowest recordFault makeNode nodes nodeAt onIntegers
+    onPointerAndInteger onPointers operate locate allFree lowestRun startMemory evaluate queried evaluateTerm
+    evaluatePredicate turns runBy covered markAll watch embed translateTerm translatePredicate translate plainly
+    watchedly stops
+freed-pointers-not-compared = (refl, refl, refl, refl, refl, refl, refl, refl)
