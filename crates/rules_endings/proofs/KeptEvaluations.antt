@@ -102,11 +102,11 @@ module _ (m m₁ : Memory) (kept : (p : Pointer) → SameValue (readCell m p) (r
     evaluate-kept (read p) τ ρ = reading-kept (findPlace p τ ρ m) (findPlace p τ ρ m₁) (findPlace-kept p τ ρ)
     evaluate-kept (address p) τ ρ = address-kept (findPlace p τ ρ m) (findPlace p τ ρ m₁) (findPlace-kept p τ ρ)
     evaluate-kept (operation o a b) τ ρ =
-        operated-kept (liveBlock m) (liveBlock m₁) living o (evaluate a τ ρ m) (evaluate b τ ρ m) (evaluate a τ ρ m₁) (evaluate b τ ρ m₁)
-        (evaluate-kept a τ ρ) (evaluate-kept b τ ρ)
+        operated-kept (liveBlock m) (liveBlock m₁) living o (evaluate a τ ρ m) (evaluate b τ ρ m)
+        (evaluate a τ ρ m₁) (evaluate b τ ρ m₁) (evaluate-kept a τ ρ) (evaluate-kept b τ ρ)
     evaluate-kept (shifted a b) τ ρ =
-        operated-kept (liveBlock m) (liveBlock m₁) living shift (evaluate a τ ρ m) (evaluate b τ ρ m) (evaluate a τ ρ m₁) (evaluate b τ ρ m₁)
-        (evaluate-kept a τ ρ) (evaluate-kept b τ ρ)
+        operated-kept (liveBlock m) (liveBlock m₁) living shift (evaluate a τ ρ m) (evaluate b τ ρ m)
+        (evaluate a τ ρ m₁) (evaluate b τ ρ m₁) (evaluate-kept a τ ρ) (evaluate-kept b τ ρ)
 
     pub findPlace-kept : {T : Type 0} (p : Place T) (τ : Holding T) (ρ : Variables)
         → SamePlace (findPlace p τ ρ m) (findPlace p τ ρ m₁)

@@ -69,7 +69,8 @@ fn operate(obs: &ObservationMemory, k: u8, a: Value, b: Value) -> Evaluated
 fn take_operation(temporaries: &mut Temporaries, obs: &ObservationMemory, n: usize, k: u8) -> u32
     requires { ⌜ n + 2 < temporaryCount ⌝ }
     ensures { λ r. ⌜ Takes (now (temporaries .entry)) (now (temporaries .exit)) r n
-        (operated (liveRecord (observationOf (now (obs .entry)))) (operatorOf k) (heldIn (temporariesOf (now (temporaries .entry))) (suc n))
+        (operated (liveRecord (observationOf (now (obs .entry)))) (operatorOf k)
+        (heldIn (temporariesOf (now (temporaries .entry))) (suc n))
         (heldIn (temporariesOf (now (temporaries .entry))) (suc (suc n)))) ⌝ }
 {
     match evaluation_temporaries::read_temporary(&*temporaries, n + 1) {

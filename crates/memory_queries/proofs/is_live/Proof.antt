@@ -38,4 +38,6 @@ returns-4 c =
     sym (ap (λ (b : Block). isLive (recordedOf b)) (sym (c .before .before .block .ensures) ∙ c .enum-told4 .given .1))
 
 pub is-live-spec : {M : Type 1} → statement M
-is-live-spec = tie.close (tie.spec block-requires enum-told enum-told-2 enum-told-3 enum-told-4 returns returns-2 returns-3 returns-4)
+is-live-spec =
+    tie.close
+    (tie.spec block-requires enum-told enum-told-2 enum-told-3 enum-told-4 returns returns-2 returns-3 returns-4)

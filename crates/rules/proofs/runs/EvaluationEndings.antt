@@ -92,9 +92,11 @@ module _ (G : Value → Type 0) (integers : (z : ℤ) → G (Value.Integer z))
         (findPlace-among p τ h ρ m) (λ l u. readCell-among m l)
     evaluate-among (address p) τ h ρ m = addressOf-among (findPlace p τ ρ m) (findPlace-among p τ h ρ m)
     evaluate-among (operation o a b) τ h ρ m =
-        operated-among (liveBlock m) o (evaluate a τ ρ m) (evaluate b τ ρ m) (evaluate-among a τ h ρ m) (evaluate-among b τ h ρ m)
+        operated-among (liveBlock m) o (evaluate a τ ρ m) (evaluate b τ ρ m) (evaluate-among a τ h ρ m)
+        (evaluate-among b τ h ρ m)
     evaluate-among (shifted a b) τ h ρ m =
-        operated-among (liveBlock m) shift (evaluate a τ ρ m) (evaluate b τ ρ m) (evaluate-among a τ h ρ m) (evaluate-among b τ h ρ m)
+        operated-among (liveBlock m) shift (evaluate a τ ρ m) (evaluate b τ ρ m) (evaluate-among a τ h ρ m)
+        (evaluate-among b τ h ρ m)
 
     pub findPlace-among : {T : Type 0} (p : Place T) (τ : Holding T) → ((t : T) → EvaluatedAmong G numbers (held (τ t)))
         → (ρ : Variables) (m : Memory) → FoundAmong numbers (findPlace p τ ρ m)
@@ -111,7 +113,8 @@ module _ (G : Value → Type 0) (integers : (z : ℤ) → G (Value.Integer z))
   evaluateTerm-among (asked q t) ρ m =
       among-value (evaluateTerm t ρ m) _ (evaluateTerm-among t ρ m) (λ v u. queryMemory-among q m v)
   evaluateTerm-among (combined o a b) ρ m =
-      operated-among (liveBlock m) o (evaluateTerm a ρ m) (evaluateTerm b ρ m) (evaluateTerm-among a ρ m) (evaluateTerm-among b ρ m)
+      operated-among (liveBlock m) o (evaluateTerm a ρ m) (evaluateTerm b ρ m) (evaluateTerm-among a ρ m)
+      (evaluateTerm-among b ρ m)
 
   tested-then : (v : Value) (x y : Evaluated) → EvaluatedAmong G numbers x → EvaluatedAmong G numbers y
       → EvaluatedAmong G numbers (onTest (tested v) Evaluated.Stopped x y)
@@ -125,7 +128,8 @@ module _ (G : Value → Type 0) (integers : (z : ℤ) → G (Value.Integer z))
   evaluatePredicate-among (holds q t) ρ m =
       among-value (evaluateTerm t ρ m) _ (evaluateTerm-among t ρ m) (λ v u. queryMemory-among q m v)
   evaluatePredicate-among (compared o a b) ρ m =
-      operated-among (liveBlock m) o (evaluateTerm a ρ m) (evaluateTerm b ρ m) (evaluateTerm-among a ρ m) (evaluateTerm-among b ρ m)
+      operated-among (liveBlock m) o (evaluateTerm a ρ m) (evaluateTerm b ρ m) (evaluateTerm-among a ρ m)
+      (evaluateTerm-among b ρ m)
   evaluatePredicate-among (negated a) ρ m =
       among-value (evaluatePredicate a ρ m) _ (evaluatePredicate-among a ρ m) (λ v u. opposite-among v)
   evaluatePredicate-among (both a b) ρ m =

@@ -225,9 +225,10 @@ module _ (t : ℕ) where
       (i .child-a3 .ensures) (a .evaluate-operand .ensures) (j .child-b .ensures) (b .evaluate-operand2 .ensures)
       (c .restate .ensures
       ∙ o .operate .ensures
-      ∙ ap (λ (k : ℕ). operate (liveBlock (memory s)) (operatorOf k) (x .a .given .0 .0) (y .b .given .0 .0)) (w .mark .ensures)
-      ∙ sym (ap₂ (operated (liveBlock (memory s)) (operatorOf (markOf (now (s .args .table)) (s .args .n)))) (x .a .given .1)
-      (y .b .given .1)))
+      ∙ ap (λ (k : ℕ). operate (liveBlock (memory s)) (operatorOf k) (x .a .given .0 .0) (y .b .given .0 .0))
+      (w .mark .ensures)
+      ∙ sym (ap₂ (operated (liveBlock (memory s)) (operatorOf (markOf (now (s .args .table)) (s .args .n))))
+      (x .a .given .1) (y .b .given .1)))
 
   returns-5 : lts.Need-returns-5 claims entry reads.Post
   returns-5 c =
@@ -241,7 +242,8 @@ module _ (t : ℕ) where
       let s = m .before .before .before in
       operation-arm (now (s .args .table)) (temporaries s) (variables s) (memory s) (s .args .n) (is-operation m)
       (i .child-a3 .ensures) (a .evaluate-operand .ensures) (j .child-b .ensures) (b .evaluate-operand2 .ensures)
-      (sym (ap₂ (operated (liveBlock (memory s)) (operatorOf (markOf (now (s .args .table)) (s .args .n)))) (x .a .given .1) (y .k .given .1)))
+      (sym (ap₂ (operated (liveBlock (memory s)) (operatorOf (markOf (now (s .args .table)) (s .args .n))))
+      (x .a .given .1) (y .k .given .1)))
 
   returns-6 : lts.Need-returns-6 claims entry reads.Post
   returns-6 c =
