@@ -3,7 +3,7 @@ use Prim.Native.Nat.{ℕ, _+_}
 use native.Mathlib.Omega.{arith}
 use mathlib.Core.Bool.{Bool, true, false, cond, _&&_, false≢true}
 use mathlib.Core.Logic.{_⊎_, inl, inr, _≢_}
-use mathlib.Core.Path.{_≡_, refl, sym, ap, _∙_}
+use mathlib.Core.Path.{_≡_, refl, sym, ap}
 use borrow.Author.Tests.{eqb-true}
 use lib.Dec.{eqb, ltb}
 use lib.IntN.{ℤ, pos, negsuc}
@@ -76,23 +76,25 @@ truth-is false e = let z : _≡_ {A = ℕ} 0 1 = cc in absurd (omega arith)
 -- blocks are live.
 equal-leads : (records : ℕ → Recorded) (p q : Pointer)
     → operate (λ k. isLive (records k)) (operatorOf 7) (Value.Pointer p) (Value.Pointer q) ≡ truthValue true
-    → (locatedIn (records (p .name)) (p .offset) ≡ locatedIn (records (q .name)) (q .offset))
+    → (p ≡ q)
+    × (locatedIn (records (p .name)) (p .offset) ≡ locatedIn (records (q .name)) (q .offset))
     × (locatedIn (records (p .name)) (p .offset) ≢ Located.Dead)
 equal-leads records p q h =
-    let live = operator-7-compares-live-blocks (λ k. isLive (records k)) p q (truth true) h in (
-      ap (λ (r : Pointer). locatedIn (records (r .name)) (r .offset))
-          (same-pointer-is p q (truth-is (samePointer p q) (live .2))),
+    let live = operator-7-compares-live-blocks (λ k. isLive (records k)) p q (truth true) h in
+    let same = same-pointer-is p q (truth-is (samePointer p q) (live .2)) in (
+      same,
+      ap (λ (r : Pointer). locatedIn (records (r .name)) (r .offset)) same,
       live-not-dead (records (p .name)) (p .offset) (live .0),
     )
 
 -- in the execution memory, whose cells they lead to, and in the observation memory
 pub equal-pointers-lead-to-the-same-place : (m : Memory) (p q : Pointer)
     → operate (liveBlock m) (operatorOf 7) (Value.Pointer p) (Value.Pointer q) ≡ truthValue true
-    → (locate m p ≡ locate m q) × (locate m p ≢ Located.Dead)
+    → (p ≡ q) × (locate m p ≡ locate m q) × (locate m p ≢ Located.Dead)
 unfolding locate
 equal-pointers-lead-to-the-same-place m p q h = equal-leads (λ k. recordedOf (blockOf m k)) p q h
 
 pub equal-pointers-lead-to-the-same-mark : (o : Observation) (p q : Pointer)
     → operate (liveRecord o) (operatorOf 7) (Value.Pointer p) (Value.Pointer q) ≡ truthValue true
-    → (locateMark o p ≡ locateMark o q) × (locateMark o p ≢ Located.Dead)
+    → (p ≡ q) × (locateMark o p ≡ locateMark o q) × (locateMark o p ≢ Located.Dead)
 equal-pointers-lead-to-the-same-mark o p q h = equal-leads (recordOf o) p q h
