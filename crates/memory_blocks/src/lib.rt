@@ -1,9 +1,12 @@
 // New blocks of the execution memory.
 ghost use mathlib.Core.Path.{_≡_};
+ghost use mathlib.Core.Bool.{false};
 ghost use Prim.Native.Nat.{_<_};
 ghost use Rattle.rules.specs.Sizes.{cellCount};
 ghost use Rattle.rules.specs.Memory.{cellOf, isFree, freeRun, makeBlock, withBlock, blockFor};
 ghost use Rattle.rules.specs.Layout.{memoryOf, nameLimit};
+ghost use Rattle.rules.proofs.lists.RunLaws.{Held};
+ghost use Rattle.rules.proofs.memory.Invariant.{Invariant};
 ghost use Rattle.memory_counts.specs.Counted.{Counted};
 ghost use Rattle.memory_cells.specs.Changes.{Becomes};
 ghost use Rattle.memory_blocks.specs.Blocks.{makingOf, madeMemory, useOf};
@@ -29,9 +32,19 @@ fn is_free(mem: &ExecutionMemory, i: usize) -> bool
     mem[BLOCKS_LENGTH + i * 16] == 0
 }
 
-// The lowest run of n free cells, n from 1 on.
+// Where the block ends that has cell i.
+fn end_of(mem: &ExecutionMemory, i: usize) -> usize
+    requires { ⌜ Invariant (memoryOf (now mem)) × (i < cellCount)
+        × (isFree (cellOf (memoryOf (now mem)) i) ≡ false) ⌝ }
+    ensures { λ r. ⌜ Held (λ j. isFree (cellOf (memoryOf (now (mem .entry))) j)) i r ⌝ }
+{
+    let owner = mem[BLOCKS_LENGTH + i * 16 + 1];
+    byte_blocks::end(&mem[..], owner as usize)
+}
+
+// The lowest run of n free cells, n from 1 on. A cell that is not free is left by the end of its owner's block.
 fn find_run(mem: &ExecutionMemory, n: usize) -> Search
-    requires { ⌜ 0 < n ⌝ }
+    requires { ⌜ (0 < n) × Invariant (memoryOf (now mem)) ⌝ }
     ensures { λ r. ⌜ r ≡ freeRun (memoryOf (now (mem .entry))) n ⌝ }
 {
     let mut run: usize = 0;
@@ -39,18 +52,20 @@ fn find_run(mem: &ExecutionMemory, n: usize) -> Search
     while i < CELL_COUNT {
         if is_free(mem, i) {
             run += 1;
+            i += 1;
             if run == n {
-                return Search::At(i + 1 - n);
+                return Search::At(i - n);
             }
         } else {
             run = 0;
+            i = end_of(mem, i);
         }
-        i += 1;
     }
     Search::Nothing
 }
 
 fn free_run(mem: &ExecutionMemory, n: usize) -> Search
+    requires { ⌜ Invariant (memoryOf (now mem)) ⌝ }
     ensures { λ r. ⌜ r ≡ freeRun (memoryOf (now (mem .entry))) n ⌝ }
 {
     if n == 0 {

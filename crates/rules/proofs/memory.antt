@@ -3,6 +3,7 @@ pub mod MemoryLaws
 pub mod Invariant
 pub mod Room
 pub mod Owners
+pub mod BlockEnds
 pub mod Pointing
 pub mod ComparedPointers
 pub mod BlockChanges
@@ -14,5 +15,6 @@ pub mod Orderly
 pub mod GivenNames
 pub mod WatchedGiven
 pub mod ObservationOrder
+pub mod MarkOwners
 pub mod ObservationKept
 pub mod ObservedRuns

@@ -45,6 +45,9 @@ pub type Variables = [u16; VARIABLE_COUNT];
 // What a run counts as it goes: the free cells, and the next name, one past the last where all names are given.
 pub type Counts = [usize; 2];
 
+// The live block that has each mark, by its name; 0 where none has.
+pub type MarkOwners = [u16; CELL_COUNT];
+
 // "a pointer with its block name and offset"; the offset may lie outside the block.
 pub struct Pointer {
     pub name: u16,

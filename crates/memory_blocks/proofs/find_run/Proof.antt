@@ -1,19 +1,15 @@
 -- `memory_blocks::find_run` meets its contract. Assumes nothing.
-use mathlib.Core.Path.{_≡_, refl, sym, ap, _∙_, subst}
-use Prim.Native.Nat.{ℕ, suc, _+_, _-_, _*_, _≤_, _<_}
+use Prim.Native.Nat.{ℕ, _-_}
 use native.Mathlib.Omega.{arith}
-use mathlib.Core.Bool.{Bool, true, false}
+use mathlib.Core.Path.{_≡_, sym, _∙_}
+use mathlib.Core.Bool.{Bool}
 use mathlib.Core.List.{List}
-use mathlib.Core.Logic.{⊎-elim, inl, inr}
 use Rattle.rules.specs.Sizes.{cellCount}
 use Rattle.rules.specs.Layout.{memoryOf}
 use Rattle.rules.specs.Memory.{isFree, cellOf}
-use Rattle.memory_blocks.proofs.Runs.{Scanned, scan-start, scan-free, scan-held, scan-found, scan-none}
+use Rattle.rules.proofs.lists.RunLaws.{Scanned, scan-start, scan-free, scan-over, scan-found, scan-none}
 use Rattle.memory_blocks.proofs.find_run.Statement.{statement}
 use Rattle.memory_blocks.proofs.find_run.Tie as tie
-use Rattle.memory_blocks.proofs.find_run.Reads as reads
-use Rattle.memory_blocks.proofs.find_run.Lts as lts
-use Rattle.memory_blocks.proofs.is_free.Reads as is-free-reads
 
 abbrev free-in : List ℕ → ℕ → Bool
 free-in l i = isFree (cellOf (memoryOf l) i)
@@ -25,7 +21,7 @@ abbrev μ-loop : tie.MeasureT-loop
 μ-loop mem n run₀ i₀ run i = cellCount - i
 
 loop-holds : tie.Need-loop-holds Inv-loop μ-loop
-loop-holds c = scan-start (free-in (c .args .mem .now)) (c .args .n) (c .pre)
+loop-holds c = scan-start (free-in (c .args .mem .now)) (c .args .n) (c .pre .0)
 
 is-free-requires : tie.Need-is-free-requires Inv-loop μ-loop
 is-free-requires c κs = c .loop-test .taken
@@ -33,11 +29,11 @@ is-free-requires c κs = c .loop-test .taken
 add-run : tie.Need-add-run Inv-loop μ-loop
 add-run c = omega arith
 
-add-t8 : tie.Need-add-t8 Inv-loop μ-loop
-add-t8 c = omega arith
+add-i : tie.Need-add-i Inv-loop μ-loop
+add-i c = omega arith
 
-sub-t9 : tie.Need-sub-t9 Inv-loop μ-loop
-sub-t9 c = omega arith
+sub-t8 : tie.Need-sub-t8 Inv-loop μ-loop
+sub-t8 c = omega arith
 
 returns : tie.Need-returns Inv-loop μ-loop
 returns c =
@@ -47,24 +43,31 @@ returns c =
     (c .before .before .before .loop-test .taken)
     (sym (c .before .before .is-free .ensures) ∙ c .before .if1 .taken) (c .if2 .taken)
 
-add-i : tie.Need-add-i Inv-loop μ-loop
-add-i c = omega arith
-
 loop-less : tie.Need-loop-less Inv-loop μ-loop
 loop-less c = omega arith
 
 loop-again : tie.Need-loop-again Inv-loop μ-loop
 loop-again c =
+    let s = c .before .before .before .before .before in
+    let l = c .before .before .before .before .loop in
+    scan-free (free-in (s .args .mem .now)) (s .args .n) (l .i) (l .run) (l .inv)
+    (c .before .before .before .loop-test .taken)
+    (sym (c .before .before .is-free .ensures) ∙ c .before .if1 .taken) (c .if2 .left)
+
+end-of-requires : tie.Need-end-of-requires Inv-loop μ-loop
+end-of-requires c κs =
     let s = c .before .before .before .before in
-    let l = c .before .before .before .loop in
-    let p = free-in (s .args .mem .now) in
-    let h = c .before .before .loop-test .taken in
-    ⊎-elim
-    (λ w. rw (w .2) (scan-free p (s .args .n) (l .i) (l .run) (l .inv) h
-    (sym (c .before .is-free .ensures) ∙ w .0 .taken) (w .1 .left)))
-    (λ w. rw (w .1) (scan-held p (s .args .n) (l .i) (l .run) (l .inv) h
-    (sym (c .before .is-free .ensures) ∙ w .0 .left)))
-    (c .if1 .came)
+    (s .pre .1, c .before .before .loop-test .taken, sym (c .before .is-free .ensures) ∙ c .if1 .left)
+
+loop-less-2 : tie.Need-loop-less-2 Inv-loop μ-loop
+loop-less-2 c = omega (arith, c .end-of .ensures .further, c .end-of .ensures .within)
+
+loop-again-2 : tie.Need-loop-again-2 Inv-loop μ-loop
+loop-again-2 c =
+    let s = c .before .before .before .before .before in
+    let l = c .before .before .before .before .loop in
+    scan-over (free-in (s .args .mem .now)) (s .args .n) (l .i) (l .run) (l .inv)
+    (c .before .before .before .loop-test .taken) (c .end-of .ensures)
 
 returns-2 : tie.Need-returns-2 Inv-loop μ-loop
 returns-2 c =
@@ -82,10 +85,12 @@ find-run-spec =
     loop-holds
     is-free-requires
     add-run
-    add-t8
-    sub-t9
-    returns
     add-i
+    sub-t8
+    returns
     loop-less
     loop-again
+    end-of-requires
+    loop-less-2
+    loop-again-2
     returns-2)

@@ -6,9 +6,10 @@ use Rattle.rules.specs.Layout.{memoryOf}
 use Rattle.rules.specs.declared.{Search.Search}
 use Rattle.rules.specs.Memory.{nextName, freeRun, made, makeBlock, withBlock}
 use Rattle.memory_counts.proofs.CountLaws.{counted-is, room-counted, counted-new}
+use Rattle.rules.proofs.lists.RunLaws.{run-bound}
 use Rattle.memory_cell_changes.proofs.Writing.{unchanged}
 use Rattle.memory_blocks.specs.Blocks.{useOf}
-use Rattle.memory_blocks.proofs.Runs.{name-bound, run-bound}
+use Rattle.memory_blocks.proofs.Runs.{name-bound}
 use borrow.Author.Needs.{needs}
 use Rattle.memory_blocks.proofs.make.Statement.{statement}
 use Rattle.memory_blocks.proofs.make.Tie as tie
@@ -66,7 +67,7 @@ enum-known-k : tie.Need-enum-known-k
 enum-known-k c = search needs
 
 free-run-requires : tie.Need-free-run-requires
-free-run-requires c κs = search needs
+free-run-requires c κs = c .before .before .before .before .before .before .pre .invariant
 
 enum-told-2 : tie.Need-enum-told-2
 enum-told-2 c = search needs
@@ -82,12 +83,12 @@ cast-place c =
 cast-place-2 : tie.Need-cast-place-2
 cast-place-2 c =
     let s = c .before .before .before .before .before .before .before .before .before .before .before in
-    omega (arith, run-bound (memoryOf (now (s .args .mem))) (s .args .n) _ (run c))
+    omega (arith, run-bound _ (s .args .n) _ (run c))
 
 cast-place-3 : tie.Need-cast-place-3
 cast-place-3 c =
     let s = c .before .before .before .before .before .before .before .before .before .before .before in
-    omega (arith, run-bound (memoryOf (now (s .args .mem))) (s .args .n) _ (run c))
+    omega (arith, run-bound _ (s .args .n) _ (run c))
 
 place-requires : tie.Need-place-requires
 place-requires c κs =

@@ -142,6 +142,12 @@ pub record Scanned (p : ℕ → Bool) (n i run : ℕ) : Type 0 where
   pub passed : (j : ℕ) → i - run ≤ j → j < i → p j ≡ true
   pub nowhere : (j : ℕ) → j < i - run → allFree p j n ≡ false
 
+-- none of the places from i on passes, up to a later one
+pub record Held (p : ℕ → Bool) (i e : ℕ) : Type 0 where
+  pub further : i < e
+  pub within : e ≤ cellCount
+  pub held : (j : ℕ) → i ≤ j → j < e → p j ≡ false
+
 module _ (p : ℕ → Bool) (n : ℕ) where
   pub scan-start : 0 < n → Scanned p n 0 0
   scan-start h = record {
@@ -177,24 +183,26 @@ module _ (p : ℕ → Bool) (n : ℕ) where
         before : (j : ℕ) → j < i + 1 - (run + 1) → j < i - run
         before j b = omega arith
 
-    pub scan-held : p i ≡ false → Scanned p n (i + 1) 0
-    scan-held t = record {
-      within = omega arith;
+    -- an occupied place is left by the end of what has it
+    pub scan-over : {e : ℕ} → Held p i e → Scanned p n e 0
+    scan-over {e} o = record {
+      within = o .within;
       some = omega arith;
       short = omega (arith, s .short);
       passed = λ j a b. absurd (empty j a b);
-      nowhere = λ j b. ⊎-elim (λ l. s .nowhere j l) (λ l. blocked p n j i (le j b) (reach j l) t)
-          (lt-or-le j (i - run));
+      nowhere = λ j b. go j b (lt-or-le j (i - run)) (lt-or-le j i);
     }
       where
-        empty : (j : ℕ) → i + 1 - 0 ≤ j → j < i + 1 → ⊥
+        empty : (j : ℕ) → e - 0 ≤ j → j < e → ⊥
         empty j a b = omega arith
-
-        le : (j : ℕ) → j < i + 1 - 0 → j ≤ i
-        le j b = omega arith
 
         reach : (j : ℕ) → i - run ≤ j → i < j + n
         reach j l = omega (arith, s .short, s .some)
+
+        go : (j : ℕ) → j < e - 0 → (j < i - run) ⊎ (i - run ≤ j) → (j < i) ⊎ (i ≤ j) → allFree p j n ≡ false
+        go j b (inl l) d = s .nowhere j l
+        go j b (inr l) (inl d) = blocked p n j i (omega arith) (reach j l) (o .held i (omega arith) (o .further))
+        go j b (inr l) (inr d) = blocked p n j j (omega arith) (omega (arith, s .short)) (o .held j d (omega arith))
 
     pub scan-found : p i ≡ true → run + 1 ≡ n → Search.At (i + 1 - n) ≡ lowestRun p n
     unfolding lowestRun

@@ -59,14 +59,14 @@ marked-inside o y i e = go (covered (o .blocks) i) refl
     go false d = absurd (true≢false (sym e ∙ y .outside i d))
 
 -- ---- places that no live block covers
-uncovered : (l : List Recorded) (i : ℕ) → coverage l i ≡ 0 → covered l i ≡ false
+pub uncovered : (l : List Recorded) (i : ℕ) → coverage l i ≡ 0 → covered l i ≡ false
 uncovered l i e = go (covered-is l i)
   where
     go : {b : Bool} → Covered l i b → b ≡ false
     go (some h) = absurd (omega arith)
     go (none h) = refl
 
-coverage-none : (l : List Recorded) (i : ℕ) → covered l i ≡ false → coverage l i ≡ 0
+pub coverage-none : (l : List Recorded) (i : ℕ) → covered l i ≡ false → coverage l i ≡ 0
 coverage-none l i e = go (covered l i) e (covered-is l i)
   where
     go : (b : Bool) → b ≡ false → Covered l i b → coverage l i ≡ 0
@@ -85,7 +85,7 @@ markRun-free o n first i e p q =
     let h = subst (Outcome _ 0 _) e (lowest-outcome _ 0 _) in
     coverage-none (o .blocks) i (not-true (covered (o .blocks) i) (allFree-at _ first n i (h .2) p q))
 
-dead-is-not-unused : Recorded.Dead ≡ Recorded.Unused → ⊥
+pub dead-is-not-unused : Recorded.Dead ≡ Recorded.Unused → ⊥
 dead-is-not-unused e = let z : _≡_ {A = ℕ} 0 1 = cc in omega arith
 
 -- ---- a block is stored or deleted: the marks from first on are cleared, the others are covered as before
@@ -231,6 +231,10 @@ mark-orderly o p i y e = record {
         omega (arith, in-block, z, coverage-named (o .blocks) (p .name) i)
 
 -- at the start nothing is recorded and no mark is set
+pub none-cover : (n i : ℕ) → coverage (replicate n Recorded.Unused) i ≡ 0
+none-cover zero i = refl
+none-cover (suc n) i = omega (arith, none-cover n i)
+
 pub empty-orderly : OrderlyObservation emptyObservation
 empty-orderly = record {
   record-count = length-replicate nameCount Recorded.Unused;
@@ -243,10 +247,6 @@ empty-orderly = record {
   where
     unused : All InsideRecorded (replicate nameCount Recorded.Unused)
     unused = all-replicate nameCount Recorded.Unused tt
-
-    none-cover : (n i : ℕ) → coverage (replicate n Recorded.Unused) i ≡ 0
-    none-cover zero i = refl
-    none-cover (suc n) i = omega (arith, none-cover n i)
 
 pub orderly-calls : CallsKeep OrderlyObservation
 orderly-calls = record { storing = store-orderly; deleting = delete-orderly; marking = mark-orderly }

@@ -1,0 +1,2 @@
+-- What a block record's words say together.
+pub mod Ends

@@ -1,0 +1,155 @@
+-- Which live block has each mark, as a watched run keeps it beside the observation memory: what that says, and that it
+-- stays right where a block is stored or deleted.
+use Prim.Native.Nat.{ℕ, zero, suc, _+_, _≤_, _<_}
+use native.Mathlib.Omega.{arith}
+use mathlib.Core.Path.{_≡_, refl, sym, ap, _∙_}
+use mathlib.Core.Bool.{Bool, true, false, not, true≢false}
+use mathlib.Core.Logic.{_≢_}
+use mathlib.Core.List.{List}
+use lib.Dec.{eqb}
+use borrow.Author.Tests.{ne-eqb}
+use lib.ListN.{length, getD, replicate, length-replicate}
+use Rattle.rules.specs.Sizes.{nameCount, cellCount}
+use Rattle.rules.specs.Memory.{named, lowestRun, one, fill, setNamed}
+use Rattle.rules.specs.Observation.{Observation, recordOf, covers, covered, markRun, withMarks, emptyObservation}
+use Rattle.rules.specs.Types.{Pointer, Located, Search, Recorded}
+use Rattle.rules.proofs.lists.Rows.{getD-zero}
+use Rattle.rules.proofs.lists.Lists.{length-fill, length-setNamed}
+use Rattle.rules.proofs.lists.RunLaws.{Held, run-same, run-bound}
+use Rattle.rules.proofs.memory.MemoryLaws.{named-in, named-setNamed-same, named-setNamed-other, fill-inside}
+use Rattle.rules.proofs.memory.MemoryLaws.{fill-below, fill-above, Covering, inside, below, above, covering}
+use Rattle.rules.proofs.memory.MemoryLaws.{covers-inside, coverage, coverage-setNamed, coverage-named}
+use Rattle.rules.proofs.memory.MemoryLaws.{Covered, some, none, covered-is}
+use Rattle.rules.proofs.memory.BlockEnds.{held-to-end}
+use Rattle.rules.proofs.memory.ObservationOrder.{OrderlyObservation, orderly-calls, empty-orderly, uncovered}
+use Rattle.rules.proofs.memory.ObservationOrder.{coverage-none, dead-is-not-unused, none-cover}
+use Rattle.rules.proofs.memory.BlockChanges.{dead-is-not-live}
+
+-- mark i lies in no live block where its owner is 0, and in the live block of its owner's name where it is not
+abbrev pub OwnedBy : List Recorded → ℕ → ℕ → Type 0
+OwnedBy l i zero = covered l i ≡ false
+OwnedBy l i (suc k) = covers (named l (suc k) Recorded.Dead) i ≡ true
+
+pub record MarksOwned (o : Observation) (owners : List ℕ) : Type 0 where
+  pub orderly : OrderlyObservation o
+  pub size : length owners ≡ cellCount
+  pub owned : (i : ℕ) → i < cellCount → OwnedBy (o .blocks) i (getD owners i 0)
+
+-- ---- the search: a mark is free where it has no owner, and one that has is left by the end of its owner's block
+unowned : (l : List Recorded) (i k : ℕ) → OwnedBy l i k → eqb k 0 ≡ not (covered l i)
+unowned l i zero h = sym (ap not h)
+unowned l i (suc k) h = ne-eqb (suc k) 0 (omega arith) ∙ go (covered-is l i)
+  where
+    go : {b : Bool} → Covered l i b → false ≡ not b
+    go (some c) = refl
+    go (none c) =
+        let z = rw h at (coverage-named l (suc k) i) in
+        absurd (omega (arith, c, z))
+
+module _ {o : Observation} {owners : List ℕ} (h : MarksOwned o owners) where
+  pub owners-run : (n : ℕ) → lowestRun (λ i. eqb (getD owners i 0) 0) n ≡ markRun o n
+  owners-run n =
+      run-same (λ i. eqb (getD owners i 0) 0) (λ i. not (covered (o .blocks) i)) n
+      (λ j b. unowned (o .blocks) j (getD owners j 0) (h .owned j b))
+
+  -- a mark's owner, where it has one, has a live block with the mark in it
+  pub owner-covers : (i : ℕ) → i < cellCount → getD owners i 0 ≢ 0
+      → covers (recordOf o (getD owners i 0)) i ≡ true
+  owner-covers i b f = go (getD owners i 0) f (h .owned i b)
+    where
+      go : (k : ℕ) → k ≢ 0 → OwnedBy (o .blocks) i k → covers (recordOf o k) i ≡ true
+      go zero f w = absurd (f refl)
+      go (suc k) f w = w
+
+  pub owner-held : (k i first n : ℕ) → recordOf o k ≡ Recorded.Live first n → covers (Recorded.Live first n) i ≡ true
+      → Held (λ j. eqb (getD owners j 0) 0) i (first + n)
+  owner-held k i first n e c =
+      held-to-end (o .blocks) _ apart k i first n e (h .orderly .within k first n e) c
+    where
+      apart : (j : ℕ) → j < cellCount → 1 ≤ coverage (o .blocks) j → eqb (getD owners j 0) 0 ≡ false
+      apart j b a = unowned (o .blocks) j (getD owners j 0) (h .owned j b) ∙ go (covered-is (o .blocks) j)
+        where
+          go : {t : Bool} → Covered (o .blocks) j t → not t ≡ false
+          go (some c) = refl
+          go (none c) = absurd (omega arith)
+
+-- ---- a block's record is set
+module _ (l : List Recorded) (k : ℕ) (b : Recorded) (i : ℕ) (from : 1 ≤ k) (to : k ≤ length l) where
+  covers-set : covers b i ≡ true → OwnedBy (setNamed l k b) i k
+  covers-set e = go k from (ap (λ x. covers x i) (named-setNamed-same l k b Recorded.Dead from to) ∙ e)
+    where
+      go : (j : ℕ) → 1 ≤ j → covers (named (setNamed l k b) j Recorded.Dead) i ≡ true → OwnedBy (setNamed l k b) i j
+      go zero a w = absurd (omega arith)
+      go (suc j) a w = w
+
+  -- a mark that the block has neither before nor after keeps its owner
+  owned-apart : covers (named l k Recorded.Dead) i ≡ false → covers b i ≡ false → (x : ℕ) → OwnedBy l i x
+      → OwnedBy (setNamed l k b) i x
+  owned-apart e d zero w =
+      let z = rw (e, d) at (coverage-setNamed l k b i from to) in
+      uncovered (setNamed l k b) i (omega (arith, z, coverage-none l i w))
+  owned-apart e d (suc j) w =
+      ap (λ x. covers x i) (named-setNamed-other l k (suc j) b Recorded.Dead other) ∙ w
+    where
+      other : suc j ≢ k
+      other q = true≢false (sym w ∙ ap (λ x. covers (named l x Recorded.Dead) i) q ∙ e)
+
+-- ---- the calls
+module _ {o : Observation} {owners : List ℕ} (h : MarksOwned o owners) (k first n : ℕ) where
+  -- the marks of the block get a new owner, the others keep theirs
+  owned-filled : (b : Recorded) (x : ℕ) → ((i : ℕ) → first ≤ i → i < first + n → OwnedBy (setNamed (o .blocks) k b) i x)
+      → ((i : ℕ) → covers (Recorded.Live first n) i ≡ false → OwnedBy (o .blocks) i (getD owners i 0)
+      → OwnedBy (setNamed (o .blocks) k b) i (getD owners i 0))
+      → (i : ℕ) → i < cellCount → OwnedBy (setNamed (o .blocks) k b) i (getD (fill owners first n x) i 0)
+  owned-filled b x new old i c = go (covers (Recorded.Live first n) i) refl (covering first n i)
+    where
+      go : (t : Bool) → covers (Recorded.Live first n) i ≡ t → Covering first n i t
+          → OwnedBy (setNamed (o .blocks) k b) i (getD (fill owners first n x) i 0)
+      go true e (inside p q) = rw (fill-inside owners first n x i 0 (omega (arith, h .size)) p q) (new i p q)
+      go false e (below p) = rw (fill-below owners first n x i 0 p) (old i e (h .owned i c))
+      go false e (above p) = rw (fill-above owners first n x i 0 p) (old i e (h .owned i c))
+
+  pub store-owned : recordOf o k ≡ Recorded.Unused → markRun o n ≡ Search.At first
+      → MarksOwned (withMarks o k (Recorded.Live first n) first n) (fill owners first n k)
+  store-owned d e = record {
+    orderly = orderly-calls .storing o k first n (h .orderly) d e;
+    size = length-fill owners first n k ∙ h .size;
+    owned = owned-filled (Recorded.Live first n) k
+        (λ i p q. covers-set (o .blocks) k (Recorded.Live first n) i (r .0) (r .1) (covers-inside first n i p q))
+        (λ i c w. owned-apart (o .blocks) k (Recorded.Live first n) i (r .0) (r .1) (ap (λ x. covers x i) d) c
+        (getD owners i 0) w);
+  }
+    where
+      r : (1 ≤ k) × (k ≤ length (o .blocks))
+      r = named-in (o .blocks) k Recorded.Dead (λ q. dead-is-not-unused (sym q ∙ d))
+
+  pub delete-owned : recordOf o k ≡ Recorded.Live first n
+      → MarksOwned (withMarks o k Recorded.Dead first n) (fill owners first n 0)
+  delete-owned d = record {
+    orderly = orderly-calls .deleting o k first n (h .orderly) d;
+    size = length-fill owners first n 0 ∙ h .size;
+    owned = owned-filled Recorded.Dead 0
+        (λ i p q. uncovered (setNamed (o .blocks) k Recorded.Dead) i (gone i p q))
+        (λ i c w. owned-apart (o .blocks) k Recorded.Dead i (r .0) (r .1) (ap (λ x. covers x i) d ∙ c) refl
+        (getD owners i 0) w);
+  }
+    where
+      r : (1 ≤ k) × (k ≤ length (o .blocks))
+      r = named-in (o .blocks) k Recorded.Dead (λ q. dead-is-not-live first n (sym q ∙ d))
+
+      gone : (i : ℕ) → first ≤ i → i < first + n → coverage (setNamed (o .blocks) k Recorded.Dead) i ≡ 0
+      gone i p q =
+          let z = rw (d, covers-inside first n i p q)
+          at (coverage-setNamed (o .blocks) k Recorded.Dead i (r .0) (r .1)) in
+          omega (arith, z, h .orderly .once i)
+
+-- at the start no mark has an owner
+pub empty-owned : MarksOwned emptyObservation (replicate cellCount 0)
+empty-owned = record {
+  orderly = empty-orderly;
+  size = length-replicate {A = ℕ} cellCount 0;
+  owned = λ i b. rw (getD-zero cellCount i) (unused i);
+}
+  where
+    unused : (i : ℕ) → covered (replicate nameCount Recorded.Unused) i ≡ false
+    unused i = uncovered _ i (none-cover nameCount i)
