@@ -2,20 +2,25 @@
 ghost use mathlib.Core.Path.{_≡_};
 ghost use Rattle.rules.specs.Observation.{deleteBlock};
 ghost use Rattle.rules.specs.Layout.{observationOf};
+ghost use Rattle.rules.proofs.memory.MarkOwners.{MarksOwned};
 ghost use Rattle.observation_answers.specs.Calls.{Answers};
 ghost use Rattle.observation_deleting.specs.Deleting.{deleteNamed};
 use observation_answers::Noting;
+use rules::MarkOwners;
 use rules::ObservationMemory;
 use rules::Recorded;
 use rules::Value;
 
-fn delete_named(obs: &mut ObservationMemory, name: u16) -> Noting
-    ensures { λ r. ⌜ Answers (now (obs .entry)) (now (obs .exit)) r
+fn delete_named(obs: &mut ObservationMemory, owners: &mut MarkOwners, name: u16) -> Noting
+    requires { ⌜ MarksOwned (observationOf (now obs)) (now owners) ⌝ }
+    ensures answer { λ r. ⌜ Answers (now (obs .entry)) (now (obs .exit)) r
         (deleteNamed (observationOf (now (obs .entry))) name) ⌝ }
+    ensures owners { λ _. ⌜ MarksOwned (observationOf (now (obs .exit))) (now (owners .exit)) ⌝ }
 {
     match observation_records::record_of(&*obs, name) {
         Recorded::Live(first, n) => {
             observation_blocks::remove_block(obs, name, first, n);
+            observation_owners::own(owners, first, n, 0);
             Noting::Noted
         }
         Recorded::Unused => Noting::Refused(48),
@@ -23,15 +28,18 @@ fn delete_named(obs: &mut ObservationMemory, name: u16) -> Noting
     }
 }
 
-pub fn delete_block(obs: &mut ObservationMemory, v: Value) -> Noting
-    ensures { λ r. ⌜ Answers (now (obs .entry)) (now (obs .exit)) r
+// The owners of the marks are those of the live blocks, before and after.
+pub fn delete_block(obs: &mut ObservationMemory, owners: &mut MarkOwners, v: Value) -> Noting
+    requires { ⌜ MarksOwned (observationOf (now obs)) (now owners) ⌝ }
+    ensures answer { λ r. ⌜ Answers (now (obs .entry)) (now (obs .exit)) r
         (deleteBlock (observationOf (now (obs .entry))) v) ⌝ }
+    ensures owners { λ _. ⌜ MarksOwned (observationOf (now (obs .exit))) (now (owners .exit)) ⌝ }
 {
     match v {
         Value::Pointer(p) => {
             let at = p.offset;
             if at == 0 {
-                delete_named(obs, p.name)
+                delete_named(obs, owners, p.name)
             } else {
                 Noting::Refused(48)
             }

@@ -1,1 +1,2 @@
-pub mod PlaceLaws
+-- The block that has a mark, by the bytes.
+pub mod OwnerEnds

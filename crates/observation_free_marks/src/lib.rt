@@ -1,76 +1,46 @@
 // The search for free marks in the observation memory.
 ghost use mathlib.Core.Path.{_≡_};
+ghost use mathlib.Core.Logic.{_≢_};
 ghost use Prim.Native.Nat.{_<_};
 ghost use lib.Dec.{eqb};
 ghost use lib.ListN.{getD};
-ghost use Rattle.rules.specs.Memory.{lowestRun};
+ghost use Rattle.rules.specs.Sizes.{cellCount};
 ghost use Rattle.rules.specs.Observation.{markRun};
 ghost use Rattle.rules.specs.Layout.{observationOf};
-ghost use Rattle.observation_free_marks.specs.Occupied.{occupy, occupyAll};
+ghost use Rattle.rules.proofs.lists.RunLaws.{Held};
+ghost use Rattle.rules.proofs.memory.MarkOwners.{MarksOwned};
 use rules::CELL_COUNT;
-use rules::NAME_COUNT;
+use rules::MarkOwners;
 use rules::ObservationMemory;
-use rules::Recorded;
 use rules::Search;
 
-// A byte for each mark: 0, or 1 in a live block.
-type Places = [u8; CELL_COUNT];
-
-// The places of a live block are occupied.
-fn cover(places: &mut Places, b: Recorded)
-    ensures { λ _. ⌜ now (places .exit) ≡ occupy (now (places .entry)) b ⌝ }
+// Where the block ends that has mark i.
+fn end_of(obs: &ObservationMemory, owners: &MarkOwners, i: usize) -> usize
+    requires { ⌜ MarksOwned (observationOf (now obs)) (now owners) × (i < cellCount)
+        × (getD (now owners) i 0 ≢ 0) ⌝ }
+    ensures { λ r. ⌜ Held (λ j. eqb (getD (now (owners .entry)) j 0) 0) i r ⌝ }
 {
-    match b {
-        Recorded::Live(first, n) => byte_fills::fill_bytes(
-            &mut places[..],
-            first as usize,
-            n as usize,
-            1,
-        ),
-        Recorded::Unused => {}
-        Recorded::Dead => {}
-    }
+    byte_blocks::end(&obs[..], owners[i] as usize)
 }
 
-// Records are read by number: with a name's tests the search comes out so small that the compiler folds it, and its
-// array, into the code of every statement, which is then a third slower.
-fn cover_all(obs: &ObservationMemory, places: &mut Places)
-    ensures { λ _. ⌜ now (places .exit) ≡ occupyAll (now (places .entry)) (observationOf (now (obs .entry)) .blocks) ⌝ }
-{
-    let mut k = NAME_COUNT;
-    while 0 < k {
-        k -= 1;
-        cover(places, observation_records::read_record(obs, k));
-    }
-}
-
-// The lowest run of n places that are 0.
-fn find_run(places: &Places, n: usize) -> Search
-    requires { ⌜ 0 < n ⌝ }
-    ensures { λ r. ⌜ r ≡ lowestRun (λ i. eqb (getD (now (places .entry)) i 0) 0) n ⌝ }
+// The lowest run of n marks that lie in no live block. A mark that has an owner is left by the end of its block.
+pub fn find_marks(obs: &ObservationMemory, owners: &MarkOwners, n: usize) -> Search
+    requires { ⌜ (0 < n) × MarksOwned (observationOf (now obs)) (now owners) ⌝ }
+    ensures { λ r. ⌜ r ≡ markRun (observationOf (now (obs .entry))) n ⌝ }
 {
     let mut run: usize = 0;
-    let mut i = 0;
+    let mut i: usize = 0;
     while i < CELL_COUNT {
-        if places[i] == 0 {
+        if owners[i] == 0 {
             run += 1;
+            i += 1;
             if run == n {
-                return Search::At(i + 1 - n);
+                return Search::At(i - n);
             }
         } else {
             run = 0;
+            i = end_of(obs, owners, i);
         }
-        i += 1;
     }
     Search::Nothing
-}
-
-// The lowest run of n marks that lie in no live block.
-pub fn find_marks(obs: &ObservationMemory, n: usize) -> Search
-    requires { ⌜ 0 < n ⌝ }
-    ensures { λ r. ⌜ r ≡ markRun (observationOf (now (obs .entry))) n ⌝ }
-{
-    let mut places: Places = [0; CELL_COUNT];
-    cover_all(obs, &mut places);
-    find_run(&places, n)
 }

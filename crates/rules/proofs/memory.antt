@@ -15,6 +15,6 @@ pub mod Orderly
 pub mod GivenNames
 pub mod WatchedGiven
 pub mod ObservationOrder
-pub mod MarkOwners
 pub mod ObservationKept
+pub mod MarkOwners
 pub mod ObservedRuns

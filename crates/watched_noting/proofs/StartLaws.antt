@@ -25,7 +25,11 @@ mark-more o k i a b =
     let next : suc i ≡ i + 1 = omega arith in
     becomes-is (ap (markAll o k) next) (becomes-then (λ (x : Observation). markCell x k i) a b)
 
--- two blocks recorded and marked after the memory is cleared
+-- a memory that is cleared
+pub cleared-empty : {l : List ℕ} → l ≡ observationImage emptyObservation → observationOf l ≡ emptyObservation
+cleared-empty e = ap observationOf e ∙ observation-back emptyObservation (empty-inside .observation-fits)
+
+-- two blocks recorded and marked after that
 pub start-image : {l l′ l″ : List ℕ} (n : ℕ) → l ≡ observationImage emptyObservation
     → ObservationBecomes l l′ (markAll (recordBlock (observationOf l) 1 1) 1 1)
     → ObservationBecomes l′ l″ (markAll (recordBlock (observationOf l′) 2 n) 2 n)
@@ -36,7 +40,7 @@ start-image {l} {l′} {l″} n e a b = both .exact exact ∙ ap observationImag
     start o = markAll (recordBlock (markAll (recordBlock o 1 1) 1 1) 2 n) 2 n
 
     empty : observationOf l ≡ emptyObservation
-    empty = ap observationOf e ∙ observation-back emptyObservation (empty-inside .observation-fits)
+    empty = cleared-empty e
 
     exact : l ≡ observationImage (observationOf l)
     exact = e ∙ ap observationImage (sym empty)

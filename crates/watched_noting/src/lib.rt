@@ -1,18 +1,21 @@
 // The statements of the target language that change the observation memory, and its start.
 ghost use mathlib.Core.Path.{_≡_};
 ghost use Prim.Native.Nat.{suc, _+_, _<_, _≤_};
-ghost use Rattle.rules.specs.Sizes.{temporaryCount, inputLimit};
+ghost use lib.ListN.{replicate};
+ghost use Rattle.rules.specs.Sizes.{cellCount, temporaryCount, inputLimit};
 ghost use Rattle.rules.specs.Kinds.{statement, target};
 ghost use Rattle.rules.specs.Records.{kindOf, markOf};
 ghost use Rattle.rules.specs.Observation.{storeBlock, deleteBlock, initialise, recordBlock, markAll, startObservation};
 ghost use Rattle.rules.specs.Watched.{heldIn, calledOn, calledOnTwo};
 ghost use Rattle.rules.specs.Layout.{observationOf, observationImage};
 ghost use Rattle.rules.specs.Nodes.{HasSort};
+ghost use Rattle.rules.proofs.memory.MarkOwners.{MarksOwned};
 ghost use Rattle.evaluation_temporaries.specs.Bytes.{temporariesOf};
 ghost use Rattle.observation.specs.Calls.{ObservationBecomes};
 ghost use Rattle.watched_noting.specs.Calls.{Observes, notingNumber, IsNote, noteOf};
 use observation_answers::Noting;
 use rules::Evaluated;
+use rules::MarkOwners;
 use rules::ObservationMemory;
 use rules::Pointer;
 use rules::Table;
@@ -30,15 +33,21 @@ fn number(answer: Noting) -> u32
 }
 
 // 68: a block is recorded, temporary n pointing to it and the next being its length.
-fn record_block(temporaries: &Temporaries, obs: &mut ObservationMemory, n: usize) -> u32
-    requires { ⌜ n + 1 < temporaryCount ⌝ }
-    ensures { λ r. ⌜ Observes (now (obs .entry)) (now (obs .exit)) r
+fn record_block(
+    temporaries: &Temporaries,
+    obs: &mut ObservationMemory,
+    owners: &mut MarkOwners,
+    n: usize,
+) -> u32
+    requires { ⌜ (n + 1 < temporaryCount) × MarksOwned (observationOf (now obs)) (now owners) ⌝ }
+    ensures observation { λ r. ⌜ Observes (now (obs .entry)) (now (obs .exit)) r
         (calledOnTwo (heldIn (temporariesOf (now (temporaries .entry))) n)
         (heldIn (temporariesOf (now (temporaries .entry))) (suc n)) (storeBlock (observationOf (now (obs .entry))))) ⌝ }
+    ensures owners { λ _. ⌜ MarksOwned (observationOf (now (obs .exit))) (now (owners .exit)) ⌝ }
 {
     match evaluation_temporaries::read_temporary(temporaries, n) {
         Evaluated::Value(v) => match evaluation_temporaries::read_temporary(temporaries, n + 1) {
-            Evaluated::Value(w) => number(observation::store_block(obs, v, w)),
+            Evaluated::Value(w) => number(observation::store_block(obs, owners, v, w)),
             Evaluated::Stopped(c) => c,
         },
         Evaluated::Stopped(c) => c,
@@ -46,15 +55,21 @@ fn record_block(temporaries: &Temporaries, obs: &mut ObservationMemory, n: usize
 }
 
 // 69: the block that temporary n points to is deleted.
-fn delete_block(temporaries: &Temporaries, obs: &mut ObservationMemory, n: usize) -> u32
-    requires { ⌜ n < temporaryCount ⌝ }
-    ensures { λ r. ⌜ Observes (now (obs .entry)) (now (obs .exit)) r
+fn delete_block(
+    temporaries: &Temporaries,
+    obs: &mut ObservationMemory,
+    owners: &mut MarkOwners,
+    n: usize,
+) -> u32
+    requires { ⌜ (n < temporaryCount) × MarksOwned (observationOf (now obs)) (now owners) ⌝ }
+    ensures observation { λ r. ⌜ Observes (now (obs .entry)) (now (obs .exit)) r
         (calledOn (heldIn (temporariesOf (now (temporaries .entry))) n)
         (deleteBlock (observationOf (now (obs .entry))))) ⌝ }
+    ensures owners { λ _. ⌜ MarksOwned (observationOf (now (obs .exit))) (now (owners .exit)) ⌝ }
 {
     let block = evaluation_temporaries::read_temporary(temporaries, n);
     match block {
-        Evaluated::Value(v) => number(observation::delete_block(obs, v)),
+        Evaluated::Value(v) => number(observation::delete_block(obs, owners, v)),
         Evaluated::Stopped(c) => c,
     }
 }
@@ -74,17 +89,25 @@ fn mark_cell(temporaries: &Temporaries, obs: &mut ObservationMemory, n: usize) -
 }
 
 // 68 to 70: what record n says of its temporary is noted.
-pub fn note(table: &Table, n: usize, temporaries: &Temporaries, obs: &mut ObservationMemory) -> u32
-    requires { ⌜ HasSort target statement (now table) n × IsNote (kindOf (now table) n) ⌝ }
-    ensures { λ r. ⌜ Observes (now (obs .entry)) (now (obs .exit)) r
+pub fn note(
+    table: &Table,
+    n: usize,
+    temporaries: &Temporaries,
+    obs: &mut ObservationMemory,
+    owners: &mut MarkOwners,
+) -> u32
+    requires { ⌜ HasSort target statement (now table) n × IsNote (kindOf (now table) n)
+        × MarksOwned (observationOf (now obs)) (now owners) ⌝ }
+    ensures observation { λ r. ⌜ Observes (now (obs .entry)) (now (obs .exit)) r
         (noteOf (kindOf (now (table .entry)) n) (temporariesOf (now (temporaries .entry)))
         (markOf (now (table .entry)) n) (observationOf (now (obs .entry)))) ⌝ }
+    ensures owners { λ _. ⌜ MarksOwned (observationOf (now (obs .exit))) (now (owners .exit)) ⌝ }
 {
     let kind = table::kind(&table[..], n);
     let first = table::mark(&table[..], n) as usize;
     match kind {
-        68 => record_block(temporaries, obs, first),
-        69 => delete_block(temporaries, obs, first),
+        68 => record_block(temporaries, obs, owners, first),
+        69 => delete_block(temporaries, obs, owners, first),
         _ => mark_cell(temporaries, obs, first),
     }
 }
@@ -109,25 +132,28 @@ fn mark_cells(obs: &mut ObservationMemory, name: u16, count: usize)
 }
 
 // A block is recorded and all its cells are marked.
-fn record_marked(obs: &mut ObservationMemory, name: u16, count: usize)
-    requires { ⌜ count ≤ inputLimit ⌝ }
-    ensures { λ _. ⌜ ObservationBecomes (now (obs .entry)) (now (obs .exit))
+fn record_marked(obs: &mut ObservationMemory, owners: &mut MarkOwners, name: u16, count: usize)
+    requires { ⌜ (count ≤ inputLimit) × MarksOwned (observationOf (now obs)) (now owners) ⌝ }
+    ensures observation { λ _. ⌜ ObservationBecomes (now (obs .entry)) (now (obs .exit))
         (markAll (recordBlock (observationOf (now (obs .entry))) name count) name count) ⌝ }
+    ensures owners { λ _. ⌜ MarksOwned (observationOf (now (obs .exit))) (now (owners .exit)) ⌝ }
 {
     observation::store_block(
         obs,
+        owners,
         Value::Pointer(Pointer { name, offset: 0 }),
         Value::Integer(count as i64),
     );
     mark_cells(obs, name, count);
 }
 
-// The memory of a run's start: both input blocks recorded, all their cells marked.
-pub fn start_observation(obs: &mut ObservationMemory, count: usize)
-    requires { ⌜ count ≤ inputLimit ⌝ }
-    ensures { λ _. ⌜ now (obs .exit) ≡ observationImage (startObservation count) ⌝ }
+// The memory of a run's start: both input blocks recorded, all their cells marked. No mark has an owner before it.
+pub fn start_observation(obs: &mut ObservationMemory, owners: &mut MarkOwners, count: usize)
+    requires { ⌜ (count ≤ inputLimit) × (now owners ≡ replicate cellCount 0) ⌝ }
+    ensures observation { λ _. ⌜ now (obs .exit) ≡ observationImage (startObservation count) ⌝ }
+    ensures owners { λ _. ⌜ MarksOwned (observationOf (now (obs .exit))) (now (owners .exit)) ⌝ }
 {
     observation::clear(obs);
-    record_marked(obs, 1, 1);
-    record_marked(obs, 2, count);
+    record_marked(obs, owners, 1, 1);
+    record_marked(obs, owners, 2, count);
 }

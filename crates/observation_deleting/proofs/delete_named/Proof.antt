@@ -6,6 +6,7 @@ use mathlib.Core.Path.{refl, sym, ap, _∙_}
 use denote.Ref.{now}
 use Rattle.rules.specs.Layout.{observationOf}
 use Rattle.rules.specs.Observation.{deleteAt}
+use Rattle.rules.proofs.memory.MarkOwners.{owned-is, delete-owned}
 use Rattle.observation_records.proofs.ObservationLaws.{alive-named}
 use Rattle.observation_answers.proofs.ArmLaws.{answers-refused, answers-noted}
 
@@ -21,6 +22,13 @@ remove-block-requires c κs =
     alive-named (now (s .args .obs)) (s .args .name) _
     (sym (c .before .before .before .before .record-of .ensures) ∙ c .before .before .first .given .1) refl
 
+own-requires : tie.Need-own-requires
+own-requires c κs =
+    let s = c .before .before .before .before .before .before .before .before in
+    let found = c .before .before .before .before in
+    let h = s .pre in
+    (h .size, h .orderly .within (s .args .name) _ _ (sym (found .before .before .record-of .ensures) ∙ found .first .given .1))
+
 enum-told : tie.Need-enum-told
 enum-told c = search needs
 
@@ -29,29 +37,32 @@ enum-told-2 c = search needs
 
 returns : tie.Need-returns
 returns c =
-    let s = c .before .before .before .before .before .before .before in
+    let found = c .before .before .before .before .before in
+    let s = found .before .before .before .before in
+    let removed = c .before .before .remove-block in
     let l = now (s .args .obs) in
-    let o = observationOf l in
-    answers-noted l (c .remove-block .last .0)
-    (ap (deleteAt o (s .args .name))
-    (sym (c .before .before .before .before .before .record-of .ensures) ∙ c .before .before .before .first
-    .given .1)) (c .remove-block .ensures)
+    let live = sym (found .before .before .record-of .ensures) ∙ found .first .given .1 in (
+      answers-noted l (removed .last .0) (ap (deleteAt (observationOf l) (s .args .name)) live) (removed .ensures),
+      owned-is (removed .ensures .view) (c .own .ensures) (delete-owned (s .pre) (s .args .name) _ _ live),
+    )
 
 returns-2 : tie.Need-returns-2
 returns-2 c =
     let s = c .before .before .before .before in
-    let l = now (s .args .obs) in
-    let o = observationOf l in
-    answers-refused l 48 (ap (deleteAt o (s .args .name))
-    (sym (c .before .before .record-of .ensures) ∙ c .enum-told .given .1))
+    let l = now (s .args .obs) in (
+      answers-refused l 48 (ap (deleteAt (observationOf l) (s .args .name))
+          (sym (c .before .before .record-of .ensures) ∙ c .enum-told .given .1)),
+      s .pre,
+    )
 
 returns-3 : tie.Need-returns-3
 returns-3 c =
     let s = c .before .before .before .before in
-    let l = now (s .args .obs) in
-    let o = observationOf l in
-    answers-refused l 48 (ap (deleteAt o (s .args .name))
-    (sym (c .before .before .record-of .ensures) ∙ c .enum-told2 .given .1))
+    let l = now (s .args .obs) in (
+      answers-refused l 48 (ap (deleteAt (observationOf l) (s .args .name))
+          (sym (c .before .before .record-of .ensures) ∙ c .enum-told2 .given .1)),
+      s .pre,
+    )
 
 pub delete-named-spec : {M : Type 1} → statement M
 delete-named-spec =
@@ -60,6 +71,7 @@ delete-named-spec =
     record-of-requires
     enum-known-first
     remove-block-requires
+    own-requires
     enum-told
     enum-told-2
     returns

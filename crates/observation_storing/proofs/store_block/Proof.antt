@@ -35,42 +35,52 @@ enum-told-4 c = search needs
 
 returns : tie.Need-returns
 returns c =
-    let s = c .before .before .before .before .before .before .before .before in
+    let s = c .before .before .before .before .before .before .before .before .before in
     let l = now (s .args .obs) in
     let o = observationOf l in
-    let v = c .before .before .before .before .before .before .v .given in
-    let w = c .before .before .before .w .given in
-    let f : SFits w64 (w .0 .0) = search needs in
-    answers-same l (c .store-sized .last .0) (c .store-sized .result) (ap₂ (storeBlock o) (v .1) (w .1))
-    (rw (toZ-ofZ f) at (c .store-sized .ensures))
+    let v = c .before .before .before .before .before .before .before .v .given in
+    let w = c .before .before .before .before .w .given in
+    let f : SFits w64 (w .0 .0) = search needs in (
+      answers-same l (c .store-sized .last .0) (c .store-sized .result) (ap₂ (storeBlock o) (v .1) (w .1))
+          (rw (toZ-ofZ f) at (c .store-sized .ensures .0)),
+      c .store-sized .ensures .1,
+    )
 
 returns-2 : tie.Need-returns-2
 returns-2 c =
     let s = c .before .before .before .before .before in
     let l = now (s .args .obs) in
-    let o = observationOf l in
-    answers-refused l 40 (ap₂ (storeBlock o) (c .before .before .before .v .given .1) (c .enum-told .given .1))
+    let o = observationOf l in (
+      answers-refused l 40 (ap₂ (storeBlock o) (c .before .before .before .v .given .1) (c .enum-told .given .1)),
+      s .pre,
+    )
 
 returns-3 : tie.Need-returns-3
 returns-3 c =
     let s = c .before .before .before .before .before in
     let l = now (s .args .obs) in
-    let o = observationOf l in
-    answers-refused l 40 (ap₂ (storeBlock o) (c .before .before .before .v .given .1) (c .enum-told2 .given .1))
+    let o = observationOf l in (
+      answers-refused l 40 (ap₂ (storeBlock o) (c .before .before .before .v .given .1) (c .enum-told2 .given .1)),
+      s .pre,
+    )
 
 returns-4 : tie.Need-returns-4
 returns-4 c =
     let s = c .before .before in
     let l = now (s .args .obs) in
-    let o = observationOf l in
-    answers-refused l 40 (ap (λ (x : Value). storeBlock o x (s .args .w)) (c .enum-told3 .given .1))
+    let o = observationOf l in (
+      answers-refused l 40 (ap (λ (x : Value). storeBlock o x (s .args .w)) (c .enum-told3 .given .1)),
+      s .pre,
+    )
 
 returns-5 : tie.Need-returns-5
 returns-5 c =
     let s = c .before .before in
     let l = now (s .args .obs) in
-    let o = observationOf l in
-    answers-refused l 40 (ap (λ (x : Value). storeBlock o x (s .args .w)) (c .enum-told4 .given .1))
+    let o = observationOf l in (
+      answers-refused l 40 (ap (λ (x : Value). storeBlock o x (s .args .w)) (c .enum-told4 .given .1)),
+      s .pre,
+    )
 
 pub store-block-spec : {M : Type 1} → statement M
 store-block-spec =

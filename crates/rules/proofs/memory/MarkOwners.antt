@@ -12,10 +12,12 @@ use lib.ListN.{length, getD, replicate, length-replicate}
 use Rattle.rules.specs.Sizes.{nameCount, cellCount}
 use Rattle.rules.specs.Memory.{named, lowestRun, one, fill, setNamed}
 use Rattle.rules.specs.Observation.{Observation, recordOf, covers, covered, markRun, withMarks, emptyObservation}
-use Rattle.rules.specs.Types.{Pointer, Located, Search, Recorded}
+use Rattle.rules.specs.Observation.{initialise, kept, pointerTo, markAll}
+use Rattle.rules.specs.Watched.{calledOn}
+use Rattle.rules.specs.Types.{Value, Evaluated, Search, Recorded}
 use Rattle.rules.proofs.lists.Rows.{getD-zero}
-use Rattle.rules.proofs.lists.Lists.{length-fill, length-setNamed}
-use Rattle.rules.proofs.lists.RunLaws.{Held, run-same, run-bound}
+use Rattle.rules.proofs.lists.Lists.{length-fill}
+use Rattle.rules.proofs.lists.RunLaws.{Held, run-same}
 use Rattle.rules.proofs.memory.MemoryLaws.{named-in, named-setNamed-same, named-setNamed-other, fill-inside}
 use Rattle.rules.proofs.memory.MemoryLaws.{fill-below, fill-above, Covering, inside, below, above, covering}
 use Rattle.rules.proofs.memory.MemoryLaws.{covers-inside, coverage, coverage-setNamed, coverage-named}
@@ -24,6 +26,10 @@ use Rattle.rules.proofs.memory.BlockEnds.{held-to-end}
 use Rattle.rules.proofs.memory.ObservationOrder.{OrderlyObservation, orderly-calls, empty-orderly, uncovered}
 use Rattle.rules.proofs.memory.ObservationOrder.{coverage-none, dead-is-not-unused, none-cover}
 use Rattle.rules.proofs.memory.BlockChanges.{dead-is-not-live}
+use Rattle.rules.proofs.memory.ObservationKept.{kept-keeps}
+use Rattle.rules.proofs.runs.Keeping.{AnyNumber}
+use Rattle.rules.proofs.runs.TargetRuns.{NotedKeeps}
+use Rattle.rules.proofs.runs.Calls.{initialise-keeps}
 
 -- mark i lies in no live block where its owner is 0, and in the live block of its owner's name where it is not
 abbrev pub OwnedBy : List Recorded → ℕ → ℕ → Type 0
@@ -34,6 +40,9 @@ pub record MarksOwned (o : Observation) (owners : List ℕ) : Type 0 where
   pub orderly : OrderlyObservation o
   pub size : length owners ≡ cellCount
   pub owned : (i : ℕ) → i < cellCount → OwnedBy (o .blocks) i (getD owners i 0)
+
+pub owned-is : {o o₁ : Observation} {l l₁ : List ℕ} → o₁ ≡ o → l₁ ≡ l → MarksOwned o l → MarksOwned o₁ l₁
+owned-is p q h = rw (p, q) h
 
 -- ---- the search: a mark is free where it has no owner, and one that has is left by the end of its owner's block
 unowned : (l : List Recorded) (i k : ℕ) → OwnedBy l i k → eqb k 0 ≡ not (covered l i)
@@ -142,6 +151,30 @@ module _ {o : Observation} {owners : List ℕ} (h : MarksOwned o owners) (k firs
           let z = rw (d, covers-inside first n i p q)
           at (coverage-setNamed (o .blocks) k Recorded.Dead i (r .0) (r .1)) in
           omega (arith, z, h .orderly .once i)
+
+-- a mark that is set has the owner that it had
+module _ {owners : List ℕ} where
+  initialise-noted : {o : Observation} → MarksOwned o owners → (v : Value)
+      → NotedKeeps (λ x. MarksOwned x owners) AnyNumber (initialise o v)
+  initialise-noted {o} h v =
+      initialise-keeps (λ x. MarksOwned x owners) AnyNumber tt tt o v (λ p i e. record {
+        orderly = orderly-calls .marking o p i (h .orderly) e;
+        size = h .size;
+        owned = h .owned;
+      })
+
+  pub initialise-owned : {o : Observation} → MarksOwned o owners → (e : Evaluated)
+      → MarksOwned (kept o (calledOn e (initialise o))) owners
+  initialise-owned {o} h (Evaluated.Value v) =
+      kept-keeps (λ x. MarksOwned x owners) o (initialise o v) h (initialise-noted h v)
+  initialise-owned h (Evaluated.Stopped c) = h
+
+  pub markAll-owned : {o : Observation} → MarksOwned o owners → (k n : ℕ) → MarksOwned (markAll o k n) owners
+  unfolding markAll
+  markAll-owned h k zero = h
+  markAll-owned {o} h k (suc n) =
+      let f : MarksOwned (markAll o k n) owners = markAll-owned h k n in
+      initialise-owned f (Evaluated.Value (pointerTo k n))
 
 -- at the start no mark has an owner
 pub empty-owned : MarksOwned emptyObservation (replicate cellCount 0)

@@ -23,15 +23,16 @@ use Rattle.rules.specs.Types.{Value, Evaluated}
 abbrev Observing : (Observation → Type 0) → WatchedState → Type 0
 Observing O x = O (x .observation)
 
-module _ (O : Observation → Type 0) (v : CallsKeep O) where
-  -- the start, whatever the number of inputs: a call that is refused leaves the memory as it is
-  kept-keeps : (o : Observation) (x : Noted) → O o → NotedKeeps O AnyNumber x → O (kept o x)
-  kept-keeps o (noted o₁) h k = k
-  kept-keeps o (refused c) h k = h
+-- a call that is refused leaves the memory as it is
+pub kept-keeps : (O : Observation → Type 0) (o : Observation) (x : Noted) → O o → NotedKeeps O AnyNumber x → O (kept o x)
+kept-keeps O o (noted o₁) h k = k
+kept-keeps O o (refused c) h k = h
 
+module _ (O : Observation → Type 0) (v : CallsKeep O) where
+  -- the start, whatever the number of inputs
   recordBlock-keeps : (o : Observation) (k n : ℕ) → O o → O (recordBlock o k n)
   recordBlock-keeps o k n h =
-      kept-keeps o (storeBlock o (pointerTo k 0) (Value.Integer (pos n))) h
+      kept-keeps O o (storeBlock o (pointerTo k 0) (Value.Integer (pos n))) h
       (storeBlock-keeps O AnyNumber tt tt o (pointerTo k 0) (Value.Integer (pos n))
       (λ j l first. v .storing o j first (suc l) h))
 
@@ -40,7 +41,7 @@ module _ (O : Observation → Type 0) (v : CallsKeep O) where
   markAll-keeps o k zero h = h
   markAll-keeps o k (suc n) h =
       let f : O (markAll o k n) = markAll-keeps o k n h in
-      kept-keeps (markAll o k n) (initialise (markAll o k n) (pointerTo k n)) f
+      kept-keeps O (markAll o k n) (initialise (markAll o k n) (pointerTo k n)) f
       (initialise-keeps O AnyNumber tt tt (markAll o k n) (pointerTo k n)
       (λ p i. v .marking (markAll o k n) p i f))
 

@@ -27,22 +27,26 @@ enum-known-block-2 c = search needs
 
 returns : tie.Need-returns
 returns c =
-    let v = c .before .before .before .before in
+    let v = c .before .before .before .before .before in
     let s = v .before .before .before in
-    let o = observationOf (now (s .args .obs)) in
-    observes-call
-    (ap (λ (x : Evaluated). calledOn x (deleteBlock o))
-    (sym (v .before .before .read-temporary .ensures) ∙ v .block .given .1))
-    (c .before .delete-block .ensures) (c .number .ensures)
+    let o = observationOf (now (s .args .obs)) in (
+      observes-call
+          (ap (λ (x : Evaluated). calledOn x (deleteBlock o))
+          (sym (v .before .before .read-temporary .ensures) ∙ v .block .given .1))
+          (c .before .delete-block .ensures .0) (c .number .ensures),
+      c .before .delete-block .ensures .1,
+    )
 
 returns-2 : tie.Need-returns-2
 returns-2 c =
     let k = c .before in
     let s = k .before .before .before in
-    let o = observationOf (now (s .args .obs)) in
-    observes-stop (now (s .args .obs)) _
-    (ap (λ (x : Evaluated). calledOn x (deleteBlock o))
-    (sym (k .before .before .read-temporary .ensures) ∙ k .block2 .given .1))
+    let o = observationOf (now (s .args .obs)) in (
+      observes-stop (now (s .args .obs)) _
+          (ap (λ (x : Evaluated). calledOn x (deleteBlock o))
+          (sym (k .before .before .read-temporary .ensures) ∙ k .block2 .given .1)),
+      s .pre .1,
+    )
 
 pub delete-block-spec : {M : Type 1} → statement M
 delete-block-spec =

@@ -43,17 +43,19 @@ enum-known-c-2 c = search needs
 
 returns : tie.Need-returns
 returns c =
-    let w = c .before .before .before .before in
+    let w = c .before .before .before .before .before in
     let v = w .before .before .before .before in
     let s = v .before .before .before in
     let n = s .args .n in
     let τ = temporariesOf (now (s .args .temporaries)) in
-    let o = observationOf (now (s .args .obs)) in
-    observes-call
-    (ap₂ (λ (x y : Evaluated). calledOnTwo x y (storeBlock o))
-    (sym (v .before .before .read-temporary .ensures) ∙ v .v .given .1)
-    (holds-at τ (n + 1) (suc n) (omega arith) (w .before .before .read-temporary2 .ensures) (w .w .given .1)))
-    (c .before .store-block .ensures) (c .number .ensures)
+    let o = observationOf (now (s .args .obs)) in (
+      observes-call
+          (ap₂ (λ (x y : Evaluated). calledOnTwo x y (storeBlock o))
+          (sym (v .before .before .read-temporary .ensures) ∙ v .v .given .1)
+          (holds-at τ (n + 1) (suc n) (omega arith) (w .before .before .read-temporary2 .ensures) (w .w .given .1)))
+          (c .before .store-block .ensures .0) (c .number .ensures),
+      c .before .store-block .ensures .1,
+    )
 
 returns-2 : tie.Need-returns-2
 returns-2 c =
@@ -62,11 +64,13 @@ returns-2 c =
     let s = v .before .before .before in
     let n = s .args .n in
     let τ = temporariesOf (now (s .args .temporaries)) in
-    let o = observationOf (now (s .args .obs)) in
-    observes-stop (now (s .args .obs)) _
-    (ap₂ (λ (x y : Evaluated). calledOnTwo x y (storeBlock o))
-    (sym (v .before .before .read-temporary .ensures) ∙ v .v .given .1)
-    (holds-at τ (n + 1) (suc n) (omega arith) (w .before .before .read-temporary2 .ensures) (w .c .given .1)))
+    let o = observationOf (now (s .args .obs)) in (
+      observes-stop (now (s .args .obs)) _
+          (ap₂ (λ (x y : Evaluated). calledOnTwo x y (storeBlock o))
+          (sym (v .before .before .read-temporary .ensures) ∙ v .v .given .1)
+          (holds-at τ (n + 1) (suc n) (omega arith) (w .before .before .read-temporary2 .ensures) (w .c .given .1))),
+      s .pre .1,
+    )
 
 returns-3 : tie.Need-returns-3
 returns-3 c =
@@ -74,10 +78,12 @@ returns-3 c =
     let s = v .before .before .before in
     let n = s .args .n in
     let τ = temporariesOf (now (s .args .temporaries)) in
-    let o = observationOf (now (s .args .obs)) in
-    observes-stop (now (s .args .obs)) _
-    (ap (λ (x : Evaluated). calledOnTwo x (heldIn τ (suc n)) (storeBlock o))
-    (sym (v .before .before .read-temporary .ensures) ∙ v .c2 .given .1))
+    let o = observationOf (now (s .args .obs)) in (
+      observes-stop (now (s .args .obs)) _
+          (ap (λ (x : Evaluated). calledOnTwo x (heldIn τ (suc n)) (storeBlock o))
+          (sym (v .before .before .read-temporary .ensures) ∙ v .c2 .given .1)),
+      s .pre .1,
+    )
 
 pub record-block-spec : {M : Type 1} → statement M
 record-block-spec =
