@@ -14,12 +14,14 @@ ghost use Rattle.rules.specs.declared.{Checked.Checked};
 ghost use Rattle.rules.specs.Fits.{FitsMemory, FitsObservation};
 ghost use Rattle.memory_counts.specs.Counted.{Counted};
 ghost use Rattle.evaluation_temporaries.specs.Bytes.{temporariesLength};
-ghost use Rattle.watched_statements.specs.Watching.{lent, Ready, Leaves, AnsweredBy};
+ghost use Rattle.watched_statements.specs.Watching.{lent, Beside, Ready, Leaves, AnsweredBy};
 use rules::Answer;
+use rules::CELL_COUNT;
 use rules::Checked;
 use rules::Counts;
 use rules::ExecutionMemory;
 use rules::MEMORY_LENGTH;
+use rules::MarkOwners;
 use rules::OBSERVATION_LENGTH;
 use rules::ObservationMemory;
 use rules::TABLE_LENGTH;
@@ -33,11 +35,12 @@ fn run_from_start(
     n: usize,
     mem: &mut ExecutionMemory,
     obs: &mut ObservationMemory,
+    owners: &mut MarkOwners,
     counts: &mut Counts,
     fuel: u32,
 ) -> Ended
     requires { ⌜ Ready (now table) n startVariables (lent (now mem) (now obs) (replicate temporariesLength 0))
-        × Counted (memoryOf (now mem)) (now counts) ⌝ }
+        × Beside (now mem) (now obs) (now counts) (now owners) ⌝ }
     ensures outcome { λ r. ⌜ Leaves (watch (targetStatementAt (now (table .entry)) n) startVariables
         (watching (memoryOf (now (mem .entry))) (observationOf (now (obs .entry))) startTemporaries) fuel) r
         (now (mem .entry)) (now (mem .exit)) (now (obs .entry)) (now (obs .exit)) ⌝ }
@@ -52,6 +55,7 @@ fn run_from_start(
         &mut temporaries,
         mem,
         obs,
+        owners,
         counts,
         fuel,
     )
@@ -62,12 +66,12 @@ fn run_table(
     table: &[u8],
     mem: &mut ExecutionMemory,
     obs: &mut ObservationMemory,
+    owners: &mut MarkOwners,
     counts: &mut Counts,
     fuel: u32,
 ) -> Ended
     requires { ⌜ (check target (now table) ≡ Checked.Accepted) × FitsMemory (memoryOf (now mem))
-        × FitsObservation (observationOf (now obs))
-        × Counted (memoryOf (now mem)) (now counts) ⌝ }
+        × FitsObservation (observationOf (now obs)) × Beside (now mem) (now obs) (now counts) (now owners) ⌝ }
     ensures outcome { λ r. ⌜ Leaves (watch (targetProgram (now (table .entry))) startVariables
         (watching (memoryOf (now (mem .entry))) (observationOf (now (obs .entry))) startTemporaries) fuel) r
         (now (mem .entry)) (now (mem .exit)) (now (obs .entry)) (now (obs .exit)) ⌝ }
@@ -75,7 +79,7 @@ fn run_table(
 {
     let mut whole = [0u8; TABLE_LENGTH];
     run_buffers::copy(&mut whole[..], table);
-    run_from_start(&whole, table.len() / 16, mem, obs, counts, fuel)
+    run_from_start(&whole, table.len() / 16, mem, obs, owners, counts, fuel)
 }
 
 // Lays out the inputs in both memories and runs an accepted table.
@@ -91,9 +95,10 @@ fn run_memories(
         (now (mem .exit)) (now (obs .exit)) ⌝ }
 {
     memory_start::start(mem, inputs);
-    watched_noting::start_observation(obs, inputs.len() / 8);
+    let mut owners = [0u16; CELL_COUNT];
+    watched_noting::start_observation(obs, &mut owners, inputs.len() / 8);
     let mut counts = memory_counts::start(inputs.len() / 8);
-    let r = run_table(table, mem, obs, &mut counts, fuel);
+    let r = run_table(table, mem, obs, &mut owners, &mut counts, fuel);
     Answer {
         number: r.number,
         record: r.statement,

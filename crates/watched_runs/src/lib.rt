@@ -2,14 +2,13 @@
 ghost use mathlib.Core.Logic.{_≢_};
 ghost use mathlib.Core.Path.{_≡_};
 ghost use Rattle.rules.specs.Records.{kindOf};
-ghost use Rattle.rules.specs.Layout.{memoryOf};
-ghost use Rattle.memory_counts.specs.Counted.{Counted};
 ghost use Rattle.evaluation.specs.State.{variablesOf};
 ghost use Rattle.watched_choices.specs.Branches.{IsBranch};
-ghost use Rattle.watched_statements.specs.Watching.{lent, Ready, Inside, enclosed, Ran, Runs};
+ghost use Rattle.watched_statements.specs.Watching.{lent, Beside, Ready, Inside, enclosed, Ran, Runs};
 use memory_blocks::Making;
 use rules::Counts;
 use rules::ExecutionMemory;
+use rules::MarkOwners;
 use rules::ObservationMemory;
 use rules::Table;
 use rules::Temporaries;
@@ -25,28 +24,49 @@ pub fn run(
     temporaries: &mut Temporaries,
     mem: &mut ExecutionMemory,
     obs: &mut ObservationMemory,
+    owners: &mut MarkOwners,
     counts: &mut Counts,
     fuel: u32,
 ) -> Ended
     requires { ⌜ Ready (now table) n (variablesOf (now variables)) (lent (now mem) (now obs) (now temporaries))
-        × Counted (memoryOf (now mem)) (now counts) ⌝ }
+        × Beside (now mem) (now obs) (now counts) (now owners) ⌝ }
     ensures outcome { λ r. ⌜ Runs (now (table .entry)) n (variablesOf (now (variables .entry))) fuel r
         (lent (now (mem .entry)) (now (obs .entry)) (now (temporaries .entry)))
         (lent (now (mem .exit)) (now (obs .exit)) (now (temporaries .exit))) ⌝ }
-    ensures counts { λ _. ⌜ Counted (memoryOf (now (mem .exit))) (now (counts .exit)) ⌝ }
+    ensures beside { λ _. ⌜ Beside (now (mem .exit)) (now (obs .exit)) (now (counts .exit)) (now (owners .exit)) ⌝ }
 {
     let mut at = n;
     let mut left = fuel;
     while table::kind(&table[..], at) == 44 {
         let first = table::child_a(&table[..], at);
-        let r = run(table, first, variables, temporaries, mem, obs, counts, left);
+        let r = run(
+            table,
+            first,
+            variables,
+            temporaries,
+            mem,
+            obs,
+            owners,
+            counts,
+            left,
+        );
         if r.number != 0 {
             return r;
         }
         left = r.fuel;
         at = table::child_b(&table[..], at);
     }
-    run_single(table, at, variables, temporaries, mem, obs, counts, left)
+    run_single(
+        table,
+        at,
+        variables,
+        temporaries,
+        mem,
+        obs,
+        owners,
+        counts,
+        left,
+    )
 }
 
 // Runs statement n, which is no sequence.
@@ -57,22 +77,63 @@ fn run_single(
     temporaries: &mut Temporaries,
     mem: &mut ExecutionMemory,
     obs: &mut ObservationMemory,
+    owners: &mut MarkOwners,
     counts: &mut Counts,
     fuel: u32,
 ) -> Ended
     requires { ⌜ Ready (now table) n (variablesOf (now variables)) (lent (now mem) (now obs) (now temporaries))
         × (kindOf (now table) n ≢ 44)
-        × Counted (memoryOf (now mem)) (now counts) ⌝ }
+        × Beside (now mem) (now obs) (now counts) (now owners) ⌝ }
     ensures outcome { λ r. ⌜ Runs (now (table .entry)) n (variablesOf (now (variables .entry))) fuel r
         (lent (now (mem .entry)) (now (obs .entry)) (now (temporaries .entry)))
         (lent (now (mem .exit)) (now (obs .exit)) (now (temporaries .exit))) ⌝ }
-    ensures counts { λ _. ⌜ Counted (memoryOf (now (mem .exit))) (now (counts .exit)) ⌝ }
+    ensures beside { λ _. ⌜ Beside (now (mem .exit)) (now (obs .exit)) (now (counts .exit)) (now (owners .exit)) ⌝ }
 {
     match table::kind(&table[..], n) {
-        45 | 66 => branch(table, n, variables, temporaries, mem, obs, counts, fuel),
-        46 => repeat(table, n, variables, temporaries, mem, obs, counts, fuel),
-        47 => enclose(table, n, variables, temporaries, mem, obs, counts, fuel),
-        _ => watched_statements::step(table, n, variables, temporaries, mem, obs, counts, fuel),
+        45 | 66 => branch(
+            table,
+            n,
+            variables,
+            temporaries,
+            mem,
+            obs,
+            owners,
+            counts,
+            fuel,
+        ),
+        46 => repeat(
+            table,
+            n,
+            variables,
+            temporaries,
+            mem,
+            obs,
+            owners,
+            counts,
+            fuel,
+        ),
+        47 => enclose(
+            table,
+            n,
+            variables,
+            temporaries,
+            mem,
+            obs,
+            owners,
+            counts,
+            fuel,
+        ),
+        _ => watched_statements::step(
+            table,
+            n,
+            variables,
+            temporaries,
+            mem,
+            obs,
+            owners,
+            counts,
+            fuel,
+        ),
     }
 }
 
@@ -84,22 +145,43 @@ fn branch(
     temporaries: &mut Temporaries,
     mem: &mut ExecutionMemory,
     obs: &mut ObservationMemory,
+    owners: &mut MarkOwners,
     counts: &mut Counts,
     fuel: u32,
 ) -> Ended
     requires { ⌜ Ready (now table) n (variablesOf (now variables)) (lent (now mem) (now obs) (now temporaries))
         × IsBranch (kindOf (now table) n)
-        × Counted (memoryOf (now mem)) (now counts) ⌝ }
+        × Beside (now mem) (now obs) (now counts) (now owners) ⌝ }
     ensures outcome { λ r. ⌜ Runs (now (table .entry)) n (variablesOf (now (variables .entry))) fuel r
         (lent (now (mem .entry)) (now (obs .entry)) (now (temporaries .entry)))
         (lent (now (mem .exit)) (now (obs .exit)) (now (temporaries .exit))) ⌝ }
-    ensures counts { λ _. ⌜ Counted (memoryOf (now (mem .exit))) (now (counts .exit)) ⌝ }
+    ensures beside { λ _. ⌜ Beside (now (mem .exit)) (now (obs .exit)) (now (counts .exit)) (now (owners .exit)) ⌝ }
 {
     let then = table::child_b(&table[..], n);
     let other = table::child_c(&table[..], n);
     match watched_choices::test(table, n, variables, &*temporaries, &*mem) {
-        Test::Yes => run(table, then, variables, temporaries, mem, obs, counts, fuel),
-        Test::No => run(table, other, variables, temporaries, mem, obs, counts, fuel),
+        Test::Yes => run(
+            table,
+            then,
+            variables,
+            temporaries,
+            mem,
+            obs,
+            owners,
+            counts,
+            fuel,
+        ),
+        Test::No => run(
+            table,
+            other,
+            variables,
+            temporaries,
+            mem,
+            obs,
+            owners,
+            counts,
+            fuel,
+        ),
         Test::Stopped(k) => Ended {
             number: k,
             statement: watched_choices::statement_of(table, n),
@@ -116,16 +198,17 @@ fn repeat(
     temporaries: &mut Temporaries,
     mem: &mut ExecutionMemory,
     obs: &mut ObservationMemory,
+    owners: &mut MarkOwners,
     counts: &mut Counts,
     fuel: u32,
 ) -> Ended
     requires { ⌜ Ready (now table) n (variablesOf (now variables)) (lent (now mem) (now obs) (now temporaries))
         × (kindOf (now table) n ≡ 46)
-        × Counted (memoryOf (now mem)) (now counts) ⌝ }
+        × Beside (now mem) (now obs) (now counts) (now owners) ⌝ }
     ensures outcome { λ r. ⌜ Runs (now (table .entry)) n (variablesOf (now (variables .entry))) fuel r
         (lent (now (mem .entry)) (now (obs .entry)) (now (temporaries .entry)))
         (lent (now (mem .exit)) (now (obs .exit)) (now (temporaries .exit))) ⌝ }
-    ensures counts { λ _. ⌜ Counted (memoryOf (now (mem .exit))) (now (counts .exit)) ⌝ }
+    ensures beside { λ _. ⌜ Beside (now (mem .exit)) (now (obs .exit)) (now (counts .exit)) (now (owners .exit)) ⌝ }
 {
     let b = table::child_b(&table[..], n);
     let mut left = fuel;
@@ -133,7 +216,17 @@ fn repeat(
         left -= 1;
         match run_children::test_a(table, n, variables, &*temporaries, &*mem) {
             Test::Yes => {
-                let r = run(table, b, variables, temporaries, mem, obs, counts, left);
+                let r = run(
+                    table,
+                    b,
+                    variables,
+                    temporaries,
+                    mem,
+                    obs,
+                    owners,
+                    counts,
+                    left,
+                );
                 if r.number != 0 {
                     return r;
                 }
@@ -170,19 +263,31 @@ fn enclose(
     temporaries: &mut Temporaries,
     mem: &mut ExecutionMemory,
     obs: &mut ObservationMemory,
+    owners: &mut MarkOwners,
     counts: &mut Counts,
     fuel: u32,
 ) -> Ended
     requires { ⌜ Ready (now table) n (variablesOf (now variables)) (lent (now mem) (now obs) (now temporaries))
         × (kindOf (now table) n ≡ 47)
-        × Counted (memoryOf (now mem)) (now counts) ⌝ }
+        × Beside (now mem) (now obs) (now counts) (now owners) ⌝ }
     ensures outcome { λ r. ⌜ Runs (now (table .entry)) n (variablesOf (now (variables .entry))) fuel r
         (lent (now (mem .entry)) (now (obs .entry)) (now (temporaries .entry)))
         (lent (now (mem .exit)) (now (obs .exit)) (now (temporaries .exit))) ⌝ }
-    ensures counts { λ _. ⌜ Counted (memoryOf (now (mem .exit))) (now (counts .exit)) ⌝ }
+    ensures beside { λ _. ⌜ Beside (now (mem .exit)) (now (obs .exit)) (now (counts .exit)) (now (owners .exit)) ⌝ }
 {
     match memory_blocks::make(mem, counts, false, 1) {
-        Making::Name(k) => run_inside(table, n, variables, temporaries, mem, obs, counts, fuel, k),
+        Making::Name(k) => run_inside(
+            table,
+            n,
+            variables,
+            temporaries,
+            mem,
+            obs,
+            owners,
+            counts,
+            fuel,
+            k,
+        ),
         Making::Stopped(c) => Ended {
             number: c,
             statement: watched_choices::statement_of(table, n),
@@ -199,21 +304,32 @@ fn run_inside(
     temporaries: &mut Temporaries,
     mem: &mut ExecutionMemory,
     obs: &mut ObservationMemory,
+    owners: &mut MarkOwners,
     counts: &mut Counts,
     fuel: u32,
     k: u16,
 ) -> Ended
     requires { ⌜ Inside (now table) n (variablesOf (now variables)) (lent (now mem) (now obs) (now temporaries)) k
-        × Counted (memoryOf (now mem)) (now counts) ⌝ }
+        × Beside (now mem) (now obs) (now counts) (now owners) ⌝ }
     ensures outcome { λ r. ⌜ Ran (enclosed (now (table .entry)) n (variablesOf (now (variables .entry)))
         (lent (now (mem .entry)) (now (obs .entry)) (now (temporaries .entry))) fuel k) r
         (lent (now (mem .entry)) (now (obs .entry)) (now (temporaries .entry)))
         (lent (now (mem .exit)) (now (obs .exit)) (now (temporaries .exit))) ⌝ }
-    ensures counts { λ _. ⌜ Counted (memoryOf (now (mem .exit))) (now (counts .exit)) ⌝ }
+    ensures beside { λ _. ⌜ Beside (now (mem .exit)) (now (obs .exit)) (now (counts .exit)) (now (owners .exit)) ⌝ }
 {
     let inner = run_variables::name_variable(*variables, table::mark(&table[..], n) as usize, k);
     let body = table::child_a(&table[..], n);
-    let r = run(table, body, &inner, temporaries, mem, obs, counts, fuel);
+    let r = run(
+        table,
+        body,
+        &inner,
+        temporaries,
+        mem,
+        obs,
+        owners,
+        counts,
+        fuel,
+    );
     if r.number == 0 {
         memory_freeing::end(mem, counts, k);
     }

@@ -16,7 +16,9 @@ use Rattle.rules.specs.declared.{Answer.Answer}
 use Rattle.rules.proofs.acceptance.Sound.{Scope, SoundTarget}
 use Rattle.rules.specs.Fits.{FitsTemporary, FitsMemory, FitsObservation, All, VariablesFit}
 use Rattle.rules.specs.Nodes.{HasSort, targetStatementAt, numberAt}
+use Rattle.rules.proofs.memory.MarkOwners.{MarksOwned}
 use Rattle.table.specs.Within.{Within}
+use Rattle.memory_counts.specs.Counted.{Counted}
 use Rattle.memory_cells.specs.Changes.{Becomes}
 use Rattle.observation.specs.Calls.{ObservationBecomes}
 use Rattle.evaluation_temporaries.specs.Bytes.{temporariesOf}
@@ -44,6 +46,11 @@ pub record LentFits (x : Lent) : Type 0 where
   pub memory : FitsMemory (memoryOf (x .memory))
   pub observation : FitsObservation (observationOf (x .observation))
   pub temporaries : All FitsTemporary (temporariesOf (x .temporaries))
+
+-- what a run keeps beside the memories is right: the counts of the one, and the owners of the other's marks
+pub record Beside (memory observation counts owners : List ℕ) : Type 0 where
+  pub counted : Counted (memoryOf memory) counts
+  pub owned : MarksOwned (observationOf observation) owners
 
 -- statement n may run: its numbers and names fit, and so do those that it finds
 pub record Ready (t : List ℕ) (n : ℕ) (ρ : Variables) (x : Lent) : Type 0 where

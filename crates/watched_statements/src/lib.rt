@@ -15,9 +15,10 @@ ghost use Rattle.run_children.specs.Children.{foundIn, valueIn};
 ghost use Rattle.run_endings.specs.Ending.{assertNumber};
 ghost use Rattle.run_changes.specs.Changing.{Does};
 ghost use Rattle.watched_steps.specs.Steps.{Takes};
-ghost use Rattle.watched_statements.specs.Watching.{lent, Ready, IsAct, Runs, Acts};
+ghost use Rattle.watched_statements.specs.Watching.{lent, Beside, Ready, IsAct, Runs, Acts};
 use rules::Counts;
 use rules::ExecutionMemory;
+use rules::MarkOwners;
 use rules::ObservationMemory;
 use rules::Table;
 use rules::Temporaries;
@@ -144,15 +145,16 @@ fn act(
     temporaries: &mut Temporaries,
     mem: &mut ExecutionMemory,
     obs: &mut ObservationMemory,
+    owners: &mut MarkOwners,
     counts: &mut Counts,
 ) -> u32
     requires { ⌜ Ready (now table) n (variablesOf (now variables)) (lent (now mem) (now obs) (now temporaries))
         × IsAct (kindOf (now table) n)
-        × Counted (memoryOf (now mem)) (now counts) ⌝ }
+        × Beside (now mem) (now obs) (now counts) (now owners) ⌝ }
     ensures outcome { λ r. ⌜ Acts (now (table .entry)) n (variablesOf (now (variables .entry))) r
         (lent (now (mem .entry)) (now (obs .entry)) (now (temporaries .entry)))
         (lent (now (mem .exit)) (now (obs .exit)) (now (temporaries .exit))) ⌝ }
-    ensures counts { λ _. ⌜ Counted (memoryOf (now (mem .exit))) (now (counts .exit)) ⌝ }
+    ensures beside { λ _. ⌜ Beside (now (mem .exit)) (now (obs .exit)) (now (counts .exit)) (now (owners .exit)) ⌝ }
 {
     match table::kind(&table[..], n) {
         40 => 0,
@@ -163,7 +165,7 @@ fn act(
         61 => take_value(table, n, variables, temporaries, &*mem),
         63..=65 => watched_steps::take(table, n, temporaries, &*obs),
         67 => assert(table, n, &*temporaries),
-        _ => watched_noting::note(table, n, &*temporaries, obs),
+        _ => watched_noting::note(table, n, &*temporaries, obs, owners),
     }
 }
 
@@ -175,17 +177,18 @@ pub fn step(
     temporaries: &mut Temporaries,
     mem: &mut ExecutionMemory,
     obs: &mut ObservationMemory,
+    owners: &mut MarkOwners,
     counts: &mut Counts,
     fuel: u32,
 ) -> Ended
     requires { ⌜ Ready (now table) n (variablesOf (now variables)) (lent (now mem) (now obs) (now temporaries))
         × IsAct (kindOf (now table) n)
-        × Counted (memoryOf (now mem)) (now counts) ⌝ }
+        × Beside (now mem) (now obs) (now counts) (now owners) ⌝ }
     ensures outcome { λ r. ⌜ Runs (now (table .entry)) n (variablesOf (now (variables .entry))) fuel r
         (lent (now (mem .entry)) (now (obs .entry)) (now (temporaries .entry)))
         (lent (now (mem .exit)) (now (obs .exit)) (now (temporaries .exit))) ⌝ }
-    ensures counts { λ _. ⌜ Counted (memoryOf (now (mem .exit))) (now (counts .exit)) ⌝ }
+    ensures beside { λ _. ⌜ Beside (now (mem .exit)) (now (obs .exit)) (now (counts .exit)) (now (owners .exit)) ⌝ }
 {
-    let number = act(table, n, variables, temporaries, mem, obs, counts);
+    let number = act(table, n, variables, temporaries, mem, obs, owners, counts);
     run_endings::conclude(number, watched_choices::statement_of(table, n), fuel)
 }

@@ -9,16 +9,16 @@ start-variables-requires c κs = search needs
 
 run-requires : tie.Need-run-requires
 run-requires c κs =
-    let after-start-variables = c .before .before .before .before .before in
+    let after-start-variables = c .before .before .before .before .before .before in
     rw (after-start-variables .start-variables .ensures) (after-start-variables .before .pre)
 
 returns : tie.Need-returns
 returns c =
-    let after-start-variables = c .before .before .before .before .before .before in
+    let after-start-variables = c .before .before .before .before .before .before .before in
     let s = after-start-variables .before .args in (
       leaves-start (targetStatementAt (s .table .now) (s .n)) (s .fuel) (c .run .result) (s .mem .now) _ (s .obs .now)
           _ _ (rw (after-start-variables .start-variables .ensures) at (c .run .ensures .0)),
-      c .run .ensures .1,
+      c .run .ensures .1 .counted,
     )
 
 pub run-from-start-spec : {M : Type 1} → statement M

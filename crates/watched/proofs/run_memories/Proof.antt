@@ -1,4 +1,5 @@
 use native.Mathlib.Omega.{arith}
+use mathlib.Core.Path.{refl}
 use Rattle.memory_counts.specs.Counted.{freeIn}
 use Rattle.memory_counts.proofs.CountLaws.{counted-start, free-fits}
 use Rattle.run_buffers.proofs.EntryLaws.{inputs-short}
@@ -14,45 +15,48 @@ start-requires c κs =
 
 start-observation-requires : tie.Need-start-observation-requires
 start-observation-requires c κs =
-    let s = c .before .before .before .before .before in
-    omega (arith, inputs-short (s .args .inputs .now) (s .pre .1))
+    let s = c .before .before .before .before .before .before in
+    (omega (arith, inputs-short (s .args .inputs .now) (s .pre .1)), refl)
 
 start-requires-2 : tie.Need-start-requires-2
 start-requires-2 c κs =
-    let s = c .before .before .before .before .before .before in
+    let s = c .before .before .before .before .before .before .before in
     omega (arith, inputs-short (s .args .inputs .now) (s .pre .1))
 
 run-table-requires : tie.Need-run-table-requires
 run-table-requires c κs =
-    let after-start2 = c .before .before .before in
+    let after-start2 = c .before .before .before .before in
     let after-start-observation = after-start2 .before in
-    let after-start = after-start-observation .before .before in
+    let after-start = after-start-observation .before .before .before in
     let s = after-start .before .before .before .before in
     let i = s .args .inputs .now in
     let l = after-start .start .last .0 in
     let r = start-ready i (s .pre .1) l (after-start-observation .start-observation .last .0)
-    (after-start .start .ensures) (after-start-observation .start-observation .ensures) in (
+    (after-start .start .ensures) (after-start-observation .start-observation .ensures .0) in (
       s .pre .0,
       r .0,
       r .1,
-      counted-start i l (s .pre .1) (after-start .start .ensures) (after-start2 .start2 .ensures),
+      record {
+        counted = counted-start i l (s .pre .1) (after-start .start .ensures) (after-start2 .start2 .ensures);
+        owned = after-start-observation .start-observation .ensures .1;
+      },
     )
 
-array-read-t11 : tie.Need-array-read-t11
-array-read-t11 c = search needs
+array-read-t13 : tie.Need-array-read-t13
+array-read-t13 c = search needs
 
-cast-t19 : tie.Need-cast-t19
-cast-t19 c = free-fits (c .run-table .ensures .1)
+cast-t22 : tie.Need-cast-t22
+cast-t22 c = free-fits (c .run-table .ensures .1)
 
 returns : tie.Need-returns
 returns c =
-    let after-start-observation = c .before .before .before .before .before in
-    let after-start = after-start-observation .before .before in
+    let after-start-observation = c .before .before .before .before .before .before in
+    let after-start = after-start-observation .before .before .before in
     let s = after-start .before .before .before .before in
     entry-ends (s .args .inputs .now) (s .pre .1) (after-start .start .last .0)
     (after-start-observation .start-observation .last .0) (after-start .start .ensures)
-    (after-start-observation .start-observation .ensures) (s .args .table .now) (s .args .fuel)
-    (c .run-table .result) _ _ (freeIn (c .run-table .last .1 .1 .1 .0)) (c .run-table .ensures .0)
+    (after-start-observation .start-observation .ensures .0) (s .args .table .now) (s .args .fuel)
+    (c .run-table .result) _ _ (freeIn (c .run-table .last .1 .1 .1 .1 .0)) (c .run-table .ensures .0)
     (c .run-table .ensures .1 .free)
 
 pub run-memories-spec : {M : Type 1} → statement M
@@ -63,6 +67,6 @@ run-memories-spec =
     start-observation-requires
     start-requires-2
     run-table-requires
-    array-read-t11
-    cast-t19
+    array-read-t13
+    cast-t22
     returns)

@@ -22,7 +22,7 @@ copy-requires c κs =
 
 run-from-start-requires : tie.Need-run-from-start-requires
 run-from-start-requires c κs =
-    let after-copy = c .before .before .before .before .before in
+    let after-copy = c .before .before .before .before .before .before in
     let s = after-copy .before .before .before in
     rw (after-copy .copy .ensures) (
       ready-start (s .args .table .now) (replicate (targetLimit * 16) 0) (s .pre .0) (s .args .mem .now)
@@ -32,7 +32,7 @@ run-from-start-requires c κs =
 
 returns : tie.Need-returns
 returns c =
-    let after-copy = c .before .before .before .before .before .before in
+    let after-copy = c .before .before .before .before .before .before .before in
     let s = after-copy .before .before .before in
     let m = memoryOf (s .args .mem .now) in
     let o = observationOf (s .args .obs .now) in (

@@ -94,7 +94,7 @@ returns-3 c =
       observes-is
           (note-mark (temporariesOf (s .args .temporaries .now)) _ (observationOf (s .args .obs .now)) q)
           (rw (after-mark .mark .ensures) at (c .mark-cell .ensures)),
-      owned-is (c .mark-cell .ensures .memory .view) refl 
+      owned-is (c .mark-cell .ensures .memory .view) refl
           (initialise-owned (s .pre .2) (heldIn (temporariesOf (s .args .temporaries .now)) (after-mark .mark .result))),
     )
 

@@ -38,14 +38,14 @@ allocate-requires c κs =
     let after-match = c .before .before .before in
     let after-kind = after-match .before in
     let s = after-kind .before .before in
-    (s .pre .0 .is, sym (after-kind .kind .ensures) ∙ after-match .match .keys3, s .pre .2)
+    (s .pre .0 .is, sym (after-kind .kind .ensures) ∙ after-match .match .keys3, s .pre .2 .counted)
 
 release-requires : tie.Need-release-requires
 release-requires c κs =
     let after-match = c .before .before .before in
     let after-kind = after-match .before in
     let s = after-kind .before .before in
-    (s .pre .0 .is, sym (after-kind .kind .ensures) ∙ after-match .match .keys4, s .pre .2)
+    (s .pre .0 .is, sym (after-kind .kind .ensures) ∙ after-match .match .keys4, s .pre .2 .counted)
 
 take-address-requires : tie.Need-take-address-requires
 take-address-requires c κs =
@@ -76,7 +76,7 @@ take-requires c κs =
 
 note-requires : tie.Need-note-requires
 note-requires c κs =
-    let after-if1 = c .before .before in
+    let after-if1 = c .before .before .before in
     let after-match = after-if1 .before in
     let after-kind = after-match .before in
     let s = after-kind .before .before in
@@ -86,6 +86,7 @@ note-requires c κs =
       h,
       last-act (s .args .table .now) (s .args .n) h (s .pre .1) (after-kind .kind .ensures)
           (after-match .match .rest) out,
+      s .pre .2 .owned,
     )
 
 returns : tie.Need-returns
@@ -118,8 +119,12 @@ returns-2 c =
     let q = sym (after-kind .kind .ensures) ∙ after-match .match .keys2 in (
       acts-change (targetStatementAt T n) ρ l o τ (numberAt T n) (c .assign .result) _ _
           (λ f. watch-assign T n h ρ (stateOf (lent l o τ)) f q) (c .assign .ensures),
-      counted-assigned (s .pre .2) (foundIn T (childA T n) (s .args .variables .now) τ l)
-          (valueIn T (childB T n) (s .args .variables .now) τ l) (c .assign .ensures .memory),
+      record {
+        counted =
+            counted-assigned (s .pre .2 .counted) (foundIn T (childA T n) (s .args .variables .now) τ l)
+            (valueIn T (childB T n) (s .args .variables .now) τ l) (c .assign .ensures .memory);
+        owned = s .pre .2 .owned;
+      },
     )
 
 returns-3 : tie.Need-returns-3
@@ -137,7 +142,7 @@ returns-3 c =
     let q = sym (after-kind .kind .ensures) ∙ after-match .match .keys3 in (
       acts-change (targetStatementAt T n) ρ l o τ (numberAt T n) (c .allocate .result) _ _
           (λ f. watch-new T n h ρ (stateOf (lent l o τ)) f q) (c .allocate .ensures .0),
-      c .allocate .ensures .1,
+      record { counted = c .allocate .ensures .1; owned = s .pre .2 .owned },
     )
 
 returns-4 : tie.Need-returns-4
@@ -155,7 +160,7 @@ returns-4 c =
     let q = sym (after-kind .kind .ensures) ∙ after-match .match .keys4 in (
       acts-change (targetStatementAt T n) ρ l o τ (numberAt T n) (c .release .result) _ _
           (λ f. watch-free T n h ρ (stateOf (lent l o τ)) f q) (c .release .ensures .0),
-      c .release .ensures .1,
+      record { counted = c .release .ensures .1; owned = s .pre .2 .owned },
     )
 
 returns-5 : tie.Need-returns-5
@@ -234,7 +239,7 @@ returns-8 c =
 
 returns-9 : tie.Need-returns-9
 returns-9 c =
-    let after-if1 = c .before .before .before in
+    let after-if1 = c .before .before .before .before in
     let after-match = after-if1 .before in
     let after-kind = after-match .before in
     let s = after-kind .before .before in
@@ -249,8 +254,8 @@ returns-9 c =
     let out : (k < 63) ⊎ (66 ≤ k) = ⊎-elim (λ w. inl (w .taken)) (λ w. inr (w .1 .left)) (after-if1 .if1 .came) in
     let q = last-act T n h (s .pre .1) (after-kind .kind .ensures) (after-match .match .rest) out in (
       acts-observed (targetStatementAt T n) ρ l o τ (numberAt T n) (c .note .result) _ _
-          (λ f. watch-note T n h ρ (stateOf (lent l o τ)) f q) (c .note .ensures),
-      s .pre .2,
+          (λ f. watch-note T n h ρ (stateOf (lent l o τ)) f q) (c .note .ensures .0),
+      record { counted = s .pre .2 .counted; owned = c .note .ensures .1 },
     )
 
 pub act-spec : {M : Type 1} → statement M

@@ -31,7 +31,7 @@ module _ (t : ℕ) where
 
   run-requires : branch-lts.Need-run-requires (branch-claims t) (branch-at t) branch.Post
   run-requires c κs =
-      let after-child-b = c .before .before .before .before .before .before .before .before .before .before .before in
+      let after-child-b = c .before .before .before .before .before .before .before .before .before .before .before .before in
       let s = after-child-b .before .before in
       let h = s .pre .1 in
       rw (after-child-b .child-b .ensures)
@@ -42,7 +42,7 @@ module _ (t : ℕ) where
 
   run-requires-2 : branch-lts.Need-run-requires-2 (branch-claims t) (branch-at t) branch.Post
   run-requires-2 c κs =
-      let after-child-c = c .before .before .before .before .before .before .before .before .before in
+      let after-child-c = c .before .before .before .before .before .before .before .before .before .before in
       let s = after-child-c .before .before .before .before in
       let h = s .pre .1 in
       rw (after-child-c .child-c .ensures)
@@ -57,7 +57,7 @@ module _ (t : ℕ) where
 
   returns : branch-lts.Need-returns (branch-claims t) (branch-at t) branch.Post
   returns c =
-      let after-enum-told = c .before .before .before .before .before in
+      let after-enum-told = c .before .before .before .before .before .before in
       let after-test = after-enum-told .before .before in
       let after-child-b = after-test .before .before .before .before .before in
       let s = after-child-b .before .before in (
@@ -70,7 +70,7 @@ module _ (t : ℕ) where
 
   returns-2 : branch-lts.Need-returns-2 (branch-claims t) (branch-at t) branch.Post
   returns-2 c =
-      let after-enum-told2 = c .before .before .before .before .before in
+      let after-enum-told2 = c .before .before .before .before .before .before in
       let after-test = after-enum-told2 .before .before in
       let after-child-c = after-test .before .before .before in
       let s = after-child-c .before .before .before .before in (

@@ -33,63 +33,63 @@ use Rattle.watched_choices.proofs.statement_of.Reads as statement-of-reads
 use Rattle.watched_statements.proofs.step.Reads as step-reads
 use Rattle.watched_choices.proofs.test.Reads as test-reads
 
-abbrev pub μ-branch : Measures 6 branch-kinds.ps ℕ
+abbrev pub μ-branch : Measures 7 branch-kinds.ps ℕ
 μ-branch κs a = a .1 .0 * 4 + 1
 
-abbrev pub μ-enclose : Measures 6 enclose-kinds.ps ℕ
+abbrev pub μ-enclose : Measures 7 enclose-kinds.ps ℕ
 μ-enclose κs a = a .1 .0 * 4 + 1
 
-abbrev pub μ-repeat : Measures 6 repeat-kinds.ps ℕ
+abbrev pub μ-repeat : Measures 7 repeat-kinds.ps ℕ
 μ-repeat κs a = a .1 .0 * 4 + 1
 
-abbrev pub μ-run : Measures 6 run-kinds.ps ℕ
+abbrev pub μ-run : Measures 7 run-kinds.ps ℕ
 μ-run κs a = a .1 .0 * 4 + 3
 
-abbrev pub μ-run-inside : Measures 6 run-inside-kinds.ps ℕ
+abbrev pub μ-run-inside : Measures 7 run-inside-kinds.ps ℕ
 μ-run-inside κs a = a .1 .0 * 4
 
-abbrev pub μ-run-single : Measures 6 run-single-kinds.ps ℕ
+abbrev pub μ-run-single : Measures 7 run-single-kinds.ps ℕ
 μ-run-single κs a = a .1 .0 * 4 + 2
 
-abbrev pub branch-at : ℕ → In 6 branch-kinds.ps
-branch-at t = and 6 branch-kinds.ps (is 6 branch-kinds.ps μ-branch t) branch.Pre
+abbrev pub branch-at : ℕ → In 7 branch-kinds.ps
+branch-at t = and 7 branch-kinds.ps (is 7 branch-kinds.ps μ-branch t) branch.Pre
 
-abbrev pub branch-below : ℕ → In 6 branch-kinds.ps
-branch-below t = and 6 branch-kinds.ps (falls 6 branch-kinds.ps _<_ μ-branch t) branch.Pre
+abbrev pub branch-below : ℕ → In 7 branch-kinds.ps
+branch-below t = and 7 branch-kinds.ps (falls 7 branch-kinds.ps _<_ μ-branch t) branch.Pre
 
-abbrev pub enclose-at : ℕ → In 6 enclose-kinds.ps
-enclose-at t = and 6 enclose-kinds.ps (is 6 enclose-kinds.ps μ-enclose t) enclose.Pre
+abbrev pub enclose-at : ℕ → In 7 enclose-kinds.ps
+enclose-at t = and 7 enclose-kinds.ps (is 7 enclose-kinds.ps μ-enclose t) enclose.Pre
 
-abbrev pub enclose-below : ℕ → In 6 enclose-kinds.ps
-enclose-below t = and 6 enclose-kinds.ps (falls 6 enclose-kinds.ps _<_ μ-enclose t) enclose.Pre
+abbrev pub enclose-below : ℕ → In 7 enclose-kinds.ps
+enclose-below t = and 7 enclose-kinds.ps (falls 7 enclose-kinds.ps _<_ μ-enclose t) enclose.Pre
 
-abbrev pub repeat-at : ℕ → In 6 repeat-kinds.ps
-repeat-at t = and 6 repeat-kinds.ps (is 6 repeat-kinds.ps μ-repeat t) repeat.Pre
+abbrev pub repeat-at : ℕ → In 7 repeat-kinds.ps
+repeat-at t = and 7 repeat-kinds.ps (is 7 repeat-kinds.ps μ-repeat t) repeat.Pre
 
-abbrev pub repeat-below : ℕ → In 6 repeat-kinds.ps
-repeat-below t = and 6 repeat-kinds.ps (falls 6 repeat-kinds.ps _<_ μ-repeat t) repeat.Pre
+abbrev pub repeat-below : ℕ → In 7 repeat-kinds.ps
+repeat-below t = and 7 repeat-kinds.ps (falls 7 repeat-kinds.ps _<_ μ-repeat t) repeat.Pre
 
-abbrev pub run-at : ℕ → In 6 run-kinds.ps
-run-at t = and 6 run-kinds.ps (is 6 run-kinds.ps μ-run t) run.Pre
+abbrev pub run-at : ℕ → In 7 run-kinds.ps
+run-at t = and 7 run-kinds.ps (is 7 run-kinds.ps μ-run t) run.Pre
 
-abbrev pub run-below : ℕ → In 6 run-kinds.ps
-run-below t = and 6 run-kinds.ps (falls 6 run-kinds.ps _<_ μ-run t) run.Pre
+abbrev pub run-below : ℕ → In 7 run-kinds.ps
+run-below t = and 7 run-kinds.ps (falls 7 run-kinds.ps _<_ μ-run t) run.Pre
 
-abbrev pub run-inside-at : ℕ → In 6 run-inside-kinds.ps
+abbrev pub run-inside-at : ℕ → In 7 run-inside-kinds.ps
 run-inside-at t =
-    and 6 run-inside-kinds.ps (is 6 run-inside-kinds.ps μ-run-inside t) run-inside.Pre
+    and 7 run-inside-kinds.ps (is 7 run-inside-kinds.ps μ-run-inside t) run-inside.Pre
 
-abbrev pub run-inside-below : ℕ → In 6 run-inside-kinds.ps
+abbrev pub run-inside-below : ℕ → In 7 run-inside-kinds.ps
 run-inside-below t =
-    and 6 run-inside-kinds.ps (falls 6 run-inside-kinds.ps _<_ μ-run-inside t) run-inside.Pre
+    and 7 run-inside-kinds.ps (falls 7 run-inside-kinds.ps _<_ μ-run-inside t) run-inside.Pre
 
-abbrev pub run-single-at : ℕ → In 6 run-single-kinds.ps
+abbrev pub run-single-at : ℕ → In 7 run-single-kinds.ps
 run-single-at t =
-    and 6 run-single-kinds.ps (is 6 run-single-kinds.ps μ-run-single t) run-single.Pre
+    and 7 run-single-kinds.ps (is 7 run-single-kinds.ps μ-run-single t) run-single.Pre
 
-abbrev pub run-single-below : ℕ → In 6 run-single-kinds.ps
+abbrev pub run-single-below : ℕ → In 7 run-single-kinds.ps
 run-single-below t =
-    and 6 run-single-kinds.ps (falls 6 run-single-kinds.ps _<_ μ-run-single t) run-single.Pre
+    and 7 run-single-kinds.ps (falls 7 run-single-kinds.ps _<_ μ-run-single t) run-single.Pre
 
 abbrev pub branch-claims : ℕ → branch-lts.Claims
 branch-claims t = (

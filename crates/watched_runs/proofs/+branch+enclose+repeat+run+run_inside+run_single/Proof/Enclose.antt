@@ -13,21 +13,21 @@ use Rattle.watched_runs.proofs.+branch+enclose+repeat+run+run_inside+ru
 
 module _ (t : ℕ) where
   make-requires : enclose-lts.Need-make-requires (enclose-claims t) (enclose-at t) enclose.Post
-  make-requires c κs = c .before .before .pre .1 .2
+  make-requires c κs = c .before .before .pre .1 .2 .counted
 
   enum-known-k : enclose-lts.Need-enum-known-k (enclose-claims t) (enclose-at t) enclose.Post
   enum-known-k c = search needs
 
   run-inside-requires : enclose-lts.Need-run-inside-requires (enclose-claims t) (enclose-at t) enclose.Post
   run-inside-requires c κs =
-      let after-k = c .before .before .before .before .before in
+      let after-k = c .before .before .before .before .before .before in
       let after-make = after-k .before .before in
       let s = after-make .before .before .before in (
         omega (arith, s .pre .0),
         (
           ready-made _ _ _ _ (s .pre .1 .0) (s .pre .1 .1) _ _ (after-make .make .ensures .1 .0)
               (sym (after-k .k .given .1) ∙ after-make .make .ensures .0),
-          after-make .make .ensures .1 .1,
+          record { counted = after-make .make .ensures .1 .1; owned = s .pre .1 .2 .owned },
         ),
       )
 
@@ -39,7 +39,7 @@ module _ (t : ℕ) where
 
   returns : enclose-lts.Need-returns (enclose-claims t) (enclose-at t) enclose.Post
   returns c =
-      let after-k = c .before .before .before .before .before .before in
+      let after-k = c .before .before .before .before .before .before .before in
       let after-make = after-k .before .before in
       let s = after-make .before .before .before in (
         ran-is
@@ -57,7 +57,7 @@ module _ (t : ℕ) where
         rw (c .statement-of .ensures)
             (let-unmade (s .pre .1 .0) (s .pre .1 .1) (after-make .make .ensures .1 .0) (s .args .fuel)
             (after-c .c .given .0 .0) (sym (after-c .c .given .1) ∙ after-make .make .ensures .0)),
-        after-make .make .ensures .1 .1,
+        record { counted = after-make .make .ensures .1 .1; owned = s .pre .1 .2 .owned },
       )
 
   pub closed : {M : Type 1} → enclose-lts.Closed (enclose-claims t) (enclose-at t) enclose.Post M

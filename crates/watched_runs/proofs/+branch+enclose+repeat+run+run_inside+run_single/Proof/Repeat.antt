@@ -6,10 +6,8 @@ use borrow.Author.Needs.{needs}
 use Rattle.rules.specs.Records.{childB}
 use Rattle.rules.specs.Nodes.{numberAt}
 use Rattle.rules.specs.declared.{Test.Test}
-use Rattle.rules.specs.Layout.{memoryOf}
-use Rattle.memory_counts.specs.Counted.{Counted}
 use Rattle.evaluation.specs.State.{variablesOf}
-use Rattle.watched_statements.specs.Watching.{lent}
+use Rattle.watched_statements.specs.Watching.{lent, Beside}
 use Rattle.watched_statements.proofs.Laws.{kept-same, ran-is, ran-from, ran-finished, ran-ended}
 use Rattle.watched_statements.proofs.ReadyLaws.{ready-within, ready-turn}
 use Rattle.watched_runs.proofs.MemberLaws.{while-parts, turn-by, turn-out, Remaining}
@@ -20,12 +18,12 @@ use Rattle.watched_runs.proofs.+branch+enclose+repeat+run+run_inside+ru
 use Rattle.watched_runs.proofs.+branch+enclose+repeat+run+run_inside+run_single.Proof.Cycle.{repeat-claims}
 
 abbrev Inv-loop : repeat-lts.InvT-loop
-Inv-loop table n variables temporaries₀ mem₀ obs₀ counts₀ fuel b left₀ temporaries mem obs counts left =
+Inv-loop table n variables temporaries₀ mem₀ obs₀ owners₀ counts₀ fuel b left₀ temporaries mem obs owners counts left =
     Remaining table n (variablesOf variables) (lent mem₀ obs₀ temporaries₀) fuel n (lent mem obs temporaries) left
-    × Counted (memoryOf mem) counts
+    × Beside mem obs counts owners
 
 abbrev μ-loop : repeat-lts.MeasureT-loop
-μ-loop table n variables temporaries₀ mem₀ obs₀ counts₀ fuel b left₀ temporaries mem obs counts left = left
+μ-loop table n variables temporaries₀ mem₀ obs₀ owners₀ counts₀ fuel b left₀ temporaries mem obs owners counts left = left
 
 module _ (t : ℕ) where
   child-b-requires : repeat-lts.Need-child-b-requires (repeat-claims t) (repeat-at t) repeat.Post Inv-loop μ-loop
@@ -49,7 +47,7 @@ module _ (t : ℕ) where
 
   run-requires : repeat-lts.Need-run-requires (repeat-claims t) (repeat-at t) repeat.Post Inv-loop μ-loop
   run-requires c κs =
-      let after-loop = c .before .before .before .before .before .before .before .before .before .before in
+      let after-loop = c .before .before .before .before .before .before .before .before .before .before .before in
       let after-child-b = after-loop .before in
       let s = after-child-b .before .before in
       let h = s .pre .1 in
@@ -60,7 +58,7 @@ module _ (t : ℕ) where
 
   -- a turn whose condition is true, where its child ran
   turn : (c : repeat-lts.After-run (repeat-claims t) (repeat-at t) repeat.Post Inv-loop μ-loop)
-      → let after-loop = c .before .before .before .before .before .before .before .before .before .before .before in
+      → let after-loop = c .before .before .before .before .before .before .before .before .before .before .before .before in
       let loop = after-loop .loop in
       let s = after-loop .before .before .before in
       let n = s .args .n in
@@ -70,7 +68,7 @@ module _ (t : ℕ) where
       (lent (loop .mem) (loop .obs) (loop .temporaries)) (loop .left) (childB (s .args .table .now) n) n
       (loop .left - 1) (c .run .result) (lent (last .1 .0) (last .1 .1 .0) (last .0))
   turn c =
-      let after-enum-told = c .before .before .before .before .before in
+      let after-enum-told = c .before .before .before .before .before .before in
       let after-test-a = after-enum-told .before .before in
       let after-loop-test = after-test-a .before .before .before in
       let after-child-b = after-loop-test .before .before in
@@ -90,13 +88,13 @@ module _ (t : ℕ) where
 
   loop-less : repeat-lts.Need-loop-less (repeat-claims t) (repeat-at t) repeat.Post Inv-loop μ-loop
   loop-less c =
-      let after-test-a = c .before .before .before .before .before .before .before .before .before in
+      let after-test-a = c .before .before .before .before .before .before .before .before .before .before in
       part-spends (turn (c .before .before)) (c .if1 .left)
       (omega (arith, after-test-a .before .before .before .loop-test .taken))
 
   loop-again : repeat-lts.Need-loop-again (repeat-claims t) (repeat-at t) repeat.Post Inv-loop μ-loop
   loop-again c =
-      let after-test-a = c .before .before .before .before .before .before .before .before .before in
+      let after-test-a = c .before .before .before .before .before .before .before .before .before .before in
       let after-loop = after-test-a .before .before .before .before in
       let h = after-loop .before .before .before .pre .1 in (
         part-finishes (turn (c .before .before)) (c .if1 .left)

@@ -3,10 +3,8 @@ use Prim.Native.Nat.{ℕ, _≤_}
 use native.Mathlib.Omega.{arith}
 use mathlib.Core.Path.{refl, sym, _∙_}
 use Rattle.rules.specs.Records.{childA, childB}
-use Rattle.rules.specs.Layout.{memoryOf}
-use Rattle.memory_counts.specs.Counted.{Counted}
 use Rattle.evaluation.specs.State.{variablesOf}
-use Rattle.watched_statements.specs.Watching.{lent, Ready}
+use Rattle.watched_statements.specs.Watching.{lent, Beside, Ready}
 use Rattle.watched_statements.proofs.Laws.{kept-same, ran-is, ran-from}
 use Rattle.watched_statements.proofs.ReadyLaws.{ready-within, ready-first, ready-later}
 use Rattle.watched_runs.proofs.MemberLaws.{sequence-parts, sequence-by, Remaining, Part, part-ends}
@@ -16,13 +14,13 @@ use Rattle.watched_runs.proofs.+branch+enclose+repeat+run+run_inside+ru
 use Rattle.watched_runs.proofs.+branch+enclose+repeat+run+run_inside+run_single.Proof.Cycle.{run-at, run-claims}
 
 abbrev Inv-loop : run-lts.InvT-loop
-Inv-loop table n variables temporaries₀ mem₀ obs₀ counts₀ fuel at₀ left₀ temporaries mem obs counts at left =
+Inv-loop table n variables temporaries₀ mem₀ obs₀ owners₀ counts₀ fuel at₀ left₀ temporaries mem obs owners counts at left =
     let y = lent mem obs temporaries in
     Remaining table n (variablesOf variables) (lent mem₀ obs₀ temporaries₀) fuel at y left
-    × Ready table at (variablesOf variables) y × (at ≤ n) × Counted (memoryOf mem) counts
+    × Ready table at (variablesOf variables) y × (at ≤ n) × Beside mem obs counts owners
 
 abbrev μ-loop : run-lts.MeasureT-loop
-μ-loop table n variables temporaries₀ mem₀ obs₀ counts₀ fuel at₀ left₀ temporaries mem obs counts at left = at
+μ-loop table n variables temporaries₀ mem₀ obs₀ owners₀ counts₀ fuel at₀ left₀ temporaries mem obs owners counts at left = at
 
 module _ (t : ℕ) where
   loop-holds : run-lts.Need-loop-holds (run-claims t) (run-at t) run.Post Inv-loop μ-loop
@@ -38,7 +36,7 @@ module _ (t : ℕ) where
 
   run-requires : run-lts.Need-run-requires (run-claims t) (run-at t) run.Post Inv-loop μ-loop
   run-requires c κs =
-      let after-child-a = c .before .before .before .before in
+      let after-child-a = c .before .before .before .before .before in
       let after-if1 = after-child-a .before .before in
       let after-kind = after-if1 .before in
       let after-loop = after-kind .before .before in
@@ -51,7 +49,7 @@ module _ (t : ℕ) where
 
   -- a sequence whose first child ran
   first : (c : run-lts.After-run (run-claims t) (run-at t) run.Post Inv-loop μ-loop)
-      → let after-loop = c .before .before .before .before .before .before .before .before .before .before in
+      → let after-loop = c .before .before .before .before .before .before .before .before .before .before .before in
       let loop = after-loop .loop in
       let s = after-loop .before in
       let T = s .args .table .now in
@@ -61,7 +59,7 @@ module _ (t : ℕ) where
       (lent (loop .mem) (loop .obs) (loop .temporaries)) (loop .left) (childA T (loop .at)) (childB T (loop .at))
       (loop .left) (c .run .result) (lent (last .1 .0) (last .1 .1 .0) (last .0))
   first c =
-      let after-child-a = c .before .before .before .before .before in
+      let after-child-a = c .before .before .before .before .before .before in
       let after-if1 = after-child-a .before .before in
       let after-kind = after-if1 .before in
       let after-loop = after-kind .before .before in
@@ -82,11 +80,11 @@ module _ (t : ℕ) where
   child-b-requires c κs =
       let after-run = c .before .before .before in
       ready-within _ _ _ _
-      (after-run .before .before .before .before .before .before .before .before .before .before .loop .inv .1)
+      (after-run .before .before .before .before .before .before .before .before .before .before .before .loop .inv .1)
 
   loop-less : run-lts.Need-loop-less (run-claims t) (run-at t) run.Post Inv-loop μ-loop
   loop-less c =
-      let after-if1 = c .before .before .before .before .before .before .before .before .before .before .before in
+      let after-if1 = c .before .before .before .before .before .before .before .before .before .before .before .before in
       let after-kind = after-if1 .before in
       let q = sym (after-kind .kind .ensures) ∙ after-if1 .if1 .taken in
       omega (arith, c .child-b .ensures, sequence-parts (after-kind .before .before .loop .inv .1) q .1 .1)
@@ -94,7 +92,7 @@ module _ (t : ℕ) where
   loop-again : run-lts.Need-loop-again (run-claims t) (run-at t) run.Post Inv-loop μ-loop
   loop-again c =
       let after-run = c .before .before .before .before in
-      let after-if1 = after-run .before .before .before .before .before .before .before in
+      let after-if1 = after-run .before .before .before .before .before .before .before .before in
       let after-kind = after-if1 .before in
       let after-loop = after-kind .before .before in
       let h = after-loop .loop .inv .1 in
@@ -108,7 +106,7 @@ module _ (t : ℕ) where
 
   run-single-requires : run-lts.Need-run-single-requires (run-claims t) (run-at t) run.Post Inv-loop μ-loop
   run-single-requires c κs =
-      let after-if1 = c .before .before .before .before in
+      let after-if1 = c .before .before .before .before .before in
       let after-kind = after-if1 .before in
       let after-loop = after-kind .before .before in (
         omega (arith, after-loop .loop .inv .2, after-loop .before .pre .0),
@@ -121,7 +119,7 @@ module _ (t : ℕ) where
 
   returns-2 : run-lts.Need-returns-2 (run-claims t) (run-at t) run.Post Inv-loop μ-loop
   returns-2 c =
-      let remaining = c .before .before .before .before .before .before .before .before .loop .inv .0 in (
+      let remaining = c .before .before .before .before .before .before .before .before .before .loop .inv .0 in (
         ran-is (remaining .rest) (ran-from (remaining .bytes) (c .run-single .ensures .0)),
         c .run-single .ensures .1,
       )

@@ -28,7 +28,7 @@ module _ (t : ℕ) where
 
   run-requires : run-inside-lts.Need-run-requires (run-inside-claims t) (run-inside-at t) run-inside.Post
   run-requires c κs =
-      let after-child-a = c .before .before .before .before .before in
+      let after-child-a = c .before .before .before .before .before .before in
       let after-name-variable = after-child-a .before .before in
       let after-mark = after-name-variable .before in
       let s = after-mark .before .before .before in
@@ -36,11 +36,11 @@ module _ (t : ℕ) where
       (omega (arith, s .pre .1 .0 .smaller, s .pre .0), (s .pre .1 .0 .body, s .pre .1 .1))
 
   end-requires : run-inside-lts.Need-end-requires (run-inside-claims t) (run-inside-at t) run-inside.Post
-  end-requires c κs = c .before .before .before .before .run .ensures .1
+  end-requires c κs = c .before .before .before .before .run .ensures .1 .counted
 
   -- the child ran
   child : (c : run-inside-lts.After-run (run-inside-claims t) (run-inside-at t) run-inside.Post)
-      → let s = c .before .before .before .before .before .before .before .before .before .before .before .before in
+      → let s = c .before .before .before .before .before .before .before .before .before .before .before .before .before in
       let T = s .args .table .now in
       let n = s .args .n in
       let last = c .run .last .1 .1 .1 in
@@ -48,7 +48,7 @@ module _ (t : ℕ) where
       (c .run .result) (lent (s .args .mem .now) (s .args .obs .now) (s .args .temporaries .now))
       (lent (last .1 .0) (last .1 .1 .0) (last .0))
   child c =
-      let after-child-a = c .before .before .before .before .before .before in
+      let after-child-a = c .before .before .before .before .before .before .before in
       let after-name-variable = after-child-a .before .before in
       let after-mark = after-name-variable .before in
       rw (after-child-a .child-a .ensures, after-name-variable .name-variable .ensures, after-mark .mark .ensures)
@@ -57,16 +57,16 @@ module _ (t : ℕ) where
   returns : run-inside-lts.Need-returns (run-inside-claims t) (run-inside-at t) run-inside.Post
   returns c =
       let after-run = c .before .before .before .before .before in
-      let s = after-run .before .before .before .before .before .before .before .before .before .before .before .before in (
+      let s = after-run .before .before .before .before .before .before .before .before .before .before .before .before .before in (
         inside-ends (s .pre .1 .0) (s .args .fuel) (child after-run) (c .before .before .before .if1 .taken)
             (c .end .ensures .0),
-        c .end .ensures .1,
+        record { counted = c .end .ensures .1; owned = after-run .run .ensures .1 .owned },
       )
 
   returns-2 : run-inside-lts.Need-returns-2 (run-inside-claims t) (run-inside-at t) run-inside.Post
   returns-2 c =
       let after-run = c .before .before in
-      let s = after-run .before .before .before .before .before .before .before .before .before .before .before .before in
+      let s = after-run .before .before .before .before .before .before .before .before .before .before .before .before .before in
       (inside-stays (s .pre .1 .0) (s .args .fuel) (child after-run) (c .if1 .left), after-run .run .ensures .1)
 
   pub closed : {M : Type 1} → run-inside-lts.Closed (run-inside-claims t) (run-inside-at t) run-inside.Post M

@@ -15,7 +15,7 @@ module _ (t : ℕ) where
 
   branch-requires : run-single-lts.Need-branch-requires (run-single-claims t) (run-single-at t) run-single.Post
   branch-requires c κs =
-      let after-match = c .before .before .before .before in
+      let after-match = c .before .before .before .before .before in
       let after-kind = after-match .before in
       let s = after-kind .before .before in (
         omega (arith, s .pre .0),
@@ -24,7 +24,7 @@ module _ (t : ℕ) where
 
   repeat-requires : run-single-lts.Need-repeat-requires (run-single-claims t) (run-single-at t) run-single.Post
   repeat-requires c κs =
-      let after-match = c .before .before .before .before in
+      let after-match = c .before .before .before .before .before in
       let after-kind = after-match .before in
       let s = after-kind .before .before in (
         omega (arith, s .pre .0),
@@ -33,7 +33,7 @@ module _ (t : ℕ) where
 
   enclose-requires : run-single-lts.Need-enclose-requires (run-single-claims t) (run-single-at t) run-single.Post
   enclose-requires c κs =
-      let after-match = c .before .before .before .before in
+      let after-match = c .before .before .before .before .before in
       let after-kind = after-match .before in
       let s = after-kind .before .before in (
         omega (arith, s .pre .0),
@@ -42,7 +42,7 @@ module _ (t : ℕ) where
 
   step-requires : run-single-lts.Need-step-requires (run-single-claims t) (run-single-at t) run-single.Post
   step-requires c κs =
-      let after-match = c .before .before .before .before in
+      let after-match = c .before .before .before .before .before in
       let after-kind = after-match .before in
       let s = after-kind .before .before in
       let k = after-kind .kind .ensures in
