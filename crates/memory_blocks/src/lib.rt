@@ -1,11 +1,11 @@
 // New blocks of the execution memory.
 ghost use mathlib.Core.Path.{_≡_};
 ghost use mathlib.Core.Bool.{false};
-ghost use Prim.Native.Nat.{_<_};
+ghost use Prim.Native.Nat.{_≤_, _<_};
 ghost use Rattle.rules.specs.Sizes.{cellCount};
 ghost use Rattle.rules.specs.Memory.{cellOf, isFree, freeRun, makeBlock, withBlock, blockFor};
 ghost use Rattle.rules.specs.Layout.{memoryOf, nameLimit};
-ghost use Rattle.rules.proofs.lists.RunLaws.{Held};
+ghost use Rattle.rules.proofs.lists.RunLaws.{NoneBelow, Held};
 ghost use Rattle.rules.proofs.memory.Invariant.{Invariant};
 ghost use Rattle.memory_counts.specs.Counted.{Counted};
 ghost use Rattle.memory_cells.specs.Changes.{Becomes};
@@ -42,13 +42,15 @@ fn end_of(mem: &ExecutionMemory, i: usize) -> usize
     byte_blocks::end(&mem[..], owner as usize)
 }
 
-// The lowest run of n free cells, n from 1 on. A cell that is not free is left by the end of its owner's block.
-fn find_run(mem: &ExecutionMemory, n: usize) -> Search
-    requires { ⌜ (0 < n) × Invariant (memoryOf (now mem)) ⌝ }
+// The lowest run of n free cells, n from 1 on, looked for from a cell below which none is free. A cell that is not free
+// is left by the end of its owner's block.
+fn find_run(mem: &ExecutionMemory, from: usize, n: usize) -> Search
+    requires { ⌜ (0 < n) × Invariant (memoryOf (now mem)) × (from ≤ cellCount)
+        × NoneBelow (λ i. isFree (cellOf (memoryOf (now mem)) i)) from ⌝ }
     ensures { λ r. ⌜ r ≡ freeRun (memoryOf (now (mem .entry))) n ⌝ }
 {
     let mut run: usize = 0;
-    let mut i: usize = 0;
+    let mut i = from;
     while i < CELL_COUNT {
         if is_free(mem, i) {
             run += 1;
@@ -64,14 +66,15 @@ fn find_run(mem: &ExecutionMemory, n: usize) -> Search
     Search::Nothing
 }
 
-fn free_run(mem: &ExecutionMemory, n: usize) -> Search
-    requires { ⌜ Invariant (memoryOf (now mem)) ⌝ }
+fn free_run(mem: &ExecutionMemory, from: usize, n: usize) -> Search
+    requires { ⌜ Invariant (memoryOf (now mem)) × (from ≤ cellCount)
+        × NoneBelow (λ i. isFree (cellOf (memoryOf (now mem)) i)) from ⌝ }
     ensures { λ r. ⌜ r ≡ freeRun (memoryOf (now (mem .entry))) n ⌝ }
 {
     if n == 0 {
         return Search::At(0);
     }
-    find_run(mem, n)
+    find_run(mem, from, n)
 }
 
 fn live(freeable: bool, first: u16, n: u16) -> Block
@@ -104,11 +107,11 @@ pub fn make(mem: &mut ExecutionMemory, counts: &mut Counts, freeable: bool, n: u
 {
     match memory_counts::next_name(&*counts) {
         Search::Nothing => Making::Stopped(31),
-        Search::At(k) => match free_run(&*mem, n) {
+        Search::At(k) => match free_run(&*mem, counts[2], n) {
             Search::Nothing => Making::Stopped(30),
             Search::At(first) => {
                 place(mem, freeable, k as u16, first as u16, n as u16);
-                memory_counts::take(counts, n);
+                memory_counts::take(counts, first, n);
                 Making::Name(k as u16)
             }
         },

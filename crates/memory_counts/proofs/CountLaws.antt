@@ -1,19 +1,25 @@
 -- The counts stay right: at the start, at a store, at a new block and at the end of one.
-use Prim.Native.Nat.{ℕ, suc, _+_, _-_, _/_, _≤_}
+use Prim.Native.Nat.{ℕ, zero, suc, _+_, _-_, _/_, _≤_, _<_}
 use native.Mathlib.Omega.{arith}
-use mathlib.Core.List.{List}
-use mathlib.Core.Path.{_≡_, sym, ap, _∙_, subst}
-use mathlib.Core.Bool.{false}
-use lib.ListN.{length}
+use mathlib.Core.List.{List, [], _∷_, _++_, map}
+use mathlib.Core.Path.{_≡_, refl, sym, ap, _∙_, subst}
+use mathlib.Core.Bool.{Bool, true, false, cond, true≢false}
+use lib.Dec.{eqb, ltb}
+use lib.IntN.{ℤ}
+use lib.ListN.{length, getD, replicate}
+use borrow.Author.Tests.{eqb-true, ltb-true, ltb-false}
 use mir.Syntax.{w32}
 use mir.Val.{Fits}
 use Rattle.rules.specs.Sizes.{nameCount, cellCount}
 use Rattle.rules.specs.Checker.{inputsFault}
-use Rattle.rules.specs.Memory.{Memory, recordedOf, blockOf, storeCell, nextName, Use, made, makeBlock, endBlock}
-use Rattle.rules.specs.Memory.{withoutCells, countFree, startMemory}
-use Rattle.rules.specs.declared.{Pointer.Pointer, Value.Value, Search.Search, Recorded.Recorded}
+use Rattle.rules.specs.Memory.{Memory, recordedOf, blockOf, cellOf, storeCell, isFree, nextName, Use, made, makeBlock}
+use Rattle.rules.specs.Memory.{withBlock, endBlock, withoutCells, countFree, startMemory}
+use Rattle.rules.specs.declared.{Pointer.Pointer, Value.Value, Search.Search, Recorded.Recorded, Block.Block, Cell.Cell}
+use Rattle.rules.proofs.lists.RunLaws.{NoneBelow}
+use Rattle.rules.proofs.memory.MemoryLaws.{fill-inside, fill-below, fill-above, Covering, inside, below, above, covering}
+use Rattle.rules.proofs.memory.MemoryLaws.{coverage}
 use Rattle.rules.proofs.runs.Keeping.{AnyNumber, MadeKeeps}
-use Rattle.rules.proofs.memory.Invariant.{changedMemory}
+use Rattle.rules.proofs.memory.Invariant.{occupied, changedMemory}
 use Rattle.rules.proofs.memory.BlockChanges.{onward-cell, end-invariant}
 use Rattle.rules.proofs.memory.Changes.{Given, onward-made}
 use Rattle.rules.specs.Layout.{memoryOf, memoryImage}
@@ -27,24 +33,44 @@ use Rattle.rules_counting.proofs.Adjusting.{Takes, new-takes, end-gives-back, f
 use Rattle.rules_counting.proofs.Adjusting.{store-blocks}
 use Rattle.rules_counting.proofs.Starting.{start-free, start-next}
 use Rattle.rules_counting.proofs.NextNames.{name-is, new-next, end-next, names-decide}
-use Rattle.memory_counts.specs.Counted.{freeIn, nextIn, startCounts, afterNew, afterEnd, Counted}
+use Rattle.memory_counts.specs.Counted.{freeIn, nextIn, lowestIn, startCounts, afterNew, afterEnd, Counted}
 
 pub counted-is : {m m₁ : Memory} {c c₁ : List ℕ} → m₁ ≡ m → c₁ ≡ c → Counted m c → Counted m₁ c₁
 counted-is p q h = rw (p, q) h
 
 module _ {m : Memory} {c : List ℕ} (h : Counted m c) where
-  -- a new block
-  module _ (u : Use) (n k : ℕ) (m₁ : Memory) (e : makeBlock m u n ≡ made k m₁) (next : nextName m ≡ Search.At k) where
+  -- a new block, of the n cells from first on
+  module _ (u : Use) (n k first : ℕ) (e : makeBlock m u n ≡ made k (withBlock m u k first n))
+      (next : nextName m ≡ Search.At k) (bound : first + n ≤ cellCount) where
+    abbrev m₁ : Memory
+    m₁ = withBlock m u k first n
+
     named : (nextIn c ≡ k) × (nextIn c ≤ nameCount)
     named = name-is (nextIn c) k (sym (h .next) ∙ next)
 
     takes : Takes m n m₁
     takes = subst (MadeKeeps (λ k m₁. Takes m n m₁) AnyNumber) e (new-takes m u n (h .invariant))
 
-    pub room-counted : (n ≤ freeIn c) × (nextIn c ≤ nameCount)
-    room-counted = (omega (arith, takes, h .free), named .1)
+    pub room-counted : (n ≤ freeIn c) × (nextIn c ≤ nameCount) × (first + n ≤ cellCount)
+    room-counted = (omega (arith, takes, h .free), named .1, bound)
 
-    pub counted-new : Counted m₁ (afterNew c n)
+    -- a cell of the block is held, any other is as it was
+    new-lowest : (t : Bool) → eqb first (lowestIn c) ≡ t
+        → NoneBelow (λ i. isFree (cellOf m₁ i)) (cond t (first + n) (lowestIn c))
+    new-lowest t q j b = go (covering first n j) t q b
+      where
+        go : {w : Bool} → Covering first n j w → (t : Bool) → eqb first (lowestIn c) ≡ t
+            → j < cond t (first + n) (lowestIn c) → isFree (cellOf m₁ j) ≡ false
+        go (inside x y) t q b =
+            ap isFree (fill-inside (m .cells) first n _ j Cell.Free (omega (arith, h .invariant .size)) x y)
+        go (below x) true q b =
+            ap isFree (fill-below (m .cells) first n _ j Cell.Free x)
+            ∙ h .lowest j (omega (arith, eqb-true first (lowestIn c) q))
+        go (below x) false q b = ap isFree (fill-below (m .cells) first n _ j Cell.Free x) ∙ h .lowest j b
+        go (above x) true q b = absurd (omega arith)
+        go (above x) false q b = ap isFree (fill-above (m .cells) first n _ j Cell.Free x) ∙ h .lowest j b
+
+    pub counted-new : Counted m₁ (afterNew c first n)
     counted-new =
         let later : suc k ≡ nextIn c + 1 = omega (arith, named .0) in
         record {
@@ -53,7 +79,13 @@ module _ {m : Memory} {c : List ℕ} (h : Counted m c) where
           next =
               subst (MadeKeeps (λ k m₁. nextName m₁ ≡ nameFrom (suc k)) AnyNumber) e (new-next m u n (h .invariant))
               ∙ ap nameFrom later;
+          lowest = new-lowest (eqb first (lowestIn c)) refl;
+          within = either (eqb first (lowestIn c));
         }
+      where
+        either : (t : Bool) → cond t (first + n) (lowestIn c) ≤ cellCount
+        either true = bound
+        either false = h .within
 
   -- the end of a live one
   module _ (k first n : ℕ) (e : recordedOf (blockOf m k) ≡ Recorded.Live first n) where
@@ -63,14 +95,31 @@ module _ {m : Memory} {c : List ℕ} (h : Counted m c) where
     pub end-counted : freeIn c + n ≤ cellCount
     end-counted = omega (arith, h .free, gives-back, free-bound (endBlock m k) (end-invariant m k (h .invariant)))
 
-    pub counted-end : Counted (withoutCells m k (Recorded.Live first n)) (afterEnd c n)
+    end-lowest : (t : Bool) → ltb first (lowestIn c) ≡ t
+        → NoneBelow (λ i. isFree (cellOf (withoutCells m k (Recorded.Live first n)) i)) (cond t first (lowestIn c))
+    end-lowest true q j b =
+        ap isFree (fill-below (m .cells) first n _ j Cell.Free b)
+        ∙ h .lowest j (omega (arith, ltb-true first (lowestIn c) q))
+    end-lowest false q j b =
+        ap isFree (fill-below (m .cells) first n _ j Cell.Free (omega (arith, ltb-false first (lowestIn c) q)))
+        ∙ h .lowest j b
+
+    pub counted-end : Counted (withoutCells m k (Recorded.Live first n)) (afterEnd c first n)
     counted-end =
-        subst (λ (r : Recorded). Counted (withoutCells m k r) (afterEnd c n)) e
+        subst (λ (r : Recorded). Counted (withoutCells m k r) (afterEnd c first n)) e
         (record {
           invariant = end-invariant m k (h .invariant);
           free = omega (arith, h .free, gives-back);
           next = end-next m k ∙ h .next;
+          lowest =
+              subst (λ (r : Recorded). NoneBelow (λ i. isFree (cellOf (withoutCells m k r) i))
+              (cond (ltb first (lowestIn c)) first (lowestIn c))) (sym e) (end-lowest (ltb first (lowestIn c)) refl);
+          within = either (ltb first (lowestIn c)) refl;
         })
+      where
+        either : (t : Bool) → ltb first (lowestIn c) ≡ t → cond t first (lowestIn c) ≤ cellCount
+        either true q = omega (arith, h .within, ltb-true first (lowestIn c) q)
+        either false q = h .within
 
   -- a store
   pub counted-store : (p : Pointer) (v : Value) → Counted (changedMemory (storeCell m p v)) c
@@ -82,9 +131,32 @@ module _ {m : Memory} {c : List ℕ} (h : Counted m c) where
             h .free
             ∙ sym (blocks-decide m (changedMemory (storeCell m p v)) (h .invariant) y (store-blocks m p v));
         next = names-decide m (changedMemory (storeCell m p v)) (store-blocks m p v) ∙ h .next;
+        lowest = λ j b.
+            free-as (cellOf m j) (cellOf (changedMemory (storeCell m p v)) j)
+            (sym (y .cover j) ∙ ap (λ (l : List Block). coverage (map recordedOf l) j) (store-blocks m p v)
+            ∙ h .invariant .cover j) (h .lowest j b);
+        within = h .within;
       }
+    where
+      -- a cell is free where it is not occupied
+      free-as : (a b : Cell) → occupied b ≡ occupied a → isFree a ≡ false → isFree b ≡ false
+      free-as Cell.Free b e f = absurd (true≢false f)
+      free-as (Cell.Holds o w) Cell.Free e f = absurd (omega arith)
+      free-as (Cell.Holds o w) (Cell.Holds o₁ w₁) e f = refl
 
--- the start, in bytes l
+-- the start, in bytes l: the cells of both blocks are held
+start-held : (inputs : List ℤ) (j : ℕ) → j ≤ length inputs → isFree (cellOf (startMemory inputs) j) ≡ false
+unfolding startMemory
+start-held inputs zero b = refl
+start-held inputs (suc j) b = go inputs j b
+  where
+    go : (zs : List ℤ) (j : ℕ) → suc j ≤ length zs
+        → isFree (getD (map (λ z. Cell.Holds 2 (Value.Integer z)) zs ++ replicate (cellCount - 1 - length inputs) Cell.Free)
+        j Cell.Free) ≡ false
+    go [] j b = absurd (omega arith)
+    go (z ∷ zs) zero b = refl
+    go (z ∷ zs) (suc j) b = go zs j (omega arith)
+
 pub counted-start : (i l : List ℕ) {c : List ℕ} → inputsFault i ≡ false → l ≡ memoryImage (startMemory (inputsOf i))
     → c ≡ startCounts (length i / 8) → Counted (memoryOf l) c
 counted-start i l e s q =
@@ -95,6 +167,8 @@ counted-start i l e s q =
       invariant = start-invariant (inputsOf i) few;
       free = omega (arith, start-free (inputsOf i) few, inputs-length i);
       next = start-next (inputsOf i);
+      lowest = λ j b. start-held (inputsOf i) j (omega (arith, inputs-length i));
+      within = omega (arith, few, inputs-length i);
     })
 
 -- and what an answer tells

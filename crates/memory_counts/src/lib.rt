@@ -1,4 +1,4 @@
-// What a run counts beside its execution memory: the free cells, and the next name.
+// What a run counts beside its execution memory: the free cells, the next name, and a cell below which none is free.
 ghost use mathlib.Core.Path.{_≡_};
 ghost use Prim.Native.Nat.{_+_, _≤_};
 ghost use Rattle.rules.specs.Sizes.{nameCount, cellCount, inputLimit};
@@ -14,7 +14,7 @@ pub fn start(inputs: usize) -> Counts
     requires { ⌜ inputs ≤ inputLimit ⌝ }
     ensures { λ r. ⌜ r ≡ startCounts inputs ⌝ }
 {
-    [CELL_COUNT - 1 - inputs, 3]
+    [CELL_COUNT - 1 - inputs, 3, 1 + inputs]
 }
 
 // The next name, unless all are given.
@@ -29,18 +29,26 @@ pub fn next_name(counts: &Counts) -> Search
     }
 }
 
-// A new block of n cells has taken them and the next name.
-pub fn take(counts: &mut Counts, n: usize)
-    requires { ⌜ (n ≤ freeIn (now counts)) × (nextIn (now counts) ≤ nameCount) ⌝ }
-    ensures { λ _. ⌜ now (counts .exit) ≡ afterNew (now (counts .entry)) n ⌝ }
+// A new block has taken its n cells from first on, and the next name.
+pub fn take(counts: &mut Counts, first: usize, n: usize)
+    requires { ⌜ (n ≤ freeIn (now counts)) × (nextIn (now counts) ≤ nameCount) × (first + n ≤ cellCount) ⌝ }
+    ensures { λ _. ⌜ now (counts .exit) ≡ afterNew (now (counts .entry)) first n ⌝ }
 {
-    *counts = [counts[0] - n, counts[1] + 1];
+    let mut lowest = counts[2];
+    if first == lowest {
+        lowest = first + n;
+    }
+    *counts = [counts[0] - n, counts[1] + 1, lowest];
 }
 
-// An ended block of n cells has given them back.
-pub fn give_back(counts: &mut Counts, n: usize)
+// An ended block has given back its n cells from first on.
+pub fn give_back(counts: &mut Counts, first: usize, n: usize)
     requires { ⌜ freeIn (now counts) + n ≤ cellCount ⌝ }
-    ensures { λ _. ⌜ now (counts .exit) ≡ afterEnd (now (counts .entry)) n ⌝ }
+    ensures { λ _. ⌜ now (counts .exit) ≡ afterEnd (now (counts .entry)) first n ⌝ }
 {
-    *counts = [counts[0] + n, counts[1]];
+    let mut lowest = counts[2];
+    if first < lowest {
+        lowest = first;
+    }
+    *counts = [counts[0] + n, counts[1], lowest];
 }

@@ -21,7 +21,7 @@ fn release(mem: &mut ExecutionMemory, counts: &mut Counts, name: u16, first: u16
 {
     memory_cell_fills::fill(mem, first, n, Cell::Free);
     memory_block_changes::put_block(mem, name, Block::Dead);
-    memory_counts::give_back(counts, n as usize);
+    memory_counts::give_back(counts, first as usize, n as usize);
 }
 
 fn free_block(mem: &mut ExecutionMemory, counts: &mut Counts, name: u16) -> u32

@@ -42,8 +42,9 @@ pub const VARIABLE_COUNT: usize = 64;
 
 pub type Variables = [u16; VARIABLE_COUNT];
 
-// What a run counts as it goes: the free cells, and the next name, one past the last where all names are given.
-pub type Counts = [usize; 2];
+// What a run counts as it goes: the free cells; the next name, one past the last where all names are given; and a cell
+// below which none is free.
+pub type Counts = [usize; 3];
 
 // The live block that has each mark, by its name; 0 where none has.
 pub type MarkOwners = [u16; CELL_COUNT];

@@ -15,13 +15,14 @@ abbrev free-in : List ℕ → ℕ → Bool
 free-in l i = isFree (cellOf (memoryOf l) i)
 
 abbrev Inv-loop : tie.InvT-loop
-Inv-loop mem n run₀ i₀ run i = Scanned (free-in mem) n i run
+Inv-loop mem from n run₀ i₀ run i = Scanned (free-in mem) n i run
 
 abbrev μ-loop : tie.MeasureT-loop
-μ-loop mem n run₀ i₀ run i = cellCount - i
+μ-loop mem from n run₀ i₀ run i = cellCount - i
 
 loop-holds : tie.Need-loop-holds Inv-loop μ-loop
-loop-holds c = scan-start (free-in (c .args .mem .now)) (c .args .n) (c .pre .0)
+loop-holds c =
+    scan-start (free-in (c .args .mem .now)) (c .args .n) (c .args .from) (c .pre .0) (c .pre .2) (c .pre .3)
 
 is-free-requires : tie.Need-is-free-requires Inv-loop μ-loop
 is-free-requires c κs = c .loop-test .taken
@@ -32,8 +33,8 @@ add-run c = omega arith
 add-i : tie.Need-add-i Inv-loop μ-loop
 add-i c = omega arith
 
-sub-t8 : tie.Need-sub-t8 Inv-loop μ-loop
-sub-t8 c = omega arith
+sub-t9 : tie.Need-sub-t9 Inv-loop μ-loop
+sub-t9 c = omega arith
 
 returns : tie.Need-returns Inv-loop μ-loop
 returns c =
@@ -86,7 +87,7 @@ find-run-spec =
     is-free-requires
     add-run
     add-i
-    sub-t8
+    sub-t9
     returns
     loop-less
     loop-again

@@ -14,7 +14,9 @@ returns : tie.Need-returns
 returns c = rw (c .if1 .taken) (run-of-none (memoryOf (c .before .args .mem .now)))
 
 find-run-requires : tie.Need-find-run-requires
-find-run-requires c κs = search needs
+find-run-requires c κs =
+    let s = c .before in
+    (omega arith, s .pre .0, s .pre .1, s .pre .2)
 
 returns-2 : tie.Need-returns-2
 returns-2 c = search needs

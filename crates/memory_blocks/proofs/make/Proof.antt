@@ -45,17 +45,17 @@ name c =
     let s = c .before .before .before .before in
     s .pre .next ∙ sym (c .before .before .next-name .ensures) ∙ c .k .given .1
 
-run : (c : Fitting) → let s = c .before .before .before .before .before .before .before .before .before .before .before in
+run : (c : Fitting) → let s = c .before .before .before .before .before .before .before .before .before .before .before .before in
     freeRun (memoryOf (now (s .args .mem))) (s .args .n) ≡ Search.At (c .before .before .first .given .0 .0)
 run c = sym (c .before .before .before .before .free-run .ensures) ∙ c .before .before .first .given .1
 
-makes : (c : Fitting) → let after-k = c .before .before .before .before .before .before .before in
+makes : (c : Fitting) → let after-k = c .before .before .before .before .before .before .before .before in
     let s = after-k .before .before .before .before in
     let k = after-k .k .given .0 .0 in
     makeBlock (memoryOf (now (s .args .mem))) (useOf (s .args .freeable)) (s .args .n)
     ≡ made k (withBlock (memoryOf (now (s .args .mem))) (useOf (s .args .freeable)) k (c .before .before .first .given .0 .0)
     (s .args .n))
-makes c = rw (name (c .before .before .before .before .before .before .before), run c) refl
+makes c = rw (name (c .before .before .before .before .before .before .before .before), run c) refl
 
 next-name-requires : tie.Need-next-name-requires
 next-name-requires c κs = search needs
@@ -66,8 +66,13 @@ enum-told c = search needs
 enum-known-k : tie.Need-enum-known-k
 enum-known-k c = search needs
 
+element-copy-out-free-run : tie.Need-element-copy-out-free-run
+element-copy-out-free-run c = search needs
+
 free-run-requires : tie.Need-free-run-requires
-free-run-requires c κs = c .before .before .before .before .before .before .pre .invariant
+free-run-requires c κs =
+    let h = c .before .before .before .before .before .before .before .pre in
+    (h .invariant, h .within, h .lowest)
 
 enum-told-2 : tie.Need-enum-told-2
 enum-told-2 c = search needs
@@ -77,34 +82,35 @@ enum-known-first c = search needs
 
 cast-place : tie.Need-cast-place
 cast-place c =
-    let after-k = c .before .before .before .before .before .before .before in
+    let after-k = c .before .before .before .before .before .before .before .before in
     omega (arith, name-bound (memoryOf (now (after-k .before .before .before .before .args .mem))) _ (name after-k))
 
 cast-place-2 : tie.Need-cast-place-2
 cast-place-2 c =
-    let s = c .before .before .before .before .before .before .before .before .before .before .before in
+    let s = c .before .before .before .before .before .before .before .before .before .before .before .before in
     omega (arith, run-bound _ (s .args .n) _ (run c))
 
 cast-place-3 : tie.Need-cast-place-3
 cast-place-3 c =
-    let s = c .before .before .before .before .before .before .before .before .before .before .before in
+    let s = c .before .before .before .before .before .before .before .before .before .before .before .before in
     omega (arith, run-bound _ (s .args .n) _ (run c))
 
 place-requires : tie.Need-place-requires
 place-requires c κs =
-    let after-k = c .before .before .before .before .before .before .before in
+    let after-k = c .before .before .before .before .before .before .before .before in
     omega (arith, name-bound (memoryOf (now (after-k .before .before .before .before .args .mem))) _ (name after-k))
 
 take-requires : tie.Need-take-requires
 take-requires c κs =
     let found = c .before .before in
-    let after-k = found .before .before .before .before .before .before .before in
+    let after-k = found .before .before .before .before .before .before .before .before in
     let s = after-k .before .before .before .before in
-    room-counted (s .pre) (useOf (s .args .freeable)) (s .args .n) (after-k .k .given .0 .0) _ (makes found) (name after-k)
+    room-counted (s .pre) (useOf (s .args .freeable)) (s .args .n) (after-k .k .given .0 .0)
+    (found .before .before .first .given .0 .0) (makes found) (name after-k) (run-bound _ (s .args .n) _ (run found))
 
-cast-t17 : tie.Need-cast-t17
-cast-t17 c =
-    let after-k = c .before .before .before .before .before .before .before .before .before .before in
+cast-t20 : tie.Need-cast-t20
+cast-t20 c =
+    let after-k = c .before .before .before .before .before .before .before .before .before .before .before in
     omega (arith, name-bound (memoryOf (now (after-k .before .before .before .before .args .mem))) _ (name after-k))
 
 returns : tie.Need-returns
@@ -117,7 +123,7 @@ returns c =
 
 returns-2 : tie.Need-returns-2
 returns-2 c =
-    let after-k = c .before .before .before .before .before in
+    let after-k = c .before .before .before .before .before .before in
     let s = after-k .before .before .before .before in
     let l = s .args .mem .now in
     let f : freeRun (memoryOf l) (s .args .n) ≡ Search.Nothing =
@@ -127,15 +133,16 @@ returns-2 c =
 returns-3 : tie.Need-returns-3
 returns-3 c =
     let found = c .before .before .before in
-    let after-k = found .before .before .before .before .before .before .before in
+    let after-k = found .before .before .before .before .before .before .before .before in
     let s = after-k .before .before .before .before in
     let placed = c .before .before .place .ensures in (
       rw (makes found) refl,
       (
         rw (makes found) placed,
         counted-is (placed .view) (c .take .ensures)
-            (counted-new (s .pre) (useOf (s .args .freeable)) (s .args .n) (after-k .k .given .0 .0) _ (makes found)
-            (name after-k)),
+            (counted-new (s .pre) (useOf (s .args .freeable)) (s .args .n) (after-k .k .given .0 .0)
+            (found .before .before .first .given .0 .0) (makes found) (name after-k)
+            (run-bound _ (s .args .n) _ (run found))),
       ),
     )
 
@@ -146,6 +153,7 @@ make-spec =
     next-name-requires
     enum-told
     enum-known-k
+    element-copy-out-free-run
     free-run-requires
     enum-told-2
     enum-known-first
@@ -154,7 +162,7 @@ make-spec =
     cast-place-3
     place-requires
     take-requires
-    cast-t17
+    cast-t20
     returns
     returns-2
     returns-3)

@@ -142,6 +142,10 @@ pub record Scanned (p : ℕ → Bool) (n i run : ℕ) : Type 0 where
   pub passed : (j : ℕ) → i - run ≤ j → j < i → p j ≡ true
   pub nowhere : (j : ℕ) → j < i - run → allFree p j n ≡ false
 
+-- no place below i passes
+abbrev pub NoneBelow : (ℕ → Bool) → ℕ → Type 0
+NoneBelow p i = (j : ℕ) → j < i → p j ≡ false
+
 -- none of the places from i on passes, up to a later one
 pub record Held (p : ℕ → Bool) (i e : ℕ) : Type 0 where
   pub further : i < e
@@ -149,20 +153,21 @@ pub record Held (p : ℕ → Bool) (i e : ℕ) : Type 0 where
   pub held : (j : ℕ) → i ≤ j → j < e → p j ≡ false
 
 module _ (p : ℕ → Bool) (n : ℕ) where
-  pub scan-start : 0 < n → Scanned p n 0 0
-  scan-start h = record {
-    within = omega arith;
+  -- from a place below which none passes
+  pub scan-start : (i : ℕ) → 0 < n → i ≤ cellCount → NoneBelow p i → Scanned p n i 0
+  scan-start i h within low = record {
+    within = within;
     some = omega arith;
     short = h;
-    passed = λ j a b. absurd (no j b);
-    nowhere = λ j b. absurd (no′ j b);
+    passed = λ j a b. absurd (no j a b);
+    nowhere = λ j b. blocked p n j j (omega arith) (omega arith) (low j (under j b));
   }
     where
-      no : (j : ℕ) → j < 0 → ⊥
-      no j b = omega arith
+      no : (j : ℕ) → i - 0 ≤ j → j < i → ⊥
+      no j a b = omega arith
 
-      no′ : (j : ℕ) → j < 0 - 0 → ⊥
-      no′ j b = omega arith
+      under : (j : ℕ) → j < i - 0 → j < i
+      under j b = omega arith
 
   module _ (i run : ℕ) (s : Scanned p n i run) (h : i < cellCount) where
     pub scan-free : p i ≡ true → (run + 1 ≡ n → ⊥) → Scanned p n (i + 1) (run + 1)
