@@ -19,7 +19,7 @@ use Rattle.rules.proofs.memory.MemoryLaws.{named-in, named-map, coverage}
 use Rattle.rules.proofs.memory.Invariant.{Invariant, Owned, occupied, recordsOf}
 use Rattle.rules.proofs.memory.BlockEnds.{held-to-end, block-covers}
 use Rattle.memory_cells.proofs.Reading.{cell-in, block-named, count-blocks}
-use Rattle.byte_blocks.specs.Ends.{endAt}
+use Rattle.block_places.specs.Ends.{endAt}
 
 pub name-bound : (m : Memory) (k : ℕ) → nextName m ≡ Search.At k → k ≤ nameCount
 name-bound m k e =

@@ -39,7 +39,7 @@ fn end_of(mem: &ExecutionMemory, i: usize) -> usize
     ensures { λ r. ⌜ Held (λ j. isFree (cellOf (memoryOf (now (mem .entry))) j)) i r ⌝ }
 {
     let owner = mem[BLOCKS_LENGTH + i * 16 + 1];
-    byte_blocks::end(&mem[..], owner as usize)
+    block_places::end(&mem[..], owner as usize)
 }
 
 // The lowest run of n free cells, n from 1 on, looked for from a cell below which none is free. A cell that is not free

@@ -3,11 +3,9 @@ use Prim.Native.Nat.{ℕ, zero, suc, _+_, _-_, _/_, _≤_, _<_}
 use native.Mathlib.Omega.{arith}
 use mathlib.Core.List.{List, [], _∷_, _++_, map}
 use mathlib.Core.Path.{_≡_, refl, sym, ap, _∙_, subst}
-use mathlib.Core.Bool.{Bool, true, false, cond, true≢false}
-use lib.Dec.{eqb, ltb}
+use mathlib.Core.Bool.{false, true≢false}
 use lib.IntN.{ℤ}
 use lib.ListN.{length, getD, replicate}
-use borrow.Author.Tests.{eqb-true, ltb-true, ltb-false}
 use mir.Syntax.{w32}
 use mir.Val.{Fits}
 use Rattle.rules.specs.Sizes.{nameCount, cellCount}
@@ -15,9 +13,8 @@ use Rattle.rules.specs.Checker.{inputsFault}
 use Rattle.rules.specs.Memory.{Memory, recordedOf, blockOf, cellOf, storeCell, isFree, nextName, Use, made, makeBlock}
 use Rattle.rules.specs.Memory.{withBlock, endBlock, withoutCells, countFree, startMemory}
 use Rattle.rules.specs.declared.{Pointer.Pointer, Value.Value, Search.Search, Recorded.Recorded, Block.Block, Cell.Cell}
-use Rattle.rules.proofs.lists.RunLaws.{NoneBelow}
-use Rattle.rules.proofs.memory.MemoryLaws.{fill-inside, fill-below, fill-above, Covering, inside, below, above, covering}
-use Rattle.rules.proofs.memory.MemoryLaws.{coverage}
+use Rattle.rules.proofs.lists.RunLaws.{NoneBelow, lowestGiven, none-taken, none-given, taken-within, given-within}
+use Rattle.rules.proofs.memory.MemoryLaws.{fill-inside, fill-below, fill-above, coverage}
 use Rattle.rules.proofs.runs.Keeping.{AnyNumber, MadeKeeps}
 use Rattle.rules.proofs.memory.Invariant.{occupied, changedMemory}
 use Rattle.rules.proofs.memory.BlockChanges.{onward-cell, end-invariant}
@@ -54,22 +51,6 @@ module _ {m : Memory} {c : List ℕ} (h : Counted m c) where
     pub room-counted : (n ≤ freeIn c) × (nextIn c ≤ nameCount) × (first + n ≤ cellCount)
     room-counted = (omega (arith, takes, h .free), named .1, bound)
 
-    -- a cell of the block is held, any other is as it was
-    new-lowest : (t : Bool) → eqb first (lowestIn c) ≡ t
-        → NoneBelow (λ i. isFree (cellOf m₁ i)) (cond t (first + n) (lowestIn c))
-    new-lowest t q j b = go (covering first n j) t q b
-      where
-        go : {w : Bool} → Covering first n j w → (t : Bool) → eqb first (lowestIn c) ≡ t
-            → j < cond t (first + n) (lowestIn c) → isFree (cellOf m₁ j) ≡ false
-        go (inside x y) t q b =
-            ap isFree (fill-inside (m .cells) first n _ j Cell.Free (omega (arith, h .invariant .size)) x y)
-        go (below x) true q b =
-            ap isFree (fill-below (m .cells) first n _ j Cell.Free x)
-            ∙ h .lowest j (omega (arith, eqb-true first (lowestIn c) q))
-        go (below x) false q b = ap isFree (fill-below (m .cells) first n _ j Cell.Free x) ∙ h .lowest j b
-        go (above x) true q b = absurd (omega arith)
-        go (above x) false q b = ap isFree (fill-above (m .cells) first n _ j Cell.Free x) ∙ h .lowest j b
-
     pub counted-new : Counted m₁ (afterNew c first n)
     counted-new =
         let later : suc k ≡ nextIn c + 1 = omega (arith, named .0) in
@@ -79,13 +60,17 @@ module _ {m : Memory} {c : List ℕ} (h : Counted m c) where
           next =
               subst (MadeKeeps (λ k m₁. nextName m₁ ≡ nameFrom (suc k)) AnyNumber) e (new-next m u n (h .invariant))
               ∙ ap nameFrom later;
-          lowest = new-lowest (eqb first (lowestIn c)) refl;
-          within = either (eqb first (lowestIn c));
+          -- a cell of the block is held, any other is as it was
+          lowest =
+              none-taken _ _ first (lowestIn c) (h .lowest) n
+              (λ j x y. ap isFree (fill-inside (m .cells) first n _ j Cell.Free (inside j y) x y))
+              (λ j x. ap isFree (fill-below (m .cells) first n _ j Cell.Free x))
+              (λ j x. ap isFree (fill-above (m .cells) first n _ j Cell.Free x));
+          within = taken-within first n (lowestIn c) bound (h .within);
         }
       where
-        either : (t : Bool) → cond t (first + n) (lowestIn c) ≤ cellCount
-        either true = bound
-        either false = h .within
+        inside : (j : ℕ) → j < first + n → j < length (m .cells)
+        inside j y = omega (arith, h .invariant .size)
 
   -- the end of a live one
   module _ (k first n : ℕ) (e : recordedOf (blockOf m k) ≡ Recorded.Live first n) where
@@ -94,15 +79,6 @@ module _ {m : Memory} {c : List ℕ} (h : Counted m c) where
 
     pub end-counted : freeIn c + n ≤ cellCount
     end-counted = omega (arith, h .free, gives-back, free-bound (endBlock m k) (end-invariant m k (h .invariant)))
-
-    end-lowest : (t : Bool) → ltb first (lowestIn c) ≡ t
-        → NoneBelow (λ i. isFree (cellOf (withoutCells m k (Recorded.Live first n)) i)) (cond t first (lowestIn c))
-    end-lowest true q j b =
-        ap isFree (fill-below (m .cells) first n _ j Cell.Free b)
-        ∙ h .lowest j (omega (arith, ltb-true first (lowestIn c) q))
-    end-lowest false q j b =
-        ap isFree (fill-below (m .cells) first n _ j Cell.Free (omega (arith, ltb-false first (lowestIn c) q)))
-        ∙ h .lowest j b
 
     pub counted-end : Counted (withoutCells m k (Recorded.Live first n)) (afterEnd c first n)
     counted-end =
@@ -113,13 +89,11 @@ module _ {m : Memory} {c : List ℕ} (h : Counted m c) where
           next = end-next m k ∙ h .next;
           lowest =
               subst (λ (r : Recorded). NoneBelow (λ i. isFree (cellOf (withoutCells m k r) i))
-              (cond (ltb first (lowestIn c)) first (lowestIn c))) (sym e) (end-lowest (ltb first (lowestIn c)) refl);
-          within = either (ltb first (lowestIn c)) refl;
+              (lowestGiven first (lowestIn c))) (sym e)
+              (none-given _ _ first (lowestIn c) (h .lowest)
+              (λ j x. ap isFree (fill-below (m .cells) first n _ j Cell.Free x)));
+          within = given-within first (lowestIn c) (h .within);
         })
-      where
-        either : (t : Bool) → ltb first (lowestIn c) ≡ t → cond t first (lowestIn c) ≤ cellCount
-        either true q = omega (arith, h .within, ltb-true first (lowestIn c) q)
-        either false q = h .within
 
   -- a store
   pub counted-store : (p : Pointer) (v : Value) → Counted (changedMemory (storeCell m p v)) c

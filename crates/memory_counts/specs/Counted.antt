@@ -2,12 +2,10 @@
 use Prim.Native.Nat.{ℕ, _+_, _-_, _≤_}
 use mathlib.Core.List.{List, [], _∷_}
 use mathlib.Core.Path.{_≡_}
-use mathlib.Core.Bool.{cond}
-use lib.Dec.{eqb, ltb}
 use lib.ListN.{getD}
 use Rattle.rules.specs.Sizes.{cellCount}
 use Rattle.rules.specs.Memory.{Memory, cellOf, isFree, nextName, countFree}
-use Rattle.rules.proofs.lists.RunLaws.{NoneBelow}
+use Rattle.rules.proofs.lists.RunLaws.{NoneBelow, lowestTaken, lowestGiven}
 use Rattle.rules.proofs.memory.Invariant.{Invariant}
 use Rattle.rules_counting.specs.Counting.{nameFrom}
 
@@ -29,10 +27,10 @@ abbrev pub startCounts : ℕ → List ℕ
 startCounts n = counts (cellCount - 1 - n) 3 (1 + n)
 
 abbrev pub afterNew : List ℕ → ℕ → ℕ → List ℕ
-afterNew c first n = counts (freeIn c - n) (nextIn c + 1) (cond (eqb first (lowestIn c)) (first + n) (lowestIn c))
+afterNew c first n = counts (freeIn c - n) (nextIn c + 1) (lowestTaken first n (lowestIn c))
 
 abbrev pub afterEnd : List ℕ → ℕ → ℕ → List ℕ
-afterEnd c first n = counts (freeIn c + n) (nextIn c) (cond (ltb first (lowestIn c)) first (lowestIn c))
+afterEnd c first n = counts (freeIn c + n) (nextIn c) (lowestGiven first (lowestIn c))
 
 -- 02 §3: "after each step it is the number of cells of kind 0 in the execution memory"; and the next name is the one
 -- that a new block gets; no cell below the lowest is free, and all cells from there on may be

@@ -34,10 +34,7 @@ pub fn take(counts: &mut Counts, first: usize, n: usize)
     requires { ⌜ (n ≤ freeIn (now counts)) × (nextIn (now counts) ≤ nameCount) × (first + n ≤ cellCount) ⌝ }
     ensures { λ _. ⌜ now (counts .exit) ≡ afterNew (now (counts .entry)) first n ⌝ }
 {
-    let mut lowest = counts[2];
-    if first == lowest {
-        lowest = first + n;
-    }
+    let lowest = block_places::lowest_taken(first, n, counts[2]);
     *counts = [counts[0] - n, counts[1] + 1, lowest];
 }
 
@@ -46,9 +43,6 @@ pub fn give_back(counts: &mut Counts, first: usize, n: usize)
     requires { ⌜ freeIn (now counts) + n ≤ cellCount ⌝ }
     ensures { λ _. ⌜ now (counts .exit) ≡ afterEnd (now (counts .entry)) first n ⌝ }
 {
-    let mut lowest = counts[2];
-    if first < lowest {
-        lowest = first;
-    }
+    let lowest = block_places::lowest_given(first, counts[2]);
     *counts = [counts[0] + n, counts[1], lowest];
 }

@@ -17,7 +17,7 @@ use Rattle.rules.proofs.memory.MemoryLaws.{named-in}
 use Rattle.rules.proofs.memory.BlockEnds.{record-covers}
 use Rattle.rules.proofs.memory.MarkOwners.{MarksOwned, owner-covers, owner-held}
 use Rattle.observation_records.proofs.ObservationLaws.{record-count, record-of-name}
-use Rattle.byte_blocks.specs.Ends.{endAt}
+use Rattle.block_places.specs.Ends.{endAt}
 
 module _ (l owners : List ℕ) (i : ℕ) (h : MarksOwned (observationOf l) owners) (b : i < cellCount)
     (f : getD owners i 0 ≢ 0) where

@@ -20,7 +20,7 @@ fn end_of(obs: &ObservationMemory, owners: &MarkOwners, i: usize) -> usize
         × (getD (now owners) i 0 ≢ 0) ⌝ }
     ensures { λ r. ⌜ Held (λ j. eqb (getD (now (owners .entry)) j 0) 0) i r ⌝ }
 {
-    byte_blocks::end(&obs[..], owners[i] as usize)
+    block_places::end(&obs[..], owners[i] as usize)
 }
 
 // The lowest run of n marks that lie in no live block. A mark that has an owner is left by the end of its block.

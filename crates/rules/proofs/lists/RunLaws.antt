@@ -5,7 +5,9 @@ use native.Mathlib.Nat.{eq-or-lt-of-le}
 use native.Mathlib.Decide.{decLt}
 use mathlib.Core.Path.{_≡_, refl, sym, ap, ap₂, _∙_}
 use mathlib.Core.Logic.{⊎-elim, _⊎_, inl, inr}
-use mathlib.Core.Bool.{Bool, true, false}
+use mathlib.Core.Bool.{Bool, true, false, cond}
+use lib.Dec.{eqb, ltb}
+use borrow.Author.Tests.{eqb-true, ltb-true, ltb-false}
 use Rattle.rules.specs.Sizes.{cellCount}
 use Rattle.rules.specs.Checker.{lowest}
 use Rattle.rules.specs.Memory.{allFree, lowestRun}
@@ -145,6 +147,51 @@ pub record Scanned (p : ℕ → Bool) (n i run : ℕ) : Type 0 where
 -- no place below i passes
 abbrev pub NoneBelow : (ℕ → Bool) → ℕ → Type 0
 NoneBelow p i = (j : ℕ) → j < i → p j ≡ false
+
+-- the place that a search starts at, once n places from first on are taken, and once they are given back
+abbrev pub lowestTaken : ℕ → ℕ → ℕ → ℕ
+lowestTaken first n lowest = cond (eqb first lowest) (first + n) lowest
+
+abbrev pub lowestGiven : ℕ → ℕ → ℕ
+lowestGiven first lowest = cond (ltb first lowest) first lowest
+
+-- no place passes below it then either, p being the test before and q the one after
+module _ (p q : ℕ → Bool) (first lowest : ℕ) (low : NoneBelow p lowest) where
+  pub none-taken : (n : ℕ) → ((j : ℕ) → first ≤ j → j < first + n → q j ≡ false)
+      → ((j : ℕ) → j < first → q j ≡ p j) → ((j : ℕ) → first + n ≤ j → q j ≡ p j)
+      → NoneBelow q (lowestTaken first n lowest)
+  none-taken n inside below above j b = go (eqb first lowest) refl b (lt-or-le j first) (lt-or-le j (first + n))
+    where
+      go : (t : Bool) → eqb first lowest ≡ t → j < cond t (first + n) lowest → (j < first) ⊎ (first ≤ j)
+          → (j < first + n) ⊎ (first + n ≤ j) → q j ≡ false
+      go t e b (inr x) (inl y) = inside j x y
+      go true e b (inl x) y = below j x ∙ low j (omega (arith, eqb-true first lowest e))
+      go false e b (inl x) y = below j x ∙ low j b
+      go true e b (inr x) (inr y) = absurd (omega arith)
+      go false e b (inr x) (inr y) = above j y ∙ low j b
+
+  pub none-given : ((j : ℕ) → j < first → q j ≡ p j) → NoneBelow q (lowestGiven first lowest)
+  none-given below j b = go (ltb first lowest) refl b
+    where
+      go : (t : Bool) → ltb first lowest ≡ t → j < cond t first lowest → q j ≡ false
+      go true e b = below j b ∙ low j (omega (arith, ltb-true first lowest e))
+      go false e b = below j (omega (arith, ltb-false first lowest e)) ∙ low j b
+
+-- and it is no place past the last
+pub taken-within : (first n lowest : ℕ) → first + n ≤ cellCount → lowest ≤ cellCount
+    → lowestTaken first n lowest ≤ cellCount
+taken-within first n lowest h k = go (eqb first lowest)
+  where
+    go : (t : Bool) → cond t (first + n) lowest ≤ cellCount
+    go true = h
+    go false = k
+
+pub given-within : (first lowest : ℕ) → lowest ≤ cellCount → lowestGiven first lowest ≤ cellCount
+given-within first lowest k = go (ltb first lowest) refl
+  where
+    go : (t : Bool) → ltb first lowest ≡ t → cond t first lowest ≤ cellCount
+    go true e = omega (arith, ltb-true first lowest e)
+    go false e = k
 
 -- none of the places from i on passes, up to a later one
 pub record Held (p : ℕ → Bool) (i e : ℕ) : Type 0 where

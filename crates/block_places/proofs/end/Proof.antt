@@ -1,12 +1,12 @@
--- `byte_blocks::end` meets its contract. Assumes nothing.
+-- `block_places::end` meets its contract. Assumes nothing.
 use Prim.Native.Nat.{ℕ, _+_, _-_, _*_}
 use native.Mathlib.Omega.{arith}
 use mathlib.Core.Path.{_≡_, ap, ap₂, _∙_}
 use denote.Ref.{now}
 use borrow.Author.Needs.{needs}
 use Rattle.rules.specs.Words.{wordAt}
-use Rattle.byte_blocks.proofs.end.Statement.{statement}
-use Rattle.byte_blocks.proofs.end.Tie as tie
+use Rattle.block_places.proofs.end.Statement.{statement}
+use Rattle.block_places.proofs.end.Tie as tie
 
 mul-at : tie.Need-mul-at
 mul-at c = search needs
