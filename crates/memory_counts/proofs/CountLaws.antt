@@ -65,7 +65,7 @@ module _ {m : Memory} {c : List ℕ} (h : Counted m c) where
               none-taken _ _ first (lowestIn c) (h .lowest) n
               (λ j x y. ap isFree (fill-inside (m .cells) first n _ j Cell.Free (inside j y) x y))
               (λ j x. ap isFree (fill-below (m .cells) first n _ j Cell.Free x))
-              (λ j x. ap isFree (fill-above (m .cells) first n _ j Cell.Free x));
+              (λ j x b. ap isFree (fill-above (m .cells) first n _ j Cell.Free x));
           within = taken-within first n (lowestIn c) bound (h .within);
         }
       where

@@ -20,7 +20,7 @@ fn delete_named(obs: &mut ObservationMemory, owners: &mut MarkOwners, name: u16)
     match observation_records::record_of(&*obs, name) {
         Recorded::Live(first, n) => {
             observation_blocks::remove_block(obs, name, first, n);
-            observation_owners::own(owners, first, n, 0);
+            observation_owners::give_back(owners, first, n);
             Noting::Noted
         }
         Recorded::Unused => Noting::Refused(48),

@@ -23,13 +23,14 @@ fn end_of(obs: &ObservationMemory, owners: &MarkOwners, i: usize) -> usize
     block_places::end(&obs[..], owners[i] as usize)
 }
 
-// The lowest run of n marks that lie in no live block. A mark that has an owner is left by the end of its block.
+// The lowest run of n marks that lie in no live block, looked for from a mark below which each has an owner. A mark that
+// has one is left by the end of its block.
 pub fn find_marks(obs: &ObservationMemory, owners: &MarkOwners, n: usize) -> Search
     requires { ⌜ (0 < n) × MarksOwned (observationOf (now obs)) (now owners) ⌝ }
     ensures { λ r. ⌜ r ≡ markRun (observationOf (now (obs .entry))) n ⌝ }
 {
     let mut run: usize = 0;
-    let mut i: usize = 0;
+    let mut i = owners[CELL_COUNT] as usize;
     while i < CELL_COUNT {
         if owners[i] == 0 {
             run += 1;

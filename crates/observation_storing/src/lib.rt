@@ -30,7 +30,7 @@ fn store_new(obs: &mut ObservationMemory, owners: &mut MarkOwners, name: u16, n:
     match observation_free_marks::find_marks(&*obs, &*owners, n) {
         Search::At(first) => {
             observation_blocks::place_block(obs, name, first as u16, n as u16);
-            observation_owners::own(owners, first as u16, n as u16, name);
+            observation_owners::take(owners, name, first as u16, n as u16);
             Noting::Noted
         }
         Search::Nothing => Noting::Refused(48),

@@ -46,8 +46,10 @@ pub type Variables = [u16; VARIABLE_COUNT];
 // below which none is free.
 pub type Counts = [usize; 3];
 
-// The live block that has each mark, by its name; 0 where none has.
-pub type MarkOwners = [u16; CELL_COUNT];
+// The live block that has each mark, by its name, 0 where none has; and last a mark below which each has an owner.
+pub const OWNERS_LENGTH: usize = CELL_COUNT + 1;
+
+pub type MarkOwners = [u16; OWNERS_LENGTH];
 
 // "a pointer with its block name and offset"; the offset may lie outside the block.
 pub struct Pointer {

@@ -16,13 +16,13 @@ ghost use Rattle.memory_counts.specs.Counted.{Counted};
 ghost use Rattle.evaluation_temporaries.specs.Bytes.{temporariesLength};
 ghost use Rattle.watched_statements.specs.Watching.{lent, Beside, Ready, Leaves, AnsweredBy};
 use rules::Answer;
-use rules::CELL_COUNT;
 use rules::Checked;
 use rules::Counts;
 use rules::ExecutionMemory;
 use rules::MEMORY_LENGTH;
 use rules::MarkOwners;
 use rules::OBSERVATION_LENGTH;
+use rules::OWNERS_LENGTH;
 use rules::ObservationMemory;
 use rules::TABLE_LENGTH;
 use rules::TEMPORARIES_LENGTH;
@@ -95,7 +95,7 @@ fn run_memories(
         (now (mem .exit)) (now (obs .exit)) ⌝ }
 {
     memory_start::start(mem, inputs);
-    let mut owners = [0u16; CELL_COUNT];
+    let mut owners = [0u16; OWNERS_LENGTH];
     watched_noting::start_observation(obs, &mut owners, inputs.len() / 8);
     let mut counts = memory_counts::start(inputs.len() / 8);
     let r = run_table(table, mem, obs, &mut owners, &mut counts, fuel);

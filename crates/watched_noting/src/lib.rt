@@ -149,7 +149,7 @@ fn record_marked(obs: &mut ObservationMemory, owners: &mut MarkOwners, name: u16
 
 // The memory of a run's start: both input blocks recorded, all their cells marked. No mark has an owner before it.
 pub fn start_observation(obs: &mut ObservationMemory, owners: &mut MarkOwners, count: usize)
-    requires { ⌜ (count ≤ inputLimit) × (now owners ≡ replicate cellCount 0) ⌝ }
+    requires { ⌜ (count ≤ inputLimit) × (now owners ≡ replicate (suc cellCount) 0) ⌝ }
     ensures observation { λ _. ⌜ now (obs .exit) ≡ observationImage (startObservation count) ⌝ }
     ensures owners { λ _. ⌜ MarksOwned (observationOf (now (obs .exit))) (now (owners .exit)) ⌝ }
 {

@@ -22,12 +22,16 @@ remove-block-requires c κs =
     alive-named (now (s .args .obs)) (s .args .name) _
     (sym (c .before .before .before .before .record-of .ensures) ∙ c .before .before .first .given .1) refl
 
-own-requires : tie.Need-own-requires
-own-requires c κs =
+give-back-requires : tie.Need-give-back-requires
+give-back-requires c κs =
     let s = c .before .before .before .before .before .before .before .before in
     let found = c .before .before .before .before in
     let h = s .pre in
-    (h .size, h .orderly .within (s .args .name) _ _ (sym (found .before .before .record-of .ensures) ∙ found .first .given .1))
+    (
+      h .size,
+      h .orderly .within (s .args .name) _ _ (sym (found .before .before .record-of .ensures) ∙ found .first .given .1),
+      h .within,
+    )
 
 enum-told : tie.Need-enum-told
 enum-told c = search needs
@@ -43,7 +47,7 @@ returns c =
     let l = now (s .args .obs) in
     let live = sym (found .before .before .record-of .ensures) ∙ found .first .given .1 in (
       answers-noted l (removed .last .0) (ap (deleteAt (observationOf l) (s .args .name)) live) (removed .ensures),
-      owned-is (removed .ensures .view) (c .own .ensures) (delete-owned (s .pre) (s .args .name) _ _ live),
+      owned-is (removed .ensures .view) (c .give-back .ensures) (delete-owned (s .pre) (s .args .name) _ _ live),
     )
 
 returns-2 : tie.Need-returns-2
@@ -71,7 +75,7 @@ delete-named-spec =
     record-of-requires
     enum-known-first
     remove-block-requires
-    own-requires
+    give-back-requires
     enum-told
     enum-told-2
     returns

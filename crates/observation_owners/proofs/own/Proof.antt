@@ -9,11 +9,11 @@ use Rattle.observation_owners.proofs.own.Statement.{statement}
 use Rattle.observation_owners.proofs.own.Tie as tie
 
 abbrev Inv-loop : tie.InvT-loop
-Inv-loop owners₀ first n owner i₀ end owners i =
+Inv-loop owners₀ owner first n i₀ end owners i =
     (first ≤ i) × (i ≤ first + n) × (owners ≡ fill owners₀ first (i - first) owner)
 
 abbrev μ-loop : tie.MeasureT-loop
-μ-loop owners₀ first n owner i₀ end owners i = end - i
+μ-loop owners₀ owner first n i₀ end owners i = end - i
 
 add-end : tie.Need-add-end Inv-loop μ-loop
 add-end c = omega arith

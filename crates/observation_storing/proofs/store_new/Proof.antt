@@ -39,16 +39,16 @@ place-block-requires c κs =
     let s = c .before .before .before .before .before .before .before in
     alive-named (now (s .args .obs)) (s .args .name) _ (s .pre .1) refl
 
-cast-own : tie.Need-cast-own
-cast-own c = omega (arith, low (c .before .before .before .before))
+cast-take : tie.Need-cast-take
+cast-take c = omega (arith, low (c .before .before .before .before))
 
-cast-own-2 : tie.Need-cast-own-2
-cast-own-2 c = search needs
+cast-take-2 : tie.Need-cast-take-2
+cast-take-2 c = search needs
 
-own-requires : tie.Need-own-requires
-own-requires c κs =
+take-requires : tie.Need-take-requires
+take-requires c κs =
     let s = c .before .before .before .before .before .before .before .before .before in
-    (s .pre .0 .size, low (c .before .before .before .before))
+    (s .pre .0 .size, low (c .before .before .before .before), s .pre .0 .within)
 
 enum-told : tie.Need-enum-told
 enum-told c = search needs
@@ -61,7 +61,7 @@ returns c =
     let l = now (s .args .obs) in (
       answers-noted l (placed .last .0)
           (ap (storeAt (observationOf l) (s .args .name) (s .args .n) Recorded.Unused) (run-is found)) (placed .ensures),
-      owned-is (placed .ensures .view) (c .own .ensures)
+      owned-is (placed .ensures .view) (c .take .ensures)
           (store-owned (s .pre .0) (s .args .name) (found .first .given .0 .0) (s .args .n) (s .pre .1) (run-is found)),
     )
 
@@ -83,9 +83,9 @@ store-new-spec =
     cast-place-block
     cast-place-block-2
     place-block-requires
-    cast-own
-    cast-own-2
-    own-requires
+    cast-take
+    cast-take-2
+    take-requires
     enum-told
     returns
     returns-2)

@@ -158,7 +158,7 @@ lowestGiven first lowest = cond (ltb first lowest) first lowest
 -- no place passes below it then either, p being the test before and q the one after
 module _ (p q : ℕ → Bool) (first lowest : ℕ) (low : NoneBelow p lowest) where
   pub none-taken : (n : ℕ) → ((j : ℕ) → first ≤ j → j < first + n → q j ≡ false)
-      → ((j : ℕ) → j < first → q j ≡ p j) → ((j : ℕ) → first + n ≤ j → q j ≡ p j)
+      → ((j : ℕ) → j < first → q j ≡ p j) → ((j : ℕ) → first + n ≤ j → j < lowest → q j ≡ p j)
       → NoneBelow q (lowestTaken first n lowest)
   none-taken n inside below above j b = go (eqb first lowest) refl b (lt-or-le j first) (lt-or-le j (first + n))
     where
@@ -168,7 +168,7 @@ module _ (p q : ℕ → Bool) (first lowest : ℕ) (low : NoneBelow p lowest) wh
       go true e b (inl x) y = below j x ∙ low j (omega (arith, eqb-true first lowest e))
       go false e b (inl x) y = below j x ∙ low j b
       go true e b (inr x) (inr y) = absurd (omega arith)
-      go false e b (inr x) (inr y) = above j y ∙ low j b
+      go false e b (inr x) (inr y) = above j y b ∙ low j b
 
   pub none-given : ((j : ℕ) → j < first → q j ≡ p j) → NoneBelow q (lowestGiven first lowest)
   none-given below j b = go (ltb first lowest) refl b

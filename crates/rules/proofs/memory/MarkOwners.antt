@@ -2,13 +2,14 @@
 -- stays right where a block is stored or deleted.
 use Prim.Native.Nat.{ℕ, zero, suc, _+_, _≤_, _<_}
 use native.Mathlib.Omega.{arith}
-use mathlib.Core.Path.{_≡_, refl, sym, ap, _∙_}
+use mathlib.Core.Path.{_≡_, refl, sym, ap, _∙_, subst}
 use mathlib.Core.Bool.{Bool, true, false, not, true≢false}
 use mathlib.Core.Logic.{_≢_}
 use mathlib.Core.List.{List}
 use lib.Dec.{eqb}
 use borrow.Author.Tests.{ne-eqb}
-use lib.ListN.{length, getD, replicate, length-replicate}
+use lib.ListN.{length, getD, set, replicate, length-set, length-replicate}
+use lib.Seq.{getD-set-same, getD-set-other}
 use Rattle.rules.specs.Sizes.{nameCount, cellCount}
 use Rattle.rules.specs.Memory.{named, lowestRun, one, fill, setNamed}
 use Rattle.rules.specs.Observation.{Observation, recordOf, covers, covered, markRun, withMarks, emptyObservation}
@@ -17,7 +18,8 @@ use Rattle.rules.specs.Watched.{calledOn}
 use Rattle.rules.specs.Types.{Value, Evaluated, Search, Recorded}
 use Rattle.rules.proofs.lists.Rows.{getD-zero}
 use Rattle.rules.proofs.lists.Lists.{length-fill}
-use Rattle.rules.proofs.lists.RunLaws.{Held, run-same}
+use Rattle.rules.proofs.lists.RunLaws.{NoneBelow, lowestTaken, lowestGiven, none-taken, none-given, taken-within}
+use Rattle.rules.proofs.lists.RunLaws.{given-within, Held, run-same, run-bound}
 use Rattle.rules.proofs.memory.MemoryLaws.{named-in, named-setNamed-same, named-setNamed-other, fill-inside}
 use Rattle.rules.proofs.memory.MemoryLaws.{fill-below, fill-above, Covering, inside, below, above, covering}
 use Rattle.rules.proofs.memory.MemoryLaws.{covers-inside, coverage, coverage-setNamed, coverage-named}
@@ -36,10 +38,23 @@ abbrev pub OwnedBy : List Recorded → ℕ → ℕ → Type 0
 OwnedBy l i zero = covered l i ≡ false
 OwnedBy l i (suc k) = covers (named l (suc k) Recorded.Dead) i ≡ true
 
+-- the number behind the owners: each mark below it has one
+abbrev pub lowestOf : List ℕ → ℕ
+lowestOf owners = getD owners cellCount 0
+
 pub record MarksOwned (o : Observation) (owners : List ℕ) : Type 0 where
   pub orderly : OrderlyObservation o
-  pub size : length owners ≡ cellCount
+  pub size : length owners ≡ suc cellCount
   pub owned : (i : ℕ) → i < cellCount → OwnedBy (o .blocks) i (getD owners i 0)
+  pub lowest : NoneBelow (λ i. eqb (getD owners i 0) 0) (lowestOf owners)
+  pub within : lowestOf owners ≤ cellCount
+
+-- once block k has taken n marks from first on, and once they are given back
+abbrev pub ownersTaken : List ℕ → ℕ → ℕ → ℕ → List ℕ
+ownersTaken l k first n = set (fill l first n k) cellCount (lowestTaken first n (lowestOf l))
+
+abbrev pub ownersGiven : List ℕ → ℕ → ℕ → List ℕ
+ownersGiven l first n = set (fill l first n 0) cellCount (lowestGiven first (lowestOf l))
 
 pub owned-is : {o o₁ : Observation} {l l₁ : List ℕ} → o₁ ≡ o → l₁ ≡ l → MarksOwned o l → MarksOwned o₁ l₁
 owned-is p q h = rw (p, q) h
@@ -104,47 +119,103 @@ module _ (l : List Recorded) (k : ℕ) (b : Recorded) (i : ℕ) (from : 1 ≤ k)
       other q = true≢false (sym w ∙ ap (λ x. covers (named l x Recorded.Dead) i) q ∙ e)
 
 -- ---- the calls
-module _ {o : Observation} {owners : List ℕ} (h : MarksOwned o owners) (k first n : ℕ) where
-  -- the marks of the block get a new owner, the others keep theirs
-  owned-filled : (b : Recorded) (x : ℕ) → ((i : ℕ) → first ≤ i → i < first + n → OwnedBy (setNamed (o .blocks) k b) i x)
+module _ {o : Observation} {owners : List ℕ} (h : MarksOwned o owners) (k first n x lowest : ℕ)
+    (room : first + n ≤ cellCount) where
+  -- n marks from first on get owner x, and the number behind the owners is another
+  abbrev owners₁ : List ℕ
+  owners₁ = set (fill owners first n x) cellCount lowest
+
+  filled-size : length owners₁ ≡ suc cellCount
+  filled-size = length-set (fill owners first n x) cellCount lowest ∙ length-fill owners first n x ∙ h .size
+
+  filled-lowest : lowestOf owners₁ ≡ lowest
+  filled-lowest =
+      getD-set-same (fill owners first n x) cellCount lowest 0 (omega (arith, length-fill owners first n x, h .size))
+
+  filled-at : (i : ℕ) → i < cellCount → getD owners₁ i 0 ≡ getD (fill owners first n x) i 0
+  filled-at i b = getD-set-other (fill owners first n x) cellCount i lowest 0 other
+    where
+      other : i ≢ cellCount
+      other e = omega arith
+
+  filled-inside : (i : ℕ) → first ≤ i → i < first + n → getD owners₁ i 0 ≡ x
+  filled-inside i p q =
+      filled-at i (omega arith) ∙ fill-inside owners first n x i 0 (omega (arith, h .size)) p q
+
+  filled-below : (i : ℕ) → i < first → getD owners₁ i 0 ≡ getD owners i 0
+  filled-below i p = filled-at i (omega arith) ∙ fill-below owners first n x i 0 p
+
+  filled-above : (i : ℕ) → first + n ≤ i → i < cellCount → getD owners₁ i 0 ≡ getD owners i 0
+  filled-above i p b = filled-at i b ∙ fill-above owners first n x i 0 p
+
+  -- the others keep their owners
+  owned-filled : (b : Recorded) → ((i : ℕ) → first ≤ i → i < first + n → OwnedBy (setNamed (o .blocks) k b) i x)
       → ((i : ℕ) → covers (Recorded.Live first n) i ≡ false → OwnedBy (o .blocks) i (getD owners i 0)
       → OwnedBy (setNamed (o .blocks) k b) i (getD owners i 0))
-      → (i : ℕ) → i < cellCount → OwnedBy (setNamed (o .blocks) k b) i (getD (fill owners first n x) i 0)
-  owned-filled b x new old i c = go (covers (Recorded.Live first n) i) refl (covering first n i)
+      → (i : ℕ) → i < cellCount → OwnedBy (setNamed (o .blocks) k b) i (getD owners₁ i 0)
+  owned-filled b new old i c = go (covers (Recorded.Live first n) i) refl (covering first n i)
     where
       go : (t : Bool) → covers (Recorded.Live first n) i ≡ t → Covering first n i t
-          → OwnedBy (setNamed (o .blocks) k b) i (getD (fill owners first n x) i 0)
-      go true e (inside p q) = rw (fill-inside owners first n x i 0 (omega (arith, h .size)) p q) (new i p q)
-      go false e (below p) = rw (fill-below owners first n x i 0 p) (old i e (h .owned i c))
-      go false e (above p) = rw (fill-above owners first n x i 0 p) (old i e (h .owned i c))
+          → OwnedBy (setNamed (o .blocks) k b) i (getD owners₁ i 0)
+      go true e (inside p q) = rw (filled-inside i p q) (new i p q)
+      go false e (below p) = rw (filled-below i p) (old i e (h .owned i c))
+      go false e (above p) = rw (filled-above i p c) (old i e (h .owned i c))
 
+module _ {o : Observation} {owners : List ℕ} (h : MarksOwned o owners) (k first n : ℕ) where
   pub store-owned : recordOf o k ≡ Recorded.Unused → markRun o n ≡ Search.At first
-      → MarksOwned (withMarks o k (Recorded.Live first n) first n) (fill owners first n k)
+      → MarksOwned (withMarks o k (Recorded.Live first n) first n) (ownersTaken owners k first n)
   store-owned d e = record {
     orderly = orderly-calls .storing o k first n (h .orderly) d e;
-    size = length-fill owners first n k ∙ h .size;
-    owned = owned-filled (Recorded.Live first n) k
+    size = filled-size h k first n k low room;
+    owned = owned-filled h k first n k low room (Recorded.Live first n)
         (λ i p q. covers-set (o .blocks) k (Recorded.Live first n) i (r .0) (r .1) (covers-inside first n i p q))
         (λ i c w. owned-apart (o .blocks) k (Recorded.Live first n) i (r .0) (r .1) (ap (λ x. covers x i) d) c
         (getD owners i 0) w);
+    lowest = subst (NoneBelow _) (sym (filled-lowest h k first n k low room))
+        (none-taken _ _ first (lowestOf owners) (h .lowest) n
+        (λ j p q. ap (λ (x : ℕ). eqb x 0) (filled-inside h k first n k low room j p q) ∙ ne-eqb k 0 known)
+        (λ j p. ap (λ (x : ℕ). eqb x 0) (filled-below h k first n k low room j p))
+        (λ j p q. ap (λ (x : ℕ). eqb x 0) (filled-above h k first n k low room j p (omega (arith, h .within)))));
+    within = subst (λ (x : ℕ). x ≤ cellCount) (sym (filled-lowest h k first n k low room))
+        (taken-within first n (lowestOf owners) room (h .within));
   }
     where
       r : (1 ≤ k) × (k ≤ length (o .blocks))
       r = named-in (o .blocks) k Recorded.Dead (λ q. dead-is-not-unused (sym q ∙ d))
 
+      known : k ≢ 0
+      known q = omega (arith, r .0)
+
+      room : first + n ≤ cellCount
+      room = run-bound _ n first e
+
+      low : ℕ
+      low = lowestTaken first n (lowestOf owners)
+
   pub delete-owned : recordOf o k ≡ Recorded.Live first n
-      → MarksOwned (withMarks o k Recorded.Dead first n) (fill owners first n 0)
+      → MarksOwned (withMarks o k Recorded.Dead first n) (ownersGiven owners first n)
   delete-owned d = record {
     orderly = orderly-calls .deleting o k first n (h .orderly) d;
-    size = length-fill owners first n 0 ∙ h .size;
-    owned = owned-filled Recorded.Dead 0
+    size = filled-size h k first n 0 low room;
+    owned = owned-filled h k first n 0 low room Recorded.Dead
         (λ i p q. uncovered (setNamed (o .blocks) k Recorded.Dead) i (gone i p q))
         (λ i c w. owned-apart (o .blocks) k Recorded.Dead i (r .0) (r .1) (ap (λ x. covers x i) d ∙ c) refl
         (getD owners i 0) w);
+    lowest = subst (NoneBelow _) (sym (filled-lowest h k first n 0 low room))
+        (none-given _ _ first (lowestOf owners) (h .lowest)
+        (λ j p. ap (λ (x : ℕ). eqb x 0) (filled-below h k first n 0 low room j p)));
+    within = subst (λ (x : ℕ). x ≤ cellCount) (sym (filled-lowest h k first n 0 low room))
+        (given-within first (lowestOf owners) (h .within));
   }
     where
       r : (1 ≤ k) × (k ≤ length (o .blocks))
       r = named-in (o .blocks) k Recorded.Dead (λ q. dead-is-not-live first n (sym q ∙ d))
+
+      room : first + n ≤ cellCount
+      room = h .orderly .within k first n d
+
+      low : ℕ
+      low = lowestGiven first (lowestOf owners)
 
       gone : (i : ℕ) → first ≤ i → i < first + n → coverage (setNamed (o .blocks) k Recorded.Dead) i ≡ 0
       gone i p q =
@@ -161,6 +232,8 @@ module _ {owners : List ℕ} where
         orderly = orderly-calls .marking o p i (h .orderly) e;
         size = h .size;
         owned = h .owned;
+        lowest = h .lowest;
+        within = h .within;
       })
 
   pub initialise-owned : {o : Observation} → MarksOwned o owners → (e : Evaluated)
@@ -177,11 +250,13 @@ module _ {owners : List ℕ} where
       initialise-owned f (Evaluated.Value (pointerTo k n))
 
 -- at the start no mark has an owner
-pub empty-owned : MarksOwned emptyObservation (replicate cellCount 0)
+pub empty-owned : MarksOwned emptyObservation (replicate (suc cellCount) 0)
 empty-owned = record {
   orderly = empty-orderly;
-  size = length-replicate {A = ℕ} cellCount 0;
-  owned = λ i b. rw (getD-zero cellCount i) (unused i);
+  size = length-replicate {A = ℕ} (suc cellCount) 0;
+  owned = λ i b. rw (getD-zero (suc cellCount) i) (unused i);
+  lowest = λ j b. absurd (omega (arith, getD-zero (suc cellCount) cellCount));
+  within = omega (arith, getD-zero (suc cellCount) cellCount);
 }
   where
     unused : (i : ℕ) → covered (replicate nameCount Recorded.Unused) i ≡ false
