@@ -1,179 +1,147 @@
-/* The table checker: refusals 1 to 8 of document 01 (8 for source tables only). */
+/* The table checker: refusals 1 to 8 of document 01 (8 for source tables only), in one pass from the last record down.
+ * Parents have larger numbers, so each is met before its children, and the last fault that is met has the lowest
+ * record. */
 #include "interpreter.h"
+#include "forms.h"
 #include "layout.h"
 
+#include <stdbool.h>
 #include <string.h>
 
-enum sort { NONE, EXPRESSION, PLACE, TERM, PREDICATE, STATEMENT };
+#define INLINED static inline __attribute__((always_inline))
 
-/* What a kind asks for: its language, its sort, the sorts of its children, its marks. */
-typedef struct form {
-    uint8_t source, target, sort, children[3], lowest_mark, highest_mark;
-} form;
+enum { NO_RECORD = UINT16_MAX };
 
-static const form forms[256] = {
-    [1] = {1, 1, EXPRESSION, {0}, 0, 0},
-    [2] = {1, 1, EXPRESSION, {PLACE}, 0, 0},
-    [3] = {1, 1, EXPRESSION, {PLACE}, 0, 0},
-    [4] = {1, 1, EXPRESSION, {EXPRESSION, EXPRESSION}, 1, 7},
-    [5] = {1, 1, EXPRESSION, {EXPRESSION, EXPRESSION}, 0, 0},
-    [10] = {1, 1, PLACE, {0}, 0, 63},
-    [11] = {1, 1, PLACE, {EXPRESSION}, 0, 0},
-    [12] = {0, 1, PLACE, {0}, 0, 63},
-    [20] = {1, 0, TERM, {EXPRESSION}, 0, 0},
-    [21] = {1, 0, TERM, {TERM}, 0, 0},
-    [22] = {1, 0, TERM, {TERM}, 0, 0},
-    [23] = {1, 0, TERM, {TERM}, 0, 0},
-    [24] = {1, 0, TERM, {TERM, TERM}, 1, 8},
-    [30] = {1, 0, PREDICATE, {TERM}, 0, 0},
-    [31] = {1, 0, PREDICATE, {TERM}, 0, 0},
-    [32] = {1, 0, PREDICATE, {TERM, TERM}, 6, 7},
-    [33] = {1, 0, PREDICATE, {PREDICATE}, 0, 0},
-    [34] = {1, 0, PREDICATE, {PREDICATE, PREDICATE}, 0, 0},
-    [35] = {1, 0, PREDICATE, {PREDICATE, PREDICATE}, 0, 0},
-    [40] = {1, 1, STATEMENT, {0}, 0, 0},
-    [41] = {1, 1, STATEMENT, {PLACE, EXPRESSION}, 0, 0},
-    [42] = {1, 1, STATEMENT, {PLACE, EXPRESSION}, 0, 0},
-    [43] = {1, 1, STATEMENT, {EXPRESSION}, 0, 0},
-    [44] = {1, 1, STATEMENT, {STATEMENT, STATEMENT}, 0, 0},
-    [45] = {1, 1, STATEMENT, {EXPRESSION, STATEMENT, STATEMENT}, 0, 0},
-    [46] = {1, 1, STATEMENT, {EXPRESSION, STATEMENT}, 0, 0},
-    [47] = {1, 1, STATEMENT, {STATEMENT}, 0, 63},
-    [48] = {1, 0, STATEMENT, {PREDICATE}, 0, 0},
-    [60] = {0, 1, STATEMENT, {PLACE}, 0, 63},
-    [61] = {0, 1, STATEMENT, {EXPRESSION}, 0, 63},
-    [63] = {0, 1, STATEMENT, {0}, 0, 61},
-    [64] = {0, 1, STATEMENT, {0}, 0, 62},
-    [65] = {0, 1, STATEMENT, {0}, 0, 62},
-    [66] = {0, 1, STATEMENT, {0, STATEMENT, STATEMENT}, 0, 63},
-    [67] = {0, 1, STATEMENT, {0}, 0, 63},
-    [68] = {0, 1, STATEMENT, {0}, 0, 62},
-    [69] = {0, 1, STATEMENT, {0}, 0, 63},
-    [70] = {0, 1, STATEMENT, {0}, 0, 63},
-};
+/* The lowest record at fault of each number. */
+typedef struct faults {
+    unsigned record, number; /* of 3 to 5 */
+    unsigned shape, scope, level;
+} faults;
 
-static bool fields_hold(const record *r, const form *f, bool target)
+/* 4 comes before 5: a child that is missing before one that is wrong. */
+static __attribute__((cold, noinline)) uint32_t child_fault(const record *r, const form *f)
 {
-    if (r->mark < f->lowest_mark || r->mark > f->highest_mark)
-        return false;
-    if (r->kind == 24 && r->mark > 5 && r->mark < 8)
-        return false;
-    for (int i = 0; i < 2; i++)
-        if ((f->children[i] != NONE) != (r->child[i] != 0))
-            return false;
-    if (r->kind == 63 || r->kind == 64) {
-        if (r->child[2] < 1 || r->child[2] > (r->kind == 63 ? 8 : 5))
-            return false;
-    } else if ((f->children[2] != NONE) != (r->child[2] != 0)) {
-        return false;
-    }
-    if (target && r->kind >= 40)
-        return r->literal >= 1 && r->literal <= SOURCE_RECORDS;
-    return r->kind == 1 || r->literal == 0;
+    for (int i = 0; i < 3; i++)
+        if (f->children[i] != NONE && r->child[i] == 0)
+            return 4;
+    return 5;
 }
 
-/* 3, 4 or 5, or 0. Record n is table[n]. */
-static uint32_t record_fault(const record *table, unsigned n, bool target)
+/* 3, 4 or 5, or 0. */
+INLINED uint32_t record_fault(const record *table, const form *forms, unsigned n)
 {
     const record *r = &table[n];
     const form *f = &forms[r->kind];
-    if (!(target ? f->target : f->source))
+    uint64_t word;
+    memcpy(&word, r, sizeof word);
+    if (f->sort == NONE)
         return 3;
-    if (!fields_hold(r, f, target))
+    if ((word & f->zeros) != 0 || r->mark > 63 || !(f->marks >> r->mark & 1))
+        return 4;
+    if ((uint64_t)r->literal - f->lowest > f->literals || (f->most != 0 && r->child[2] - 1u >= f->most))
         return 4;
     for (int i = 0; i < 3; i++)
-        if (f->children[i] != NONE && (r->child[i] >= n || forms[table[r->child[i]].kind].sort != f->children[i]))
-            return 5;
+        if (f->children[i] != NONE &&
+            (r->child[i] - 1u >= n - 1 || forms[table[r->child[i]].kind].sort != f->children[i]))
+            return child_fault(r, f);
     return 0;
 }
 
-/* The lowest record at fault of 6, or 0. */
-static unsigned shape_fault(const record *table, unsigned count)
+/* The scope of the children; a variable out of scope, or let while in scope, is a fault. */
+INLINED uint64_t scope_below(const record *r, unsigned n, uint64_t scope, faults *found)
 {
-    uint16_t uses[TARGET_RECORDS + 1] = {0};
-    for (unsigned n = 1; n <= count; n++)
-        for (int i = 0; i < 3; i++)
-            if (forms[table[n].kind].children[i] != NONE)
-                uses[table[n].child[i]]++;
-    for (unsigned n = 1; n < count; n++)
-        if (uses[n] != 1)
-            return n;
-    return forms[table[count].kind].sort == STATEMENT ? 0 : count;
+    if (r->kind != 10 && r->kind != 47)
+        return scope;
+    uint64_t variable = UINT64_C(1) << r->mark;
+    if (((scope & variable) != 0) == (r->kind == 47))
+        found->scope = n;
+    return r->kind == 47 ? scope | variable : scope;
 }
 
-/* The lowest record at fault of 7, or 0. Parents have larger numbers, so each is met before its children. */
-static unsigned scope_fault(const record *table, unsigned count)
+/* Every scope has variable 0 in it, so 0 means that no parent was met. */
+INLINED void hand_down(const record *r, const form *f, uint64_t below, uint64_t *scopes, faults *found)
 {
-    uint64_t scope[TARGET_RECORDS + 1];
-    unsigned fault = 0;
-    scope[count] = 1;
-    for (unsigned n = count; n > 0; n--) {
-        const record *r = &table[n];
-        uint64_t variable = (uint64_t)1 << (r->mark & 63), below = scope[n];
-        if (r->kind == 10 && !(scope[n] & variable))
-            fault = n;
-        if (r->kind == 47) {
-            if (scope[n] & variable)
-                fault = n;
-            below |= variable;
+    for (int i = 0; i < 3; i++)
+        if (f->children[i] != NONE) {
+            unsigned child = r->child[i];
+            if (scopes[child] != 0 && child < found->shape)
+                found->shape = child;
+            scopes[child] = below;
         }
-        for (int i = 0; i < 3; i++)
-            if (forms[r->kind].children[i] != NONE)
-                scope[r->child[i]] = below;
-    }
-    return fault;
 }
 
-/* The lowest record at fault of 8, or 0. */
-static unsigned level_fault(const record *table, unsigned count)
+INLINED void check_level(const record *r, const form *f, unsigned n, uint16_t *levels, faults *found)
 {
-    uint16_t level[SOURCE_RECORDS + 1] = {0};
-    unsigned fault = 0;
-    for (unsigned n = count; n > 0; n--) {
-        const record *r = &table[n];
-        unsigned up = 0;
-        switch (r->kind) {
-        case 20: case 34: case 35:
-            break;
-        case 21: case 22: case 23: case 30: case 31: case 33:
-            up = 1;
-            break;
-        case 24: case 32:
-            up = 2;
-            break;
-        default:
-            continue;
-        }
-        if (level[n] + up >= TEMPORARIES)
-            fault = n;
-        level[r->child[0]] = r->kind == 20 ? 0 : level[n] + (up > 0);
-        level[r->child[1]] = level[n] + up;
-    }
-    return fault;
+    if (f->sort != TERM && f->sort != PREDICATE)
+        return;
+    unsigned level = levels[n];
+    if (level + f->highest >= TEMPORARIES)
+        found->level = n;
+    levels[r->child[0]] = level + (f->below & 15);
+    levels[r->child[1]] = level + (f->below >> 4);
 }
 
-static recorder_answer refusal(uint32_t number, uint32_t n)
+INLINED recorder_answer refusal(uint32_t number, uint32_t n)
 {
     return (recorder_answer){number, n, 0, 0};
 }
 
-recorder_answer interpreter_check(const uint8_t *bytes, size_t length, bool target)
+INLINED recorder_answer verdict(const faults *found)
 {
-    const record *table = (const record *)bytes - 1;
-    unsigned fault;
+    if (found->number != 0)
+        return refusal(found->number, found->record);
+    if (found->shape != NO_RECORD)
+        return refusal(6, found->shape);
+    if (found->scope != 0)
+        return refusal(7, found->scope);
+    return found->level != 0 ? refusal(8, found->level) : refusal(0, 0);
+}
+
+INLINED recorder_answer check_records(const record *table, unsigned count, const form *forms, uint64_t *scopes,
+                                      uint16_t *levels)
+{
+    faults found = {.shape = forms[table[count].kind].sort == STATEMENT ? NO_RECORD : count};
+    scopes[count] = 1;
+    for (unsigned n = count; n > 0; n--) {
+        const record *r = &table[n];
+        const form *f = &forms[r->kind];
+        uint32_t number = record_fault(table, forms, n);
+        if (number != 0) {
+            found.number = number;
+            found.record = n;
+            continue;
+        }
+        if (scopes[n] == 0 && n < found.shape)
+            found.shape = n;
+        hand_down(r, f, scope_below(r, n, scopes[n] | 1, &found), scopes, &found);
+        if (levels)
+            check_level(r, f, n, levels, &found);
+    }
+    return verdict(&found);
+}
+
+recorder_answer interpreter_check_source(const uint8_t *bytes, size_t length)
+{
+    uint64_t scopes[SOURCE_RECORDS + 1];
+    uint16_t levels[SOURCE_RECORDS + 1];
+    size_t count = length / sizeof(record);
     if (length == 0 || length % sizeof(record) != 0)
         return refusal(1, 0);
-    if (length / sizeof(record) > (target ? TARGET_RECORDS : SOURCE_RECORDS))
+    if (count > SOURCE_RECORDS)
         return refusal(2, 0);
-    unsigned count = length / sizeof(record);
-    for (unsigned n = 1; n <= count; n++)
-        if ((fault = record_fault(table, n, target)))
-            return refusal(fault, n);
-    if ((fault = shape_fault(table, count)))
-        return refusal(6, fault);
-    if ((fault = scope_fault(table, count)))
-        return refusal(7, fault);
-    if (!target && (fault = level_fault(table, count)))
-        return refusal(8, fault);
-    return refusal(0, 0);
+    memset(scopes, 0, (count + 1) * sizeof *scopes);
+    memset(levels, 0, (count + 1) * sizeof *levels);
+    return check_records((const record *)bytes - 1, count, source_forms, scopes, levels);
+}
+
+recorder_answer interpreter_check_target(const uint8_t *bytes, size_t length)
+{
+    uint64_t scopes[TARGET_RECORDS + 1];
+    size_t count = length / sizeof(record);
+    if (length == 0 || length % sizeof(record) != 0)
+        return refusal(1, 0);
+    if (count > TARGET_RECORDS)
+        return refusal(2, 0);
+    memset(scopes, 0, (count + 1) * sizeof *scopes);
+    return check_records((const record *)bytes - 1, count, target_forms, scopes, NULL);
 }

@@ -4,156 +4,198 @@
 
 #include "memory.h"
 
-static inline value divide(int64_t a, int64_t b)
+static inline int64_t divide(machine *m, int64_t a, int64_t b)
 {
     if (b == 0)
-        return stopped(44);
+        stop(m, 44);
     if (a == INT64_MIN && b == -1)
-        return stopped(43);
-    return integer(a / b);
+        stop(m, 43);
+    return a / b;
 }
 
 /* To the nearest, a half to the even neighbour. */
-static inline value divide_nearest(int64_t a, int64_t b)
+static inline int64_t divide_nearest(machine *m, int64_t a, int64_t b)
 {
-    value q = divide(a, b);
-    if (q.kind == STOPPED || b == -1)
-        return q;
-    int64_t r = a % b;
-    uint64_t rest = r < 0 ? -(uint64_t)r : (uint64_t)r, whole = b < 0 ? -(uint64_t)b : (uint64_t)b;
-    if (rest > whole - rest || (rest == whole - rest && q.number % 2 != 0))
-        q.number += (a < 0) == (b < 0) ? 1 : -1;
-    return q;
+    int64_t quotient = divide(m, a, b), left = a - quotient * b;
+    uint64_t rest = left < 0 ? -(uint64_t)left : (uint64_t)left, divisor = b < 0 ? -(uint64_t)b : (uint64_t)b;
+    if (rest > divisor - rest || (rest == divisor - rest && quotient % 2 != 0))
+        quotient += (a < 0) == (b < 0) ? 1 : -1;
+    return quotient;
 }
 
-static inline value operate_integers(unsigned operator, int64_t a, int64_t b)
+static inline int64_t operate_integers(machine *m, unsigned operator, int64_t a, int64_t b)
 {
     int64_t z;
     switch (operator) {
-    case 1: return __builtin_add_overflow(a, b, &z) ? stopped(43) : integer(z);
-    case 2: return __builtin_sub_overflow(a, b, &z) ? stopped(43) : integer(z);
-    case 3: return __builtin_mul_overflow(a, b, &z) ? stopped(43) : integer(z);
-    case 4: return divide(a, b);
-    case 5: return divide_nearest(a, b);
-    case 6: return integer(a <= b);
-    case 7: return integer(a == b);
-    default: return stopped(40);
+    case 1:
+        if (__builtin_add_overflow(a, b, &z))
+            stop(m, 43);
+        return z;
+    case 2:
+        if (__builtin_sub_overflow(a, b, &z))
+            stop(m, 43);
+        return z;
+    case 3:
+        if (__builtin_mul_overflow(a, b, &z))
+            stop(m, 43);
+        return z;
+    case 4: return divide(m, a, b);
+    case 5: return divide_nearest(m, a, b);
+    case 6: return a <= b;
+    case 7: return a == b;
+    default: stop(m, 40);
     }
 }
 
-/* Operator 7 on two pointers asks one of the two memories whether their blocks are live. */
-static inline value operate(unsigned operator, value a, value b, const block *blocks, liveness *is_live)
+static inline value shift(machine *m, value p, value by)
 {
-    int64_t z;
-    if (a.kind == INTEGER && b.kind == INTEGER)
-        return operate_integers(operator, a.number, b.number);
-    if (a.kind != POINTER)
-        return stopped(40);
-    if (operator == 8 && b.kind == INTEGER)
-        return __builtin_add_overflow(a.number, b.number, &z) ? stopped(43) : pointer(a.name, z);
-    if (operator != 7 || b.kind != POINTER)
-        return stopped(40);
-    if (!is_live(&blocks[a.name - 1]) || !is_live(&blocks[b.name - 1]))
-        return stopped(47);
-    return integer(a.name == b.name && a.number == b.number);
+    if (!is_pointer(p) || is_pointer(by))
+        stop(m, 40);
+    if (__builtin_add_overflow(p.number, by.number, &p.number))
+        stop(m, 43);
+    return p;
 }
 
-/* Expressions, terms and predicates ask the execution memory. */
-static inline value operate_on_memory(const machine *m, unsigned operator, value a, value b)
+/* Operators 7 and 8 where one operand at least is a pointer. The memory whose blocks these are knows the live ones. */
+static inline value operate_pointers(machine *m, unsigned operator, value a, value b, const block *blocks)
 {
-    return operate(operator, a, b, m->memory->blocks, live);
+    if (operator == 8)
+        return shift(m, a, b);
+    if (operator != 7 || !is_pointer(a) || !is_pointer(b))
+        stop(m, 40);
+    if (blocks[name_of(a) - 1].length == 0 || blocks[name_of(b) - 1].length == 0)
+        stop(m, 47);
+    return integer(a.word == b.word && a.number == b.number);
 }
 
-static inline value held(const machine *m, unsigned temporary)
+static inline value operate(machine *m, unsigned operator, value a, value b, const block *blocks)
+{
+    if (a.word == INTEGER && b.word == INTEGER)
+        return integer(operate_integers(m, operator, a.number, b.number));
+    return operate_pointers(m, operator, a, b, blocks);
+}
+
+static inline value held(machine *m, unsigned temporary)
 {
     value v = m->temporaries[temporary];
-    return v.kind == FREE ? stopped(49) : v;
+    if (v.word == FREE)
+        stop(m, 49);
+    return v;
 }
 
-/* A value that has to be a pointer, or 40. */
-static inline value pointing(value v)
+static value evaluate(machine *m, const record *r);
+
+static inline const record *child(const machine *m, const record *r, unsigned i)
 {
-    return v.kind == POINTER || v.kind == STOPPED ? v : stopped(40);
+    return &m->table[r->child[i]];
 }
 
-static value evaluate(const machine *m, unsigned n);
-
-/* The pointer to a place. */
-static value find(const machine *m, unsigned n)
+/* An expression: literals and variables, which are most of them, are read without a call. */
+static inline value operand(machine *m, const record *r)
 {
-    const record *r = &m->table[n];
-    switch (r->kind) {
-    case 10: return pointer(m->variables[r->mark], 0);
-    case 11: return pointing(evaluate(m, r->child[0]));
-    default: return pointing(held(m, r->mark));
+    if (r->kind == 1)
+        return integer(r->literal);
+    if (r->kind == 2) {
+        const record *place = child(m, r, 0);
+        if (place->kind == 10)
+            return contents(m, m->homes[place->mark]);
     }
+    return evaluate(m, r);
 }
 
-static value evaluate(const machine *m, unsigned n)
+/* Kind 5. */
+static inline value shifted(machine *m, const record *r)
 {
-    const record *r = &m->table[n];
+    value a = operand(m, child(m, r, 0)), b = operand(m, child(m, r, 1));
+    return shift(m, a, b);
+}
+
+/* The pointer to a place of kind 11 or 12. */
+static inline value pointed(machine *m, const record *place)
+{
+    if (place->kind == 12)
+        return pointing(m, held(m, place->mark));
+    const record *r = child(m, place, 0);
+    return r->kind == 5 ? shifted(m, r) : pointing(m, operand(m, r));
+}
+
+/* The pointer to any place. */
+static inline value address(machine *m, const record *place)
+{
+    return place->kind == 10 ? pointer(owner_of(m->homes[place->mark]), 0) : pointed(m, place);
+}
+
+static value evaluate(machine *m, const record *r)
+{
+    const record *place;
     value a, b;
     switch (r->kind) {
     case 1:
         return integer(r->literal);
     case 2:
-        a = find(m, r->child[0]);
-        return a.kind == STOPPED ? a : load(m, a);
+        place = child(m, r, 0);
+        return contents(m, place->kind == 10 ? m->homes[place->mark] : cell_at(m, pointed(m, place)));
     case 3:
-        return find(m, r->child[0]);
+        return address(m, child(m, r, 0));
+    case 4:
+        a = operand(m, child(m, r, 0));
+        b = operand(m, child(m, r, 1));
+        return operate(m, r->mark, a, b, m->memory->blocks);
     default:
-        a = evaluate(m, r->child[0]);
-        if (a.kind == STOPPED)
-            return a;
-        b = evaluate(m, r->child[1]);
-        if (b.kind == STOPPED)
-            return b;
-        return operate_on_memory(m, r->kind == 5 ? 8 : r->mark, a, b);
+        return shifted(m, r);
     }
 }
 
-static value evaluate_term(const machine *m, unsigned n)
+static value query_memory(machine *m, unsigned kind, value p)
 {
-    const record *r = &m->table[n];
+    const block *b = block_of(m, p);
+    if (b->length == 0)
+        stop(m, 47);
+    return kind == 21 ? pointer(name_of(p), 0) : integer(kind == 22 ? p.number : b->length);
+}
+
+static value term(machine *m, const record *r)
+{
     value a, b;
     switch (r->kind) {
     case 20:
-        return evaluate(m, r->child[0]);
+        return operand(m, child(m, r, 0));
     case 24:
-        a = evaluate_term(m, r->child[0]);
-        if (a.kind == STOPPED)
-            return a;
-        b = evaluate_term(m, r->child[1]);
-        return b.kind == STOPPED ? b : operate_on_memory(m, r->mark, a, b);
+        a = term(m, child(m, r, 0));
+        b = term(m, child(m, r, 1));
+        return operate(m, r->mark, a, b, m->memory->blocks);
     default:
-        a = pointing(evaluate_term(m, r->child[0]));
-        return a.kind == STOPPED ? a : query_memory(m, r->kind - 18, a);
+        return query_memory(m, r->kind, pointing(m, term(m, child(m, r, 0))));
     }
 }
 
-static value evaluate_predicate(const machine *m, unsigned n)
+/* Kinds 30 and 31. */
+static inline bool sound(machine *m, const record *r)
 {
-    const record *r = &m->table[n];
+    value p = pointing(m, term(m, child(m, r, 0)));
+    const block *b = block_of(m, p);
+    if (r->kind == 30 || !inside(b, p))
+        return inside(b, p);
+    return (m->memory->cells[b->first + p.number].word & KIND_BITS) != UNDEFINED;
+}
+
+static bool holds(machine *m, const record *r)
+{
     value a, b;
-    switch (r->kind) {
-    case 30: case 31:
-        a = pointing(evaluate_term(m, r->child[0]));
-        return a.kind == STOPPED ? a : query_memory(m, r->kind - 29, a);
-    case 32:
-        a = evaluate_term(m, r->child[0]);
-        if (a.kind == STOPPED)
-            return a;
-        b = evaluate_term(m, r->child[1]);
-        return b.kind == STOPPED ? b : operate_on_memory(m, r->mark, a, b);
-    case 33:
-        a = evaluate_predicate(m, r->child[0]);
-        return a.kind == STOPPED ? a : integer(a.number == 0);
-    default:
-        a = evaluate_predicate(m, r->child[0]);
-        if (a.kind == STOPPED || (a.number != 0) == (r->kind == 35))
-            return a;
-        return evaluate_predicate(m, r->child[1]);
-    }
+    for (;; r = child(m, r, 1))
+        switch (r->kind) {
+        case 30: case 31:
+            return sound(m, r);
+        case 32:
+            a = term(m, child(m, r, 0));
+            b = term(m, child(m, r, 1));
+            return operate(m, r->mark, a, b, m->memory->blocks).number;
+        case 33:
+            return !holds(m, child(m, r, 0));
+        default:
+            if (holds(m, child(m, r, 0)) == (r->kind == 35))
+                return r->kind == 35;
+        }
 }
 
 #endif

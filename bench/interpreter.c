@@ -1,194 +1,169 @@
 /* The plain and the watched run, on the host's bytes. */
 #include "interpreter.h"
 #include "evaluation.h"
+#include "observation.h"
 
-/* The ending at record n: a source statement, or a target record's literal. */
-static uint32_t stop(machine *m, unsigned n, uint32_t number)
+static inline bool truth(machine *m, value v)
 {
-    if (number != 0)
-        m->statement = m->observation ? m->table[n].literal : n;
-    return number;
+    return whole(m, v) != 0;
 }
 
-/* A condition: 1, 0, or an ending's number. */
-enum { NO, YES };
-
-static inline uint32_t test(value v)
+/* The cell of a place whose pointer was worked out before, if it is no variable. */
+static inline cell *found(machine *m, const record *place, value p)
 {
-    if (v.kind == INTEGER)
-        return v.number != 0 ? YES : NO;
-    return v.kind == STOPPED ? v.number : 40;
+    return place->kind == 10 ? m->homes[place->mark] : cell_at(m, p);
 }
 
-static uint32_t assign(machine *m, const record *r)
+static inline void assign(machine *m, const record *r)
 {
-    value p = find(m, r->child[0]);
-    if (p.kind == STOPPED)
-        return p.number;
-    value v = evaluate(m, r->child[1]);
-    return v.kind == STOPPED ? v.number : store(m, p, v);
+    const record *place = child(m, r, 0);
+    value p = {0, 0};
+    if (place->kind != 10)
+        p = pointed(m, place);
+    value v = operand(m, child(m, r, 1));
+    put(found(m, place, p), v);
 }
 
-static uint32_t allocate(machine *m, const record *r)
+static inline void allocate(machine *m, const record *r)
 {
-    value p = find(m, r->child[0]);
-    if (p.kind == STOPPED)
-        return p.number;
-    value size = evaluate(m, r->child[1]);
-    if (size.kind == STOPPED)
-        return size.number;
-    if (size.kind != INTEGER)
-        return 40;
-    if (size.number < 1)
-        return 45;
-    value made = make_block(m, FREEABLE, size.number);
-    return made.kind == STOPPED ? made.number : store(m, p, made);
+    const record *place = child(m, r, 0);
+    value p = {0, 0};
+    if (place->kind != 10)
+        p = pointed(m, place);
+    int64_t size = whole(m, operand(m, child(m, r, 1)));
+    if (size < 1)
+        stop(m, 45);
+    unsigned name = make_block(m, FREEABLE, size);
+    put(found(m, place, p), pointer(name, 0));
 }
 
-static uint32_t release(machine *m, const record *r)
+static inline value operate_held(machine *m, const record *r)
 {
-    value p = pointing(evaluate(m, r->child[0]));
-    return p.kind == STOPPED ? p.number : free_block(m, p);
+    value a = held(m, r->mark + 1), b = held(m, r->mark + 2);
+    return operate(m, r->child[2], a, b, m->observation->blocks);
 }
 
-static uint32_t assert_that(value v)
+static inline void store_held(machine *m, const record *r)
 {
-    uint32_t t = test(v);
-    return t == YES ? 0 : t == NO ? 33 : t;
+    value p = held(m, r->mark), n = held(m, r->mark + 1);
+    store_block(m, pointing(m, p), whole(m, n));
 }
 
-/* What temporary n takes in 60, 61, 63, 64 and 65. */
-static value compute(const machine *m, const record *r)
+/* Statements other than 44 to 47 and 66. */
+static inline void step(machine *m, const record *r)
 {
-    value a, b;
+    value *taken = &m->temporaries[r->mark];
     switch (r->kind) {
-    case 60:
-        return find(m, r->child[0]);
-    case 61:
-        return evaluate(m, r->child[0]);
-    case 63:
-        a = held(m, r->mark + 1);
-        b = held(m, r->mark + 2);
-        if (a.kind == STOPPED || b.kind == STOPPED)
-            return a.kind == STOPPED ? a : b;
-        return operate(r->child[2], a, b, m->observation->blocks, recorded_live);
-    case 64:
-        a = pointing(held(m, r->mark + 1));
-        return a.kind == STOPPED ? a : query_observation(m, r->child[2], a);
-    default:
-        a = held(m, r->mark + 1);
-        return a.kind == STOPPED ? a : a.kind == INTEGER ? integer(a.number == 0) : stopped(40);
+    case 40: break;
+    case 41: assign(m, r); break;
+    case 42: allocate(m, r); break;
+    case 43: free_block(m, pointing(m, operand(m, child(m, r, 0)))); break;
+    case 48:
+        if (!holds(m, child(m, r, 0)))
+            stop(m, 33);
+        break;
+    case 60: *taken = address(m, child(m, r, 0)); break;
+    case 61: *taken = operand(m, child(m, r, 0)); break;
+    case 63: *taken = operate_held(m, r); break;
+    case 64: *taken = query_observation(m, r->child[2], pointing(m, held(m, r->mark + 1))); break;
+    case 65: *taken = integer(whole(m, held(m, r->mark + 1)) == 0); break;
+    case 67:
+        if (!truth(m, held(m, r->mark)))
+            stop(m, 33);
+        break;
+    case 68: store_held(m, r); break;
+    case 69: delete_block(m, pointing(m, held(m, r->mark))); break;
+    case 70: initialise(m, pointing(m, held(m, r->mark))); break;
+    default: __builtin_unreachable();
     }
 }
 
-static uint32_t take(machine *m, const record *r)
+static inline bool turns(machine *m, const record *r)
 {
-    value v = compute(m, r);
-    if (v.kind == STOPPED)
-        return v.number;
-    m->temporaries[r->mark] = v;
-    return 0;
+    if (m->fuel == 0)
+        stop(m, 32);
+    m->fuel--;
+    return truth(m, operand(m, child(m, r, 0)));
 }
 
-/* 68, 69 and 70. */
-static uint32_t observe(machine *m, const record *r)
-{
-    value p = held(m, r->mark), n = {INTEGER, 0, 0};
-    if (r->kind == 68 && p.kind != STOPPED)
-        n = held(m, r->mark + 1);
-    if (p.kind == STOPPED || n.kind == STOPPED)
-        return p.kind == STOPPED ? p.number : n.number;
-    if (p.kind != POINTER || n.kind != INTEGER)
-        return 40;
-    switch (r->kind) {
-    case 68: return record_block(m, p, n.number);
-    case 69: return delete_block(m, p);
-    default: return initialise(m, p);
-    }
-}
+/* What comes after a statement is kept on a stack: record numbers, a let's end as LEAVE and its variable, and END. */
+enum { LEAVE = 0x4000, END = 0x8000 };
 
-/* Runs statement n: 0, or the number of the ending, whose statement is left in the machine. */
-static uint32_t run(machine *m, unsigned n)
+static void run(machine *m, unsigned n)
 {
+    uint16_t after[TARGET_RECORDS + 1], *top = after;
+    *top = END;
     for (;;) {
         const record *r = &m->table[n];
-        uint32_t t;
-        value made;
-        switch (r->kind) {
-        case 40:
-            return 0;
-        case 41:
-            return stop(m, n, assign(m, r));
-        case 42:
-            return stop(m, n, allocate(m, r));
-        case 43:
-            return stop(m, n, release(m, r));
-        case 44:
-            if ((t = run(m, r->child[0])))
-                return t;
-            n = r->child[1];
+        for (; r->kind == 44; r = child(m, r, 0))
+            *++top = r->child[1];
+        m->at = r;
+        if (r->kind == 45 || r->kind == 66) {
+            bool yes = truth(m, r->kind == 45 ? operand(m, child(m, r, 0)) : held(m, r->mark));
+            n = r->child[yes ? 1 : 2];
             continue;
-        case 45:
-            t = test(evaluate(m, r->child[0]));
-            if (t > YES)
-                return stop(m, n, t);
-            n = r->child[t == YES ? 1 : 2];
+        }
+        if (r->kind == 46) {
+            if (turns(m, r)) {
+                *++top = r - m->table;
+                n = r->child[1];
+                continue;
+            }
+        } else if (r->kind == 47) {
+            enter_let(m, r->mark);
+            *++top = LEAVE + r->mark;
+            n = r->child[0];
             continue;
-        case 46:
-            if (m->fuel == 0)
-                return stop(m, n, 32);
-            m->fuel--;
-            t = test(evaluate(m, r->child[0]));
-            if (t != YES)
-                return stop(m, n, t);
-            if ((t = run(m, r->child[1])))
-                return t;
-            continue;
-        case 47:
-            made = make_block(m, FIXED, 1);
-            if (made.kind == STOPPED)
-                return stop(m, n, made.number);
-            m->variables[r->mark] = made.name; /* a let in scope is refused, so none is hidden */
-            if ((t = run(m, r->child[0])))
-                return t;
-            end_block(m, made.name);
-            return 0;
-        case 48:
-            return stop(m, n, assert_that(evaluate_predicate(m, r->child[0])));
-        case 60: case 61: case 63: case 64: case 65:
-            return stop(m, n, take(m, r));
-        case 66:
-            t = test(held(m, r->mark));
-            if (t > YES)
-                return stop(m, n, t);
-            n = r->child[t == YES ? 1 : 2];
-            continue;
-        case 67:
-            return stop(m, n, assert_that(held(m, r->mark)));
-        default:
-            return stop(m, n, observe(m, r));
+        } else {
+            step(m, r);
+        }
+        while ((n = *top--) >= LEAVE) {
+            if (n == END)
+                return;
+            leave_let(m, n - LEAVE);
         }
     }
 }
 
-/* Blocks 1 and 2: variable 0's cell, and the inputs. */
-static void start(machine *m, const uint8_t *inputs, size_t count)
+/* Block 1 is variable 0's cell, block 2 the inputs. */
+static void start(machine *m, const uint8_t *inputs, unsigned count)
 {
-    memset(m->memory, 0, sizeof *m->memory);
-    m->variables[0] = make_block(m, FIXED, 1).name;
-    value block_of_inputs = make_block(m, FIXED, count);
-    store(m, pointer(1, 0), block_of_inputs);
-    for (size_t i = 0; i < count; i++) {
-        value v = integer(0);
-        memcpy(&v.number, inputs + i * 8, 8);
-        store(m, pointer(2, i), v);
+    execution_memory *memory = m->memory;
+    memset(memory, 0, sizeof *memory);
+    memory->blocks[0] = (block){.state = FIXED, .length = 1};
+    memory->blocks[1] = (block){.state = FIXED, .first = 1, .length = count};
+    memory->cells[0] = (cell){POINTER | 1 << OWNER_AT | 2 << NAME_AT, 0};
+    for (unsigned i = 0; i < count; i++) {
+        memory->cells[i + 1].word = INTEGER | 2 << OWNER_AT;
+        memcpy(&memory->cells[i + 1].number, inputs + i * 8, 8);
     }
-    if (!m->observation)
-        return;
-    memset(m->observation, 0, sizeof *m->observation);
-    record_block(m, pointer(1, 0), 1);
-    record_block(m, pointer(2, 0), count);
-    memset(m->observation->marks, 1, count + 1);
+    m->homes[0] = &memory->cells[0];
+    m->names_given = 2;
+    m->free_cells = CELLS - 1 - count;
+    start_places(&m->cells, count + 1);
+}
+
+static void start_observation(machine *m, unsigned count)
+{
+    observation_memory *observation = m->observation;
+    memset(observation, 0, sizeof *observation);
+    observation->blocks[0] = (block){.state = RECORDED, .length = 1};
+    observation->blocks[1] = (block){.state = RECORDED, .first = 1, .length = count};
+    memset(observation->marks, 1, count + 1);
+    start_places(&m->marks, count + 1);
+    memset(m->temporaries, 0, sizeof m->temporaries);
+}
+
+/* A run from its started memories to its ending. */
+static recorder_answer run_to_ending(machine *m, unsigned count)
+{
+    int number = setjmp(m->ending);
+    if (number == 0) {
+        run(m, count);
+        return (recorder_answer){0, 0, m->fuel, m->free_cells};
+    }
+    uint32_t statement = m->observation ? m->at->literal : m->at - m->table;
+    return (recorder_answer){number, statement, m->fuel, m->free_cells};
 }
 
 static recorder_answer refusal(uint32_t number)
@@ -196,39 +171,35 @@ static recorder_answer refusal(uint32_t number)
     return (recorder_answer){number, 0, 0, 0};
 }
 
-static recorder_answer run_accepted(machine *m, size_t records, const uint8_t *inputs, size_t inputs_len)
-{
-    start(m, inputs, inputs_len / 8);
-    uint32_t number = run(m, records), free_cells = 0;
-    for (int i = 0; i < CELLS; i++)
-        free_cells += m->memory->cells[i].kind == FREE;
-    return (recorder_answer){number, m->statement, m->fuel, free_cells};
-}
-
 static bool inputs_fault(size_t inputs_len)
 {
-    return inputs_len == 0 || inputs_len % 8 != 0 || inputs_len > 256 * 8;
+    return inputs_len == 0 || inputs_len % 8 != 0 || inputs_len > INPUTS * 8;
 }
 
 recorder_answer interpreter_run_plain(const uint8_t *table, size_t table_len, const uint8_t *inputs, size_t inputs_len,
                                       uint32_t fuel, uint8_t *memory, size_t memory_len)
 {
-    recorder_answer checked = interpreter_check(table, table_len, false);
+    recorder_answer checked = interpreter_check_source(table, table_len);
     if (checked.number != 0)
         return checked;
     if (inputs_fault(inputs_len))
         return refusal(9);
     if (memory_len != sizeof(execution_memory))
         return refusal(21);
-    machine m = {.table = (const record *)table - 1, .memory = (execution_memory *)memory, .fuel = fuel};
-    return run_accepted(&m, table_len / sizeof(record), inputs, inputs_len);
+    machine m;
+    m.table = (const record *)table - 1;
+    m.memory = (execution_memory *)memory;
+    m.observation = NULL;
+    m.fuel = fuel;
+    start(&m, inputs, inputs_len / 8);
+    return run_to_ending(&m, table_len / sizeof(record));
 }
 
 recorder_answer interpreter_run_watched(const uint8_t *table, size_t table_len, const uint8_t *inputs,
                                         size_t inputs_len, uint32_t fuel, uint8_t *memory, size_t memory_len,
                                         uint8_t *observation, size_t observation_len)
 {
-    recorder_answer checked = interpreter_check(table, table_len, true);
+    recorder_answer checked = interpreter_check_target(table, table_len);
     if (checked.number != 0)
         return checked;
     if (inputs_fault(inputs_len))
@@ -237,9 +208,12 @@ recorder_answer interpreter_run_watched(const uint8_t *table, size_t table_len, 
         return refusal(21);
     if (observation_len != sizeof(observation_memory))
         return refusal(22);
-    machine m = {.table = (const record *)table - 1,
-                 .memory = (execution_memory *)memory,
-                 .observation = (observation_memory *)observation,
-                 .fuel = fuel};
-    return run_accepted(&m, table_len / sizeof(record), inputs, inputs_len);
+    machine m;
+    m.table = (const record *)table - 1;
+    m.memory = (execution_memory *)memory;
+    m.observation = (observation_memory *)observation;
+    m.fuel = fuel;
+    start(&m, inputs, inputs_len / 8);
+    start_observation(&m, inputs_len / 8);
+    return run_to_ending(&m, table_len / sizeof(record));
 }

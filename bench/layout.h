@@ -5,6 +5,7 @@
 #include <stdint.h>
 
 enum { SOURCE_RECORDS = 256, TARGET_RECORDS = 4096, NAMES = 255, CELLS = 1024, VARIABLES = 64, TEMPORARIES = 64 };
+enum { INPUTS = 256, MOST_RECORDS_EACH = 14 };
 
 #define LAID_OUT __attribute__((packed, may_alias))
 
@@ -16,13 +17,18 @@ typedef struct LAID_OUT record {
 
 typedef struct LAID_OUT block {
     uint8_t state, zero;
-    uint16_t first, length, zeros;
+    uint16_t first, length, zeros; /* the length is 0 unless the block is live */
 } block;
 
+/* The first word of a cell has its kind in the lowest byte, then its owner, then the name that it points to. */
 typedef struct LAID_OUT cell {
-    uint8_t kind, owner, name, zeros[5];
+    uint64_t word;
     int64_t number;
 } cell;
+
+enum { OWNER_AT = 8, NAME_AT = 16 };
+#define OWNER_BITS (UINT64_C(0xff) << OWNER_AT)
+#define KIND_BITS UINT64_C(0xff)
 
 typedef struct LAID_OUT execution_memory {
     block blocks[NAMES];

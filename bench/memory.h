@@ -1,19 +1,21 @@
-/* The two memories in the host's bytes. */
+/* A run's machine, and the execution memory in the host's bytes. */
 #ifndef MEMORY_H
 #define MEMORY_H
 
-#include "layout.h"
+#include "places.h"
 
+#include <setjmp.h>
 #include <stdbool.h>
 #include <string.h>
 
-enum { FREE, UNDEFINED, INTEGER, POINTER, STOPPED };         /* kinds of cells and of values */
+enum { FREE, UNDEFINED, INTEGER, POINTER };                  /* kinds of cells */
 enum { UNUSED, FIXED, FREEABLE, DEAD };                      /* states of blocks */
 enum { NOT_RECORDED, RECORDED, DELETED };                    /* states of blocks in the observation memory */
 
-/* A value: the number is an integer, an offset, or the number of the ending where the kind is STOPPED. */
+/* An integer or a pointer, in two registers. The word is a cell's without the owner, so an integer's is INTEGER, and a
+ * temporary's is FREE while it is empty. */
 typedef struct value {
-    uint8_t kind, name;
+    uint64_t word;
     int64_t number;
 } value;
 
@@ -21,192 +23,141 @@ typedef struct machine {
     const record *table; /* record n is table[n] */
     execution_memory *memory;
     observation_memory *observation; /* none in a plain run */
-    uint32_t fuel, statement, names_given;
-    uint8_t variables[VARIABLES]; /* their blocks */
+    const record *at;                /* the innermost statement being run */
+    uint32_t fuel, free_cells, names_given;
+    places cells, marks;
+    cell *homes[VARIABLES]; /* the cells of the variables in scope: a let's block cannot be freed */
+    jmp_buf ending;
     value temporaries[TEMPORARIES];
-    bool taken[CELLS]; /* marks in live blocks */
 } machine;
+
+/* Ends the run. */
+static __attribute__((cold, noinline, noreturn)) void stop(machine *m, int number)
+{
+    longjmp(m->ending, number);
+}
 
 static inline value integer(int64_t z)
 {
-    return (value){INTEGER, 0, z};
+    return (value){INTEGER, z};
 }
 
-static inline value pointer(uint8_t name, int64_t offset)
+static inline value pointer(uint64_t name, int64_t offset)
 {
-    return (value){POINTER, name, offset};
+    return (value){POINTER | name << NAME_AT, offset};
 }
 
-static inline value stopped(uint32_t number)
+static inline unsigned name_of(value p)
 {
-    return (value){STOPPED, 0, number};
+    return p.word >> NAME_AT;
 }
 
-/* Whether a block is live, in one of the two memories. */
-typedef bool liveness(const block *b);
-
-static inline bool live(const block *b)
+static inline unsigned owner_of(const cell *c)
 {
-    return b->state == FIXED || b->state == FREEABLE;
+    return (c->word & OWNER_BITS) >> OWNER_AT;
 }
 
-static inline bool recorded_live(const block *b)
+static inline bool is_pointer(value v)
 {
-    return b->state == RECORDED;
+    return v.word != INTEGER;
 }
 
-/* The cell that a pointer leads to, or none. */
-static inline cell *cell_at(const machine *m, value p)
+static inline int64_t whole(machine *m, value v)
 {
-    const block *b = &m->memory->blocks[p.name - 1];
-    return live(b) && (uint64_t)p.number < b->length ? &m->memory->cells[b->first + p.number] : NULL;
+    if (v.word != INTEGER)
+        stop(m, 40);
+    return v.number;
 }
 
-/* The ending where a pointer leads to no cell. Asked only then, so that cell_at stays one test. */
-static inline uint32_t no_cell(const machine *m, value p)
+static inline value pointing(machine *m, value v)
 {
-    return live(&m->memory->blocks[p.name - 1]) ? 50 : 42;
+    if (!is_pointer(v))
+        stop(m, 40);
+    return v;
 }
 
-static inline value load(const machine *m, value p)
+/* Whether a pointer is inside its block. One that is not live has length 0. */
+static inline bool inside(const block *b, value p)
 {
-    const cell *c = cell_at(m, p);
-    if (!c)
-        return stopped(no_cell(m, p));
-    if (c->kind == UNDEFINED)
-        return stopped(41);
-    return (value){c->kind, c->name, c->number};
+    return (uint64_t)p.number < b->length;
 }
 
-static inline uint32_t store(machine *m, value p, value v)
+static inline const block *block_of(const machine *m, value p)
 {
-    cell *c = cell_at(m, p);
-    if (!c)
-        return no_cell(m, p);
-    *c = (cell){.kind = v.kind, .owner = p.name, .name = v.name, .number = v.number};
-    return 0;
+    return &m->memory->blocks[name_of(p) - 1];
 }
 
-/* The lowest run of n free cells, or -1. */
-static inline int lowest_run(const machine *m, int64_t n)
+/* The cell of a read or a store. */
+static inline cell *cell_at(machine *m, value p)
 {
-    int64_t run = 0;
-    for (int i = 0; i < CELLS; i++) {
-        run = m->memory->cells[i].kind == FREE ? run + 1 : 0;
-        if (run == n)
-            return i + 1 - n;
-    }
-    return -1;
+    const block *b = block_of(m, p);
+    if (!inside(b, p))
+        stop(m, b->length == 0 ? 42 : 50);
+    return &m->memory->cells[b->first + p.number];
 }
 
-/* A new block of n undefined cells, or 31, or 30. */
-static inline value make_block(machine *m, uint8_t state, int64_t n)
+static inline value contents(machine *m, const cell *c)
+{
+    if ((c->word & KIND_BITS) == UNDEFINED)
+        stop(m, 41);
+    return (value){c->word & ~OWNER_BITS, c->number};
+}
+
+static inline void put(cell *c, value v)
+{
+    c->word = (c->word & OWNER_BITS) | v.word;
+    c->number = v.number;
+}
+
+/* A new block of n undefined cells, n being at least 1: its name. Free cells are zero already. */
+static inline unsigned make_block(machine *m, uint8_t state, uint64_t n)
 {
     if (m->names_given == NAMES)
-        return stopped(31);
-    int first = lowest_run(m, n);
-    if (first < 0)
-        return stopped(30);
-    uint8_t name = ++m->names_given;
+        stop(m, 31);
+    if (n > m->free_cells)
+        stop(m, 30);
+    unsigned first = n == 1 ? lowest_free(&m->cells) : lowest_run(&m->cells, n), name = ++m->names_given;
+    if (first >= CELLS)
+        stop(m, 30);
+    turn_over(&m->cells, first, n);
+    m->free_cells -= n;
     m->memory->blocks[name - 1] = (block){.state = state, .first = first, .length = n};
-    for (int i = 0; i < n; i++)
-        m->memory->cells[first + i] = (cell){.kind = UNDEFINED, .owner = name};
-    return pointer(name, 0);
+    for (unsigned i = 0; i < n; i++)
+        m->memory->cells[first + i].word = UNDEFINED | (uint64_t)name << OWNER_AT;
+    return name;
 }
 
-static inline void end_block(machine *m, uint8_t name)
+static inline void end_block(machine *m, unsigned name)
 {
     block *b = &m->memory->blocks[name - 1];
-    memset(&m->memory->cells[b->first], 0, b->length * sizeof(cell));
+    unsigned first = b->first, n = b->length;
+    give_back(&m->cells, first, n);
+    m->free_cells += n;
     *b = (block){.state = DEAD};
+    memset(&m->memory->cells[first], 0, n * sizeof(cell));
 }
 
-static inline uint32_t free_block(machine *m, value p)
+static inline void free_block(machine *m, value p)
 {
-    if (p.number != 0 || m->memory->blocks[p.name - 1].state != FREEABLE)
-        return 46;
-    end_block(m, p.name);
-    return 0;
+    if (p.number != 0 || block_of(m, p)->state != FREEABLE)
+        stop(m, 46);
+    end_block(m, name_of(p));
 }
 
-/* The observation memory's calls. */
-
-static inline int lowest_unmarked_run(const machine *m, int64_t n)
+/* Let: a block of one cell, which becomes the variable's. */
+static inline void enter_let(machine *m, unsigned variable)
 {
-    int64_t run = 0;
-    for (int i = 0; i < CELLS; i++) {
-        run = m->taken[i] ? 0 : run + 1;
-        if (run == n)
-            return i + 1 - n;
-    }
-    return -1;
+    unsigned name = make_block(m, FIXED, 1);
+    m->homes[variable] = &m->memory->cells[m->memory->blocks[name - 1].first];
 }
 
-static inline uint32_t record_block(machine *m, value p, int64_t n)
+static inline void leave_let(machine *m, unsigned variable)
 {
-    block *b = &m->observation->blocks[p.name - 1];
-    if (p.number != 0 || b->state != NOT_RECORDED || n < 1)
-        return 48;
-    int first = lowest_unmarked_run(m, n);
-    if (first < 0)
-        return 48;
-    *b = (block){.state = RECORDED, .first = first, .length = n};
-    memset(&m->taken[first], true, n);
-    return 0;
-}
-
-static inline uint32_t delete_block(machine *m, value p)
-{
-    block *b = &m->observation->blocks[p.name - 1];
-    if (p.number != 0 || b->state != RECORDED)
-        return 48;
-    memset(&m->observation->marks[b->first], 0, b->length);
-    memset(&m->taken[b->first], false, b->length);
-    *b = (block){.state = DELETED};
-    return 0;
-}
-
-/* The mark that a pointer leads to, or none. */
-static inline uint8_t *mark_at(const machine *m, value p)
-{
-    const block *b = &m->observation->blocks[p.name - 1];
-    return recorded_live(b) && (uint64_t)p.number < b->length ? &m->observation->marks[b->first + p.number] : NULL;
-}
-
-static inline uint32_t initialise(machine *m, value p)
-{
-    uint8_t *mark = mark_at(m, p);
-    if (!mark)
-        return 48;
-    *mark = 1;
-    return 0;
-}
-
-/* Query 1 valid, 2 initialised, 3 base address, 4 offset, 5 length, of a block that is live or not and a cell that is
- * initialised or not. */
-static inline value describe(unsigned query, value p, bool alive, uint16_t length, bool valid, bool initialised)
-{
-    if (query == 1)
-        return integer(valid);
-    if (query == 2)
-        return integer(initialised);
-    if (!alive)
-        return stopped(47);
-    return query == 3 ? pointer(p.name, 0) : integer(query == 4 ? p.number : length);
-}
-
-static inline value query_memory(const machine *m, unsigned query, value p)
-{
-    const block *b = &m->memory->blocks[p.name - 1];
-    const cell *c = cell_at(m, p);
-    return describe(query, p, live(b), b->length, c, c && c->kind != UNDEFINED);
-}
-
-static inline value query_observation(const machine *m, unsigned query, value p)
-{
-    const block *b = &m->observation->blocks[p.name - 1];
-    const uint8_t *mark = mark_at(m, p);
-    return describe(query, p, recorded_live(b), b->length, mark, mark && *mark);
+    cell *home = m->homes[variable];
+    m->memory->blocks[owner_of(home) - 1] = (block){.state = DEAD};
+    give_back(&m->cells, home - m->memory->cells, 1);
+    m->free_cells++;
+    *home = (cell){0, 0};
 }
 
 #endif

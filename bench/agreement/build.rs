@@ -13,7 +13,7 @@ fn main() {
     let out = PathBuf::from(env::var_os("OUT_DIR").expect("cargo sets OUT_DIR"));
     let mut archive = Command::new("ar");
     archive.arg("rcs").arg(out.join("libinterpreter.a"));
-    for name in ["interpreter", "checker"] {
+    for name in ["interpreter", "checker", "translator"] {
         let object = out.join(name).with_extension("o");
         let source = folder.join(name).with_extension("c");
         run(Command::new("gcc").args(["-O3", "-fPIE", "-c", "-o"]).arg(&object).arg(source));

@@ -1,67 +1,32 @@
-//! The C interpreter gives the answers and leaves the bytes of the second implementation, on seeded cases.
+//! The C interpreter gives the answers and leaves the bytes of the second implementation, on seeded cases and on the
+//! deepest tables.
+
+mod c;
+mod deep;
 
 use reference::generator::{Case, Generator};
 use reference::plain::run_plain;
+use reference::translator::{translate, translation};
 use reference::watched::run_watched;
-use reference::Answer;
+use reference::{checker, Answer};
 use std::collections::BTreeMap;
 
 const CASES: u32 = 20_000;
 
-#[repr(C)]
-struct Returned {
-    number: u32,
-    record: u32,
-    fuel: u32,
-    free_cells: u32,
-}
+/// An answer and the buffers after it.
+type Outcome = (Answer, Vec<u8>, Vec<u8>);
 
-extern "C" {
-    fn interpreter_run_plain(
-        table: *const u8,
-        table_len: usize,
-        inputs: *const u8,
-        inputs_len: usize,
-        fuel: u32,
-        memory: *mut u8,
-        memory_len: usize,
-    ) -> Returned;
-    fn interpreter_run_watched(
-        table: *const u8,
-        table_len: usize,
-        inputs: *const u8,
-        inputs_len: usize,
-        fuel: u32,
-        memory: *mut u8,
-        memory_len: usize,
-        observation: *mut u8,
-        observation_len: usize,
-    ) -> Returned;
-}
-
-fn answer(returned: Returned) -> Answer {
-    Answer::ending(returned.number, returned.record, returned.fuel, returned.free_cells)
-}
-
-/// The C run of a case, on memories of its own.
-fn run_c(case: &Case, watched: bool) -> (Answer, Vec<u8>, Vec<u8>) {
-    let (table, inputs) = (&case.table, &case.inputs);
+fn run_c(case: &Case, watched: bool) -> Outcome {
     let (mut memory, mut observation) = (case.memory.clone(), case.observation.clone());
-    // The functions write only within the lengths that they are given.
-    let returned = unsafe {
-        let (t, i, m) = (table.as_ptr(), inputs.as_ptr(), memory.as_mut_ptr());
-        if watched {
-            let o = observation.as_mut_ptr();
-            let lengths = (memory.len(), observation.len());
-            interpreter_run_watched(t, table.len(), i, inputs.len(), case.fuel, m, lengths.0, o, lengths.1)
-        } else {
-            interpreter_run_plain(t, table.len(), i, inputs.len(), case.fuel, m, memory.len())
-        }
+    let answer = if watched {
+        c::run_watched(&case.table, &case.inputs, case.fuel, &mut memory, &mut observation)
+    } else {
+        c::run_plain(&case.table, &case.inputs, case.fuel, &mut memory)
     };
-    (answer(returned), memory, observation)
+    (answer, memory, observation)
 }
 
-fn run_reference(case: &Case, watched: bool) -> (Answer, Vec<u8>, Vec<u8>) {
+fn run_reference(case: &Case, watched: bool) -> Outcome {
     let (mut memory, mut observation) = (case.memory.clone(), case.observation.clone());
     let answer = if watched {
         run_watched(&case.table, &case.inputs, case.fuel, &mut memory, &mut observation)
@@ -78,30 +43,64 @@ fn unrefused(table: Vec<u8>, generator: &mut Generator) -> Case {
     Case { table, fuel, inputs, memory, observation: generator.observation() }
 }
 
-/// Accepted tables that one of the generators makes.
-fn compare_accepted(what: &str, watched: bool, make: fn(&mut Generator) -> Vec<u8>) {
-    compare(what, watched, |generator| {
-        let table = make(generator);
-        unrefused(table, generator)
-    });
-}
-
-fn compare(what: &str, watched: bool, make: impl Fn(&mut Generator) -> Case) {
+/// Counts the numbers of the answers; each case gives what was expected and what came.
+fn compare_all(what: &str, mut case: impl FnMut(&mut Generator) -> (Outcome, Outcome)) {
     let mut generator = Generator::new(5);
     let mut numbers = BTreeMap::new();
     for number in 0..CASES {
-        let case = make(&mut generator);
-        let expected = run_reference(&case, watched);
-        assert!(run_c(&case, watched) == expected, "{what}, case {number}: {:?}", expected.0);
+        let (expected, found) = case(&mut generator);
+        assert!(found == expected, "{what}, case {number}: {:?} expected, {:?} found", expected.0, found.0);
         *numbers.entry(expected.0.number).or_insert(0) += 1;
     }
     println!("{what}: {CASES} cases agree, by their numbers: {numbers:?}");
 }
 
+fn compare_runs(what: &str, watched: bool, make: impl Fn(&mut Generator) -> Case) {
+    compare_all(what, |generator| {
+        let case = make(generator);
+        (run_reference(&case, watched), run_c(&case, watched))
+    });
+}
+
+/// Accepted tables that one of the generators makes.
+fn compare_accepted(what: &str, watched: bool, make: fn(&mut Generator) -> Vec<u8>) {
+    compare_runs(what, watched, |generator| {
+        let table = make(generator);
+        unrefused(table, generator)
+    });
+}
+
+type Check = fn(&[u8]) -> Answer;
+
+fn compare_checks(what: &str, expected: Check, found: Check, make: fn(&mut Generator) -> Vec<u8>) {
+    compare_all(what, |generator| {
+        let table = make(generator);
+        ((expected(&table), vec![], vec![]), (found(&table), vec![], vec![]))
+    });
+}
+
+/// Source tables, one in four of them damaged, with outputs that are long enough or too short.
+fn compare_translations() {
+    compare_all("source tables, translator", |generator| {
+        let damaged = generator.random.chance(25);
+        let table = if damaged { generator.damaged_source() } else { generator.accepted_source() };
+        let count = translation(&table).map_or(1, |translation| translation.records.len() as u32);
+        let short = generator.random.chance(20);
+        let mut expected = if short { generator.short_output(count) } else { generator.output(count) };
+        let mut found = expected.clone();
+        let answers = (translate(&table, &mut expected), c::translate(&table, &mut found));
+        ((answers.0, expected, vec![]), (answers.1, found, vec![]))
+    });
+}
+
 fn main() {
     compare_accepted("accepted programs, plain run", false, Generator::accepted_source);
-    compare("source tables, plain run", false, |generator| generator.source_case());
-    compare("target tables, watched run", true, |generator| generator.target_case());
+    compare_runs("source tables, plain run", false, |generator| generator.source_case());
+    compare_runs("target tables, watched run", true, |generator| generator.target_case());
     compare_accepted("programs that compare pointers, plain run", false, Generator::comparing_source);
     compare_accepted("targets that compare pointers, watched run", true, Generator::comparing_target);
+    compare_checks("damaged sources, checker", checker::check_source, c::check_source, Generator::damaged_source);
+    compare_checks("damaged targets, checker", checker::check_target, c::check_target, Generator::damaged_target);
+    compare_translations();
+    deep::compare();
 }
