@@ -1,47 +1,68 @@
-/* Times the proved library beside the interpreter written in C, on the same tables in one run.
+/* Times the proved library beside the same written in C, on the same tables in one run.
  * Each pair is run in turns and the best time of each counts, so that a busy machine does not decide.
  *   bench                    times and ratios
- *   bench tables             the tables' names
- *   bench library|c plain|watched TABLE
- *                            one run, the watched one of the translation, for counting instructions */
+ *   bench rows               the rows: call and table, with a tab between them
+ *   bench library|c CALL TABLE
+ *                            one call, for counting instructions */
+#include "building.h"
 #include "interpreter.h"
-#include "layout.h"
 #include "programs.h"
 
 #include <stdio.h>
-#include <stdlib.h>
 #include <string.h>
 #include <time.h>
 
-enum { FUEL = 2000000000, OUTPUT = 14 * 16 * SOURCE_RECORDS, TURNS = 40 };
+enum { FUEL = 2000000000, OUTPUT = MOST_RECORDS_EACH * 16 * SOURCE_RECORDS, TURNS = 40 };
 
-/* A run of either language: the observation is used by watched runs only. */
-typedef recorder_answer run(const uint8_t *table, size_t length, execution_memory *m, observation_memory *o);
+/* Everything that a call may write to. */
+typedef struct lent {
+    uint8_t memory[RECORDER_MEMORY_BYTES], observation[RECORDER_OBSERVATION_BYTES], out[OUTPUT];
+} lent;
+
+typedef recorder_answer call(const uint8_t *table, size_t length, lent *to);
 
 static const int64_t inputs[2] = {7, 9};
-#define INPUTS (const uint8_t *)inputs, sizeof inputs
+#define INPUTS_LENT (const uint8_t *)inputs, sizeof inputs
 
-static recorder_answer library_plain(const uint8_t *t, size_t length, execution_memory *m, observation_memory *o)
-{
-    (void)o;
-    return recorder_run_plain(t, length, INPUTS, FUEL, (uint8_t *)m, sizeof *m);
-}
+/* The five calls of one side, whose names begin alike. */
+#define SIDE(side, named)                                                                                              \
+    static recorder_answer side##_plain(const uint8_t *t, size_t length, lent *to)                                     \
+    {                                                                                                                  \
+        return named##_run_plain(t, length, INPUTS_LENT, FUEL, to->memory, sizeof to->memory);                         \
+    }                                                                                                                  \
+    static recorder_answer side##_watched(const uint8_t *t, size_t length, lent *to)                                   \
+    {                                                                                                                  \
+        return named##_run_watched(t, length, INPUTS_LENT, FUEL, to->memory, sizeof to->memory, to->observation,       \
+                                   sizeof to->observation);                                                            \
+    }                                                                                                                  \
+    static recorder_answer side##_source(const uint8_t *t, size_t length, lent *to)                                    \
+    {                                                                                                                  \
+        (void)to;                                                                                                      \
+        return named##_check_source(t, length);                                                                        \
+    }                                                                                                                  \
+    static recorder_answer side##_target(const uint8_t *t, size_t length, lent *to)                                    \
+    {                                                                                                                  \
+        (void)to;                                                                                                      \
+        return named##_check_target(t, length);                                                                        \
+    }                                                                                                                  \
+    static recorder_answer side##_translate(const uint8_t *t, size_t length, lent *to)                                 \
+    {                                                                                                                  \
+        return named##_translate(t, length, to->out, sizeof to->out);                                                  \
+    }
 
-static recorder_answer c_plain(const uint8_t *t, size_t length, execution_memory *m, observation_memory *o)
-{
-    (void)o;
-    return interpreter_run_plain(t, length, INPUTS, FUEL, (uint8_t *)m, sizeof *m);
-}
+SIDE(library, recorder)
+SIDE(c, interpreter)
 
-static recorder_answer library_watched(const uint8_t *t, size_t length, execution_memory *m, observation_memory *o)
-{
-    return recorder_run_watched(t, length, INPUTS, FUEL, (uint8_t *)m, sizeof *m, (uint8_t *)o, sizeof *o);
-}
-
-static recorder_answer c_watched(const uint8_t *t, size_t length, execution_memory *m, observation_memory *o)
-{
-    return interpreter_run_watched(t, length, INPUTS, FUEL, (uint8_t *)m, sizeof *m, (uint8_t *)o, sizeof *o);
-}
+static const struct {
+    const char *name;
+    call *library, *c;
+} calls[CALLS] = {
+    [PLAIN] = {"plain", library_plain, c_plain},
+    [WATCHED] = {"watched", library_watched, c_watched},
+    [SOURCE] = {"source", library_source, c_source},
+    [TARGET] = {"target", library_target, c_target},
+    [TRANSLATE] = {"translate", library_translate, c_translate},
+};
 
 static double seconds(void)
 {
@@ -50,104 +71,107 @@ static double seconds(void)
     return t.tv_sec + t.tv_nsec * 1e-9;
 }
 
-static double time_of(run *r, unsigned calls, const uint8_t *t, size_t length)
+static double time_of(call *f, unsigned times, const uint8_t *t, size_t length)
 {
-    static execution_memory m;
-    static observation_memory o;
+    static lent to;
     double begin = seconds();
-    for (unsigned i = 0; i < calls; i++)
-        r(t, length, &m, &o);
-    return (seconds() - begin) / calls;
+    for (unsigned i = 0; i < times; i++)
+        f(t, length, &to);
+    return (seconds() - begin) / times;
 }
 
-/* Both runs give one answer and leave the same bytes, from memories that held different ones. */
-static void compare(const char *name, run *library, run *c, const uint8_t *t, size_t length)
+/* Both give one answer, a 0, and write the same bytes. They get different ones where a run clears them. */
+static void compare(const char *name, unsigned which, const uint8_t *t, size_t length)
 {
-    static execution_memory m[2];
-    static observation_memory o[2];
-    memset(&m[0], 0xa5, sizeof m[0]);
-    memset(&m[1], 0x5a, sizeof m[1]);
-    memset(&o[0], 0xa5, sizeof o[0]);
-    memset(&o[1], 0xa5, sizeof o[1]);
-    recorder_answer a = library(t, length, &m[0], &o[0]), b = c(t, length, &m[1], &o[1]);
-    if (a.number != 0 || memcmp(&a, &b, sizeof a) || memcmp(&m[0], &m[1], sizeof m[0]) ||
-        memcmp(&o[0], &o[1], sizeof o[0])) {
-        fprintf(stderr, "%s: the runs differ: library %u %u %u %u, C %u %u %u %u\n", name, a.number, a.record, a.fuel,
-                a.free_cells, b.number, b.record, b.fuel, b.free_cells);
+    static lent to[2];
+    memset(to, 0xa5, sizeof to);
+    if (which == PLAIN || which == WATCHED)
+        memset(to[1].memory, 0x5a, sizeof to[1].memory);
+    if (which == WATCHED)
+        memset(to[1].observation, 0x5a, sizeof to[1].observation);
+    recorder_answer a = calls[which].library(t, length, &to[0]), b = calls[which].c(t, length, &to[1]);
+    if (a.number != 0 || memcmp(&a, &b, sizeof a) || memcmp(&to[0], &to[1], sizeof to[0])) {
+        fprintf(stderr, "%s, %s: they differ: library %u %u %u %u, C %u %u %u %u\n", calls[which].name, name, a.number,
+                a.record, a.fuel, a.free_cells, b.number, b.record, b.fuel, b.free_cells);
         exit(1);
     }
 }
 
 /* The library's best time. */
-static double measure(const char *language, const char *name, run *library, run *c, const uint8_t *t, size_t length)
+static double measure(const char *name, unsigned which, const uint8_t *t, size_t length)
 {
-    compare(name, library, c, t, length);
+    call *library = calls[which].library, *c = calls[which].c;
+    compare(name, which, t, length);
     double best[2] = {1e9, 1e9};
-    unsigned calls = 1 + 0.002 / time_of(c, 10, t, length);
+    unsigned times = 1 + 0.002 / time_of(c, 10, t, length);
     for (int turn = 0; turn < TURNS; turn++) {
-        double x = time_of(library, calls, t, length), y = time_of(c, calls, t, length);
+        double x = time_of(library, times, t, length), y = time_of(c, times, t, length);
         best[0] = x < best[0] ? x : best[0];
         best[1] = y < best[1] ? y : best[1];
     }
-    printf("%-8s %-25s %12.2f %12.2f %8.2f\n", language, name, best[0] * 1e6, best[1] * 1e6, best[0] / best[1]);
+    printf("%-9s %-31s %12.2f %12.2f %8.2f\n", calls[which].name, name, best[0] * 1e6, best[1] * 1e6,
+           best[0] / best[1]);
     fflush(stdout);
     return best[0];
 }
 
-static void build(const program *p)
+/* The table for a call: watched runs and the target checker get the translation. */
+static size_t build(const program *p, unsigned which, const uint8_t **bytes)
 {
+    static uint8_t out[OUTPUT];
     table_records = 0;
     p->build();
+    *bytes = (const uint8_t *)table;
+    size_t length = table_records * sizeof(record);
+    if ((which != WATCHED && which != TARGET) || p->calls == CALL(TARGET))
+        return length;
+    recorder_answer made = recorder_translate(*bytes, length, out, sizeof out);
+    *bytes = out;
+    return made.record * sizeof(record);
 }
 
-/* The plain run of a table, or the watched run of its translation. */
-static int run_once(const char *which, const char *language, const char *name)
+#define EACH_ROW(p, which)                                                                                             \
+    for (const program *p = programs; p < programs + PROGRAM_COUNT; p++)                                               \
+        for (unsigned which = 0; which < CALLS; which++)                                                               \
+            if (p->calls & CALL(which))
+
+static int list_rows(void)
 {
-    static execution_memory m;
-    static observation_memory o;
-    static uint8_t out[OUTPUT];
-    int in_c = strcmp(which, "c") == 0;
-    for (size_t i = 0; i < PROGRAM_COUNT; i++)
-        if (strcmp(programs[i].name, name) == 0) {
-            build(&programs[i]);
-            const uint8_t *source = (const uint8_t *)table;
-            size_t length = table_records * sizeof(record);
-            if (strcmp(language, "plain") == 0)
-                return (in_c ? c_plain : library_plain)(source, length, &m, &o).number;
-            recorder_answer made = recorder_translate(source, length, out, sizeof out);
-            return (in_c ? c_watched : library_watched)(out, made.record * sizeof(record), &m, &o).number;
+    EACH_ROW(p, which)
+        printf("%s\t%s\n", calls[which].name, p->name);
+    return 0;
+}
+
+static int call_once(const char *side, const char *call_name, const char *name)
+{
+    static lent to;
+    const uint8_t *bytes;
+    EACH_ROW(p, which)
+        if (strcmp(call_name, calls[which].name) == 0 && strcmp(name, p->name) == 0) {
+            size_t length = build(p, which, &bytes);
+            call *f = strcmp(side, "c") == 0 ? calls[which].c : calls[which].library;
+            return f(bytes, length, &to).number;
         }
     return 2;
 }
 
-static int list_tables(void)
+static int time_rows(void)
 {
-    for (size_t i = 0; i < PROGRAM_COUNT; i++)
-        puts(programs[i].name);
+    const uint8_t *bytes;
+    double best[PROGRAM_COUNT][CALLS];
+    printf("%-9s %-31s %12s %12s %8s\n", "call", "table", "library µs", "C µs", "ratio");
+    EACH_ROW(p, which) {
+        size_t length = build(p, which, &bytes);
+        best[p - programs][which] = measure(p->name, which, bytes, length);
+    }
+    printf("\n%-41s %8s\n", "the library's watched run / plain run", "ratio");
+    EACH_ROW(p, which)
+        if (which == WATCHED)
+            printf("%-41s %8.2f\n", p->name, best[p - programs][WATCHED] / best[p - programs][PLAIN]);
     return 0;
 }
 
 int main(int argc, char **argv)
 {
-    if (argc == 2)
-        return list_tables();
-    if (argc == 4)
-        return run_once(argv[1], argv[2], argv[3]);
-    static uint8_t out[OUTPUT];
-    const uint8_t *source = (const uint8_t *)table;
-    double watched_by_plain[PROGRAM_COUNT];
-    printf("%-8s %-25s %12s %12s %8s\n", "run", "table", "library µs", "C µs", "ratio");
-    for (size_t i = 0; i < PROGRAM_COUNT; i++) {
-        build(&programs[i]);
-        const char *name = programs[i].name;
-        size_t length = table_records * sizeof(record);
-        recorder_answer made = recorder_translate(source, length, out, sizeof out);
-        double plain = measure("plain", name, library_plain, c_plain, source, length);
-        double watched = measure("watched", name, library_watched, c_watched, out, made.record * sizeof(record));
-        watched_by_plain[i] = watched / plain;
-    }
-    printf("\n%-34s %8s\n", "watched run / plain run", "ratio");
-    for (size_t i = 0; i < PROGRAM_COUNT; i++)
-        printf("%-34s %8.2f\n", programs[i].name, watched_by_plain[i]);
-    return 0;
+    return argc == 2 ? list_rows() : argc == 4 ? call_once(argv[1], argv[2], argv[3]) : time_rows();
 }

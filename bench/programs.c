@@ -1,87 +1,9 @@
-/* Tables by hand: each function adds records, children first, and returns the number of the last one. */
+/* The tables that are run. */
+#include "building.h"
 #include "programs.h"
 
-#include <stdlib.h>
-
-record table[SOURCE_RECORDS];
+record table[TARGET_RECORDS];
 unsigned table_records;
-
-enum { ADD = 1, SUBTRACT, MULTIPLY, DIVIDE, NEAREST, AT_MOST, EQUAL, SHIFT };
-
-static unsigned add(uint8_t kind, uint8_t mark, unsigned a, unsigned b, unsigned c, int64_t literal)
-{
-    if (table_records == SOURCE_RECORDS)
-        abort();
-    table[table_records++] = (record){kind, mark, {a, b, c}, literal};
-    return table_records;
-}
-
-static unsigned literal(int64_t z) { return add(1, 0, 0, 0, 0, z); }
-static unsigned variable(uint8_t v) { return add(10, v, 0, 0, 0, 0); }
-static unsigned read_of(unsigned place) { return add(2, 0, place, 0, 0, 0); }
-static unsigned value_of(uint8_t v) { return read_of(variable(v)); }
-static unsigned pointed(unsigned e) { return add(11, 0, e, 0, 0, 0); }
-
-static unsigned operated(uint8_t operator, unsigned a, unsigned b)
-{
-    return operator == SHIFT ? add(5, 0, a, b, 0, 0) : add(4, operator, a, b, 0, 0);
-}
-
-static unsigned take(unsigned place, unsigned e) { return add(41, 0, place, e, 0, 0); }
-static unsigned take_new(unsigned place, unsigned size) { return add(42, 0, place, size, 0, 0); }
-static unsigned release(unsigned e) { return add(43, 0, e, 0, 0, 0); }
-static unsigned then(unsigned a, unsigned b) { return add(44, 0, a, b, 0, 0); }
-static unsigned repeat(unsigned e, unsigned body) { return add(46, 0, e, body, 0, 0); }
-static unsigned let(uint8_t v, unsigned body) { return add(47, v, body, 0, 0, 0); }
-static unsigned assertion(unsigned predicate) { return add(48, 0, predicate, 0, 0, 0); }
-static unsigned term(unsigned e) { return add(20, 0, e, 0, 0, 0); }
-
-static unsigned set(uint8_t v, int64_t z)
-{
-    unsigned place = variable(v);
-    return take(place, literal(z));
-}
-
-/* v = v + z */
-static unsigned increase(uint8_t v, int64_t z)
-{
-    unsigned place = variable(v), a = value_of(v);
-    return take(place, operated(ADD, a, literal(z)));
-}
-
-/* v at most z */
-static unsigned at_most(uint8_t v, int64_t z)
-{
-    unsigned a = value_of(v);
-    return operated(AT_MOST, a, literal(z));
-}
-
-/* *(v + i) as a place, i being a variable */
-static unsigned element(uint8_t v, uint8_t i)
-{
-    unsigned a = value_of(v);
-    return pointed(operated(SHIFT, a, value_of(i)));
-}
-
-/* The field at a literal offset from variable v. */
-static unsigned field(uint8_t v, int64_t offset)
-{
-    unsigned a = value_of(v);
-    return pointed(operated(SHIFT, a, literal(offset)));
-}
-
-/* v = 0; while v at most last do (body; v = v + 1): the pieces have to be added in this order. */
-static unsigned loop_test(uint8_t v, int64_t last, unsigned *start)
-{
-    *start = set(v, 0);
-    return at_most(v, last);
-}
-
-static unsigned loop_end(uint8_t v, unsigned start, unsigned test, unsigned body)
-{
-    unsigned whole = then(body, increase(v, 1));
-    return then(start, repeat(test, whole));
-}
 
 static void skip(void)
 {
@@ -111,16 +33,22 @@ static void fill_and_sum(void)
     let(1, let(2, let(3, let(4, then(take_new(place, literal(200)), e)))));
 }
 
-static void lets(void)
+/* Two lets one in the other, each of which is given a number, in a loop. */
+static unsigned lets_in_a_loop(unsigned turns)
 {
     unsigned start, test, first, second, place, e;
-    test = loop_test(1, 124, &start);
+    test = loop_test(1, turns - 1, &start);
     place = variable(3);
     first = take(place, value_of(1));
     place = variable(4);
     e = value_of(3);
     second = take(place, operated(MULTIPLY, e, literal(3)));
-    let(1, loop_end(1, start, test, let(3, let(4, then(first, second)))));
+    return loop_end(1, start, test, let(3, let(4, then(first, second))));
+}
+
+static void lets(void)
+{
+    let(1, lets_in_a_loop(125));
 }
 
 /* Each let of 125 has a loop of 50 turns in it. */
@@ -137,15 +65,21 @@ static void lets_around_loops(void)
     let(1, let(2, then(set(2, 0), e)));
 }
 
-static void new_and_free(void)
+/* A block of 8 cells, one of which is given a number, is made and freed in a loop. */
+static unsigned new_and_free_in_a_loop(unsigned turns)
 {
     unsigned start, test, place, made, filled;
-    test = loop_test(1, 250, &start);
+    test = loop_test(1, turns - 1, &start);
     place = variable(2);
     made = take_new(place, literal(8));
     place = pointed(value_of(2));
     filled = take(place, value_of(1));
-    let(1, let(2, loop_end(1, start, test, then(made, then(filled, release(value_of(2)))))));
+    return loop_end(1, start, test, then(made, then(filled, release(value_of(2)))));
+}
+
+static void new_and_free(void)
+{
+    let(1, let(2, new_and_free_in_a_loop(251)));
 }
 
 /* Each of 125 blocks of 8 cells is filled in a loop. */
@@ -209,14 +143,96 @@ static void list(void)
     let(1, let(2, let(3, let(4, let(5, then(zero, then(built, then(sum, walk))))))));
 }
 
+/* v takes a new block of n cells. */
+static unsigned make(uint8_t v, int64_t n)
+{
+    unsigned place = variable(v);
+    return take_new(place, literal(n));
+}
+
+/* Live blocks of 1,000 cells in all, less what the largest is made shorter by. Only the last one's pointer is kept. */
+static unsigned five_blocks(int64_t shorter)
+{
+    unsigned all = make(2, 50);
+    all = then(all, make(2, 250));
+    all = then(all, make(2, 400 - shorter));
+    all = then(all, make(2, 100));
+    return then(all, make(2, 200));
+}
+
+/* The same above a hole: the block that the hole was is freed after the others were made. */
+static unsigned five_blocks_above_a_hole(int64_t shorter, int64_t hole)
+{
+    unsigned low = make(5, hole), others = five_blocks(shorter);
+    return then(low, then(others, release(value_of(5))));
+}
+
+/* 200 live blocks of 4 cells. */
+static unsigned two_hundred_blocks(void)
+{
+    unsigned start, test = loop_test(1, 199, &start);
+    return loop_end(1, start, test, make(2, 4));
+}
+
+static void lets_beside_cells(void)
+{
+    unsigned blocks = five_blocks(0);
+    let(1, let(2, then(blocks, lets_in_a_loop(120))));
+}
+
+/* The hole is one cell, so the outer let takes it and the inner one has to look above all blocks. */
+static void lets_beside_hole(void)
+{
+    unsigned blocks = five_blocks_above_a_hole(0, 1);
+    let(1, let(2, let(5, then(blocks, lets_in_a_loop(120)))));
+}
+
+static void lets_beside_blocks(void)
+{
+    unsigned blocks = two_hundred_blocks();
+    let(1, let(2, then(blocks, lets_in_a_loop(25))));
+}
+
+static void new_beside_cells(void)
+{
+    unsigned blocks = five_blocks(100);
+    let(1, let(2, then(blocks, new_and_free_in_a_loop(240))));
+}
+
+/* The hole is 4 cells, too short for the new block, which is looked for above all blocks. */
+static void new_beside_hole(void)
+{
+    unsigned blocks = five_blocks_above_a_hole(100, 4);
+    let(1, let(2, let(5, then(blocks, new_and_free_in_a_loop(240)))));
+}
+
+static void new_beside_blocks(void)
+{
+    unsigned blocks = two_hundred_blocks();
+    let(1, let(2, then(blocks, new_and_free_in_a_loop(50))));
+}
+
+#define RUNS (CALL(PLAIN) | CALL(WATCHED))
+
 const program programs[PROGRAM_COUNT] = {
-    {"one call (skip)", skip},
-    {"counting loop", count},
-    {"fill and sum, 200 cells", fill_and_sum},
-    {"lets in a loop", lets},
-    {"lets around loops", lets_around_loops},
-    {"new and free", new_and_free},
-    {"new, fill and free", new_fill_and_free},
-    {"assertions on *p", assertions},
-    {"linked list", list},
+    {"one call (skip)", skip, RUNS},
+    {"counting loop", count, RUNS},
+    {"fill and sum, 200 cells", fill_and_sum, RUNS},
+    {"lets in a loop", lets, RUNS},
+    {"lets around loops", lets_around_loops, RUNS},
+    {"new and free", new_and_free, RUNS},
+    {"new, fill and free", new_fill_and_free, RUNS},
+    {"assertions on *p", assertions, RUNS},
+    {"linked list", list, RUNS},
+    {"lets beside 1,000 cells", lets_beside_cells, RUNS},
+    {"lets beside a low hole", lets_beside_hole, RUNS},
+    {"lets beside 200 blocks", lets_beside_blocks, RUNS},
+    {"new and free beside 900 cells", new_beside_cells, RUNS},
+    {"new and free beside a low hole", new_beside_hole, RUNS},
+    {"new and free beside 200 blocks", new_beside_blocks, RUNS},
+    {"check one skip", skip, CALL(SOURCE) | CALL(TARGET)},
+    {"check source, 256 records", build_source, CALL(SOURCE)},
+    {"check target, 4,096 records", build_target, CALL(TARGET)},
+    {"translate, 256 records", build_source, CALL(TRANSLATE)},
+    {"translate, into 3,493 records", build_most_lets, CALL(TRANSLATE)},
 };

@@ -1,22 +1,25 @@
-/* The source tables that are timed. */
+/* The tables that are timed, and the calls that each is for. */
 #ifndef PROGRAMS_H
 #define PROGRAMS_H
 
-#include "layout.h"
+/* The calls of a table: both runs, both checkers, the translator. */
+enum { PLAIN, WATCHED, SOURCE, TARGET, TRANSLATE, CALLS };
+#define CALL(c) (1u << (c))
 
-#include <stddef.h>
-
+/* The build makes a source table, or a target table where the only call is TARGET. */
 typedef struct program {
     const char *name;
     void (*build)(void);
+    unsigned calls;
 } program;
 
-#define PROGRAM_COUNT 9
+#define PROGRAM_COUNT 20
 
 extern const program programs[PROGRAM_COUNT];
 
-/* The table that the last build made. */
-extern record table[SOURCE_RECORDS];
-extern unsigned table_records;
+/* In tables.c. */
+void build_source(void);
+void build_most_lets(void);
+void build_target(void);
 
 #endif
