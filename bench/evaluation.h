@@ -83,30 +83,55 @@ static inline value held(machine *m, unsigned temporary)
     return v;
 }
 
-static value evaluate(machine *m, const record *r);
-
 static inline const record *child(const machine *m, const record *r, unsigned i)
 {
     return &m->table[r->child[i]];
 }
 
-/* An expression: literals and variables, which are most of them, are read without a call. */
-static inline value operand(machine *m, const record *r)
+/* The value of a literal or a variable. Most operands are one of these, and they are read without a call. */
+static inline bool simple(machine *m, const record *r, value *v)
 {
-    if (r->kind == 1)
-        return integer(r->literal);
-    if (r->kind == 2) {
-        const record *place = child(m, r, 0);
-        if (place->kind == 10)
-            return contents(m, m->homes[place->mark]);
+    if (r->kind == 1) {
+        *v = integer(r->literal);
+        return true;
     }
-    return evaluate(m, r);
+    if (r->kind != 2)
+        return false;
+    const record *place = child(m, r, 0);
+    if (place->kind != 10)
+        return false;
+    *v = contents(m, m->homes[place->mark]);
+    return true;
 }
 
-/* Kind 5. */
-static inline value shifted(machine *m, const record *r)
+static value evaluate(machine *m, const record *r);
+
+static inline value operand(machine *m, const record *r)
+{
+    value v;
+    return simple(m, r, &v) ? v : evaluate(m, r);
+}
+
+/* Kinds 4 and 5 where not both operands are simple: apart, so that the others need not save registers. */
+static __attribute__((noinline)) value operation_on_any(machine *m, const record *r)
 {
     value a = operand(m, child(m, r, 0)), b = operand(m, child(m, r, 1));
+    return r->kind == 5 ? shift(m, a, b) : operate(m, r->mark, a, b, m->memory->blocks);
+}
+
+static inline value operation(machine *m, const record *r)
+{
+    value a, b;
+    if (!simple(m, child(m, r, 0), &a) || !simple(m, child(m, r, 1), &b))
+        return operation_on_any(m, r);
+    return operate(m, r->mark, a, b, m->memory->blocks);
+}
+
+static inline value shifted(machine *m, const record *r)
+{
+    value a, b;
+    if (!simple(m, child(m, r, 0), &a) || !simple(m, child(m, r, 1), &b))
+        return operation_on_any(m, r);
     return shift(m, a, b);
 }
 
@@ -125,10 +150,9 @@ static inline value address(machine *m, const record *place)
     return place->kind == 10 ? pointer(owner_of(m->homes[place->mark]), 0) : pointed(m, place);
 }
 
-static value evaluate(machine *m, const record *r)
+static __attribute__((noinline)) value evaluate(machine *m, const record *r)
 {
     const record *place;
-    value a, b;
     switch (r->kind) {
     case 1:
         return integer(r->literal);
@@ -138,9 +162,7 @@ static value evaluate(machine *m, const record *r)
     case 3:
         return address(m, child(m, r, 0));
     case 4:
-        a = operand(m, child(m, r, 0));
-        b = operand(m, child(m, r, 1));
-        return operate(m, r->mark, a, b, m->memory->blocks);
+        return operation(m, r);
     default:
         return shifted(m, r);
     }

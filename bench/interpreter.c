@@ -8,33 +8,33 @@ static inline bool truth(machine *m, value v)
     return whole(m, v) != 0;
 }
 
-/* The cell of a place whose pointer was worked out before, if it is no variable. */
-static inline cell *found(machine *m, const record *place, value p)
-{
-    return place->kind == 10 ? m->homes[place->mark] : cell_at(m, p);
-}
-
+/* The place comes first; whether it leads to a cell is found at the store. */
 static inline void assign(machine *m, const record *r)
 {
-    const record *place = child(m, r, 0);
-    value p = {0, 0};
-    if (place->kind != 10)
-        p = pointed(m, place);
-    value v = operand(m, child(m, r, 1));
-    put(found(m, place, p), v);
+    const record *place = child(m, r, 0), *expression = child(m, r, 1);
+    if (place->kind == 10) {
+        put(m->homes[place->mark], operand(m, expression));
+        return;
+    }
+    value p = pointed(m, place), v = operand(m, expression);
+    put(cell_at(m, p), v);
 }
 
 static inline void allocate(machine *m, const record *r)
 {
     const record *place = child(m, r, 0);
-    value p = {0, 0};
-    if (place->kind != 10)
-        p = pointed(m, place);
+    value p = address(m, place);
     int64_t size = whole(m, operand(m, child(m, r, 1)));
     if (size < 1)
         stop(m, 45);
     unsigned name = make_block(m, FREEABLE, size);
-    put(found(m, place, p), pointer(name, 0));
+    put(cell_at(m, p), pointer(name, 0));
+}
+
+static inline void claim(machine *m, bool holding)
+{
+    if (!holding)
+        stop(m, 33);
 }
 
 static inline value operate_held(machine *m, const record *r)
@@ -47,35 +47,6 @@ static inline void store_held(machine *m, const record *r)
 {
     value p = held(m, r->mark), n = held(m, r->mark + 1);
     store_block(m, pointing(m, p), whole(m, n));
-}
-
-/* Statements other than 44 to 47 and 66. */
-static inline void step(machine *m, const record *r)
-{
-    value *taken = &m->temporaries[r->mark];
-    switch (r->kind) {
-    case 40: break;
-    case 41: assign(m, r); break;
-    case 42: allocate(m, r); break;
-    case 43: free_block(m, pointing(m, operand(m, child(m, r, 0)))); break;
-    case 48:
-        if (!holds(m, child(m, r, 0)))
-            stop(m, 33);
-        break;
-    case 60: *taken = address(m, child(m, r, 0)); break;
-    case 61: *taken = operand(m, child(m, r, 0)); break;
-    case 63: *taken = operate_held(m, r); break;
-    case 64: *taken = query_observation(m, r->child[2], pointing(m, held(m, r->mark + 1))); break;
-    case 65: *taken = integer(whole(m, held(m, r->mark + 1)) == 0); break;
-    case 67:
-        if (!truth(m, held(m, r->mark)))
-            stop(m, 33);
-        break;
-    case 68: store_held(m, r); break;
-    case 69: delete_block(m, pointing(m, held(m, r->mark))); break;
-    case 70: initialise(m, pointing(m, held(m, r->mark))); break;
-    default: __builtin_unreachable();
-    }
 }
 
 static inline bool turns(machine *m, const record *r)
@@ -98,24 +69,35 @@ static void run(machine *m, unsigned n)
         for (; r->kind == 44; r = child(m, r, 0))
             *++top = r->child[1];
         m->at = r;
-        if (r->kind == 45 || r->kind == 66) {
-            bool yes = truth(m, r->kind == 45 ? operand(m, child(m, r, 0)) : held(m, r->mark));
-            n = r->child[yes ? 1 : 2];
+        switch (r->kind) {
+        case 40: break;
+        case 41: assign(m, r); break;
+        case 42: allocate(m, r); break;
+        case 43: free_block(m, pointing(m, operand(m, child(m, r, 0)))); break;
+        case 45: n = r->child[truth(m, operand(m, child(m, r, 0))) ? 1 : 2]; continue;
+        case 46:
+            if (!turns(m, r))
+                break;
+            *++top = r - m->table;
+            n = r->child[1];
             continue;
-        }
-        if (r->kind == 46) {
-            if (turns(m, r)) {
-                *++top = r - m->table;
-                n = r->child[1];
-                continue;
-            }
-        } else if (r->kind == 47) {
+        case 47:
             enter_let(m, r->mark);
             *++top = LEAVE + r->mark;
             n = r->child[0];
             continue;
-        } else {
-            step(m, r);
+        case 48: claim(m, holds(m, child(m, r, 0))); break;
+        case 60: m->temporaries[r->mark] = address(m, child(m, r, 0)); break;
+        case 61: m->temporaries[r->mark] = operand(m, child(m, r, 0)); break;
+        case 63: m->temporaries[r->mark] = operate_held(m, r); break;
+        case 64: m->temporaries[r->mark] = query_observation(m, r->child[2], pointing(m, held(m, r->mark + 1))); break;
+        case 65: m->temporaries[r->mark] = integer(whole(m, held(m, r->mark + 1)) == 0); break;
+        case 66: n = r->child[truth(m, held(m, r->mark)) ? 1 : 2]; continue;
+        case 67: claim(m, truth(m, held(m, r->mark))); break;
+        case 68: store_held(m, r); break;
+        case 69: delete_block(m, pointing(m, held(m, r->mark))); break;
+        case 70: initialise(m, pointing(m, held(m, r->mark))); break;
+        default: __builtin_unreachable();
         }
         while ((n = *top--) >= LEAVE) {
             if (n == END)
