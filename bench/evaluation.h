@@ -105,11 +105,12 @@ static inline bool simple(machine *m, const record *r, value *v)
 }
 
 static value evaluate(machine *m, const record *r);
+static value operation(machine *m, const record *r);
 
 static inline value operand(machine *m, const record *r)
 {
     value v;
-    return simple(m, r, &v) ? v : evaluate(m, r);
+    return simple(m, r, &v) ? v : r->kind == 4 ? operation(m, r) : evaluate(m, r);
 }
 
 /* Kinds 4 and 5 where not both operands are simple: apart, so that the others need not save registers. */
@@ -119,7 +120,7 @@ static __attribute__((noinline)) value operation_on_any(machine *m, const record
     return r->kind == 5 ? shift(m, a, b) : operate(m, r->mark, a, b, m->memory->blocks);
 }
 
-static inline value operation(machine *m, const record *r)
+static __attribute__((noinline)) value operation(machine *m, const record *r)
 {
     value a, b;
     if (!simple(m, child(m, r, 0), &a) || !simple(m, child(m, r, 1), &b))
