@@ -109,7 +109,7 @@ static double measure(const char *name, unsigned which, const uint8_t *t, size_t
         best[0] = x < best[0] ? x : best[0];
         best[1] = y < best[1] ? y : best[1];
     }
-    printf("%-9s %-31s %12.2f %12.2f %8.2f\n", calls[which].name, name, best[0] * 1e6, best[1] * 1e6,
+    printf("%-9s %-31s %12.3f %12.3f %8.2f\n", calls[which].name, name, best[0] * 1e6, best[1] * 1e6,
            best[0] / best[1]);
     fflush(stdout);
     return best[0];

@@ -11,14 +11,21 @@ typedef struct translator {
     unsigned statement;   /* the source statement that they come from */
 } translator;
 
-static inline unsigned write(translator *t, uint8_t kind, uint8_t mark, unsigned a, unsigned b, unsigned c, int64_t z)
+/* A record as two words, so that it is written in two stores. */
+typedef struct LAID_OUT words {
+    uint64_t fields;
+    int64_t literal;
+} words;
+
+static inline unsigned write(translator *t, uint64_t kind, uint64_t mark, uint64_t a, uint64_t b, uint64_t c, int64_t z)
 {
-    t->out[++t->count] = (record){kind, mark, {a, b, c}, z};
-    return t->count;
+    unsigned n = ++t->count;
+    *(words *)&t->out[n] = (words){kind | mark << 8 | a << 16 | b << 32 | c << 48, z};
+    return n;
 }
 
 /* A target statement. */
-static inline unsigned put(translator *t, uint8_t kind, uint8_t mark, unsigned a, unsigned b, unsigned c)
+static inline unsigned put(translator *t, uint64_t kind, uint64_t mark, uint64_t a, uint64_t b, uint64_t c)
 {
     return write(t, kind, mark, a, b, c, t->statement);
 }
