@@ -197,9 +197,10 @@ recorder_answer interpreter_translate(const uint8_t *table, size_t table_len, ui
     if (checked.number != 0)
         return checked;
     unsigned count = table_len / sizeof(record);
-    translator t = {.source = (const record *)table - 1, .out = (record *)out - 1};
-    if (records_needed(t.source, count) > out_len / sizeof(record))
+    const record *source = (const record *)table - 1;
+    if (records_needed(source, count) > out_len / sizeof(record))
         return (recorder_answer){20, 0, 0, 0};
+    translator t = {.source = source, .out = (record *)out - 1};
     statement(&t, count);
     return (recorder_answer){0, t.count, 0, 0};
 }

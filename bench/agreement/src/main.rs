@@ -9,7 +9,8 @@ use reference::plain::run_plain;
 use reference::translator::{translate, translation};
 use reference::watched::run_watched;
 use reference::{checker, Answer};
-use std::collections::BTreeMap;
+use std::collections::{BTreeMap, BTreeSet};
+use std::ops::RangeInclusive;
 
 const CASES: u32 = 20_000;
 
@@ -43,8 +44,10 @@ fn unrefused(table: Vec<u8>, generator: &mut Generator) -> Case {
     Case { table, fuel, inputs, memory, observation: generator.observation() }
 }
 
-/// Counts the numbers of the answers; each case gives what was expected and what came.
-fn compare_all(what: &str, mut case: impl FnMut(&mut Generator) -> (Outcome, Outcome)) {
+type Numbers = BTreeSet<u32>;
+
+/// Each case gives what was expected and what came. Returns the numbers of the answers.
+fn compare_all(what: &str, mut case: impl FnMut(&mut Generator) -> (Outcome, Outcome)) -> Numbers {
     let mut generator = Generator::new(5);
     let mut numbers = BTreeMap::new();
     for number in 0..CASES {
@@ -53,34 +56,35 @@ fn compare_all(what: &str, mut case: impl FnMut(&mut Generator) -> (Outcome, Out
         *numbers.entry(expected.0.number).or_insert(0) += 1;
     }
     println!("{what}: {CASES} cases agree, by their numbers: {numbers:?}");
+    numbers.into_keys().collect()
 }
 
-fn compare_runs(what: &str, watched: bool, make: impl Fn(&mut Generator) -> Case) {
+fn compare_runs(what: &str, watched: bool, make: impl Fn(&mut Generator) -> Case) -> Numbers {
     compare_all(what, |generator| {
         let case = make(generator);
         (run_reference(&case, watched), run_c(&case, watched))
-    });
+    })
 }
 
 /// Accepted tables that one of the generators makes.
-fn compare_accepted(what: &str, watched: bool, make: fn(&mut Generator) -> Vec<u8>) {
+fn compare_accepted(what: &str, watched: bool, make: fn(&mut Generator) -> Vec<u8>) -> Numbers {
     compare_runs(what, watched, |generator| {
         let table = make(generator);
         unrefused(table, generator)
-    });
+    })
 }
 
 type Check = fn(&[u8]) -> Answer;
 
-fn compare_checks(what: &str, expected: Check, found: Check, make: fn(&mut Generator) -> Vec<u8>) {
+fn compare_checks(what: &str, expected: Check, found: Check, make: fn(&mut Generator) -> Vec<u8>) -> Numbers {
     compare_all(what, |generator| {
         let table = make(generator);
         ((expected(&table), vec![], vec![]), (found(&table), vec![], vec![]))
-    });
+    })
 }
 
 /// Source tables, one in four of them damaged, with outputs that are long enough or too short.
-fn compare_translations() {
+fn compare_translations() -> Numbers {
     compare_all("source tables, translator", |generator| {
         let damaged = generator.random.chance(25);
         let table = if damaged { generator.damaged_source() } else { generator.accepted_source() };
@@ -90,17 +94,37 @@ fn compare_translations() {
         let mut found = expected.clone();
         let answers = (translate(&table, &mut expected), c::translate(&table, &mut found));
         ((answers.0, expected, vec![]), (answers.1, found, vec![]))
-    });
+    })
+}
+
+/// Every number that a call may answer has come at least once.
+fn all_met(what: &str, met: Numbers, expected: &[RangeInclusive<u32>]) {
+    let expected: Numbers = expected.iter().cloned().flatten().collect();
+    assert_eq!(met, expected, "{what}: the numbers that came, and those that there are");
+    println!("{what}: every number that it may answer came");
+}
+
+fn compare_plain() {
+    let mut met = compare_accepted("accepted programs, plain run", false, Generator::accepted_source);
+    met.extend(compare_runs("source tables, plain run", false, |generator| generator.source_case()));
+    met.extend(compare_accepted("programs that compare pointers, plain run", false, Generator::comparing_source));
+    all_met("plain run", met, &[0..=9, 21..=21, 30..=33, 40..=47, 50..=50]);
+}
+
+fn compare_watched() {
+    let mut met = compare_runs("target tables, watched run", true, |generator| generator.target_case());
+    met.extend(compare_accepted("targets that compare pointers, watched run", true, Generator::comparing_target));
+    all_met("watched run", met, &[0..=7, 9..=9, 21..=22, 30..=33, 40..=50]);
 }
 
 fn main() {
-    compare_accepted("accepted programs, plain run", false, Generator::accepted_source);
-    compare_runs("source tables, plain run", false, |generator| generator.source_case());
-    compare_runs("target tables, watched run", true, |generator| generator.target_case());
-    compare_accepted("programs that compare pointers, plain run", false, Generator::comparing_source);
-    compare_accepted("targets that compare pointers, watched run", true, Generator::comparing_target);
-    compare_checks("damaged sources, checker", checker::check_source, c::check_source, Generator::damaged_source);
-    compare_checks("damaged targets, checker", checker::check_target, c::check_target, Generator::damaged_target);
-    compare_translations();
+    compare_plain();
+    compare_watched();
+    let (source, target) = ("damaged sources, checker", "damaged targets, checker");
+    let met = compare_checks(source, checker::check_source, c::check_source, Generator::damaged_source);
+    all_met("source checker", met, &[0..=8]);
+    let met = compare_checks(target, checker::check_target, c::check_target, Generator::damaged_target);
+    all_met("target checker", met, &[0..=7]);
+    all_met("translator", compare_translations(), &[0..=8, 20..=20]);
     deep::compare();
 }
