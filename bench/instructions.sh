@@ -2,6 +2,9 @@
 # Instructions of one call of each row, of the library and of C, counted by callgrind: instructions.sh BENCH
 set -euo pipefail
 bench=$1
+# memset and memcpy are found before the call. By vectors, since callgrind counts each byte of the other way.
+export LD_BIND_NOW=1
+export GLIBC_TUNABLES=glibc.cpu.x86_rep_stosb_threshold=1000000000:glibc.cpu.x86_rep_movsb_threshold=1000000000
 count() { # SIDE CALL FUNCTION TABLE
     valgrind --tool=callgrind --callgrind-out-file=/dev/null --toggle-collect="$3" "$bench" "$1" "$2" "$4" 2>&1 |
         sed -n 's/.*Collected : *\([0-9]*\).*/\1/p'
