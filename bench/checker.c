@@ -55,7 +55,8 @@ INLINED bool fields_hold(const record *r, const form *f)
 {
     uint64_t word;
     memcpy(&word, r, sizeof word);
-    return (word & f->zeros) == 0 && (f->marks >> (r->mark & 63) & 1) && (uint64_t)r->literal - f->lowest <= f->literals;
+    return (word & f->zeros) == 0 && (f->marks >> (r->mark & 63) & 1) &&
+           (uint64_t)r->literal - f->lowest <= f->literals;
 }
 
 /* Child i of record n gets its scope; or 4 or 5. */

@@ -8,7 +8,9 @@ awk '
         return n
     }
     function shown(n) {
-        return n !~ /\./ ? grouped(n) : n < 1 ? sprintf("%.3f", n) : n < 100 ? sprintf("%.1f", n) : grouped(sprintf("%.0f", n))
+        if (n !~ /\./)
+            return grouped(n)
+        return n < 1 ? sprintf("%.3f", n) : n < 100 ? sprintf("%.1f", n) : grouped(sprintf("%.0f", n))
     }
     /^$/ { exit }
     NR > 1 {
