@@ -107,13 +107,15 @@ static inline bool simple(machine *m, const record *r, value *v)
 static value evaluate(machine *m, const record *r);
 static value operation(machine *m, const record *r);
 
+/* Any expression. */
 static inline value operand(machine *m, const record *r)
 {
     value v;
     return simple(m, r, &v) ? v : r->kind == 4 ? operation(m, r) : evaluate(m, r);
 }
 
-/* Kinds 4 and 5 where not both operands are simple: apart, so that the others need not save registers. */
+/* Kinds 4 and 5 where not both operands are simple: apart, so that the others save no registers. A simple one is read
+ * once more here, which is cheap; what is not simple is worked out here only. */
 static __attribute__((noinline)) value operation_on_any(machine *m, const record *r)
 {
     value a = operand(m, child(m, r, 0)), b = operand(m, child(m, r, 1));
@@ -169,6 +171,7 @@ static __attribute__((noinline)) value evaluate(machine *m, const record *r)
     }
 }
 
+/* Kinds 21 base address, 22 offset, 23 block length. */
 static value query_memory(machine *m, unsigned kind, value p)
 {
     const block *b = block_of(m, p);

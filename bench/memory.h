@@ -62,6 +62,7 @@ static inline bool is_pointer(value v)
     return v.word != INTEGER;
 }
 
+/* What has to be an integer, and what has to be a pointer. */
 static inline int64_t whole(machine *m, value v)
 {
     if (v.word != INTEGER)
