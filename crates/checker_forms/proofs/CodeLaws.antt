@@ -14,6 +14,7 @@ use Rattle.rules.specs.Checker.{formSort}
 use Rattle.rules.proofs.acceptance.ParentLaws.{two-pass}
 use Rattle.checker_forms.specs.Codes.{sortFrom, lows, highs, testFrom, fieldFrom, literalFrom, entry, decoded}
 use Rattle.checker_forms.specs.Codes.{Coded}
+use Rattle.checker_forms.proofs.MatchLaws.{Others, others-none}
 
 abbrev pub sourceCodes : List ℕ
 sourceCodes =
@@ -129,3 +130,9 @@ coded l k x e =
     let asks : formOf l k ≡ decoded k x = asks-of l k ∙ ap (decoded k) (sym e) in
     let right : rightSort x ≡ true = ap rightSort e ∙ each rightSort (codes l) (every-sort l) refl k in
     record { asks = asks; sort = ap formSort asks ∙ decoded-sort k x ∙ eqb-true _ (x / 1048576) right }
+
+pub coded-at : {x : ℕ} (l : Language) (k j : ℕ) → x ≡ getD (codes l) j 0 → k ≡ j → Coded l k x
+coded-at {x = x} l k j h e = coded l k x (h ∙ sym (ap (λ (i : ℕ). getD (codes l) i 0) e))
+
+pub coded-rest : (l : Language) (k : ℕ) → Others (Unit {0}) (codes l) 0 k → Coded l k 0
+coded-rest l k h = coded l k 0 (others-none (codes l) k h)

@@ -6,151 +6,90 @@ ghost use mathlib.Core.Path.{_≡_};
 ghost use mathlib.Core.Bool.{true};
 ghost use mathlib.Core.List.{[], _∷_};
 ghost use Rattle.rules.specs.Records.{recordAt};
+ghost use Rattle.rules.specs.Kinds.{source, target};
 ghost use Rattle.rules.specs.Checker.{fieldFits, fieldsFit, childFits, childrenFit, recordFault};
 ghost use Rattle.table.specs.Within.{Within};
 ghost use Rattle.checker_forms.specs.Codes.{languageOf, Coded, fieldFrom, fieldsThere, entry};
 
-const SOURCE: [usize; 49] = [
-    0x000000,
-    0x100001,
-    0x102000,
-    0x102000,
-    0x161100,
-    0x101100,
-    0x000000,
-    0x000000,
-    0x000000,
-    0x000000,
-    0x270000,
-    0x201000,
-    0x000000,
-    0x000000,
-    0x000000,
-    0x000000,
-    0x000000,
-    0x000000,
-    0x000000,
-    0x000000,
-    0x301000,
-    0x303000,
-    0x303000,
-    0x303000,
-    0x383300,
-    0x000000,
-    0x000000,
-    0x000000,
-    0x000000,
-    0x000000,
-    0x403000,
-    0x403000,
-    0x493300,
-    0x404000,
-    0x404400,
-    0x404400,
-    0x000000,
-    0x000000,
-    0x000000,
-    0x000000,
-    0x500000,
-    0x502100,
-    0x502100,
-    0x501000,
-    0x505500,
-    0x501550,
-    0x501500,
-    0x575000,
-    0x504000,
-];
+// What a kind asks of a source record. The compiler makes a match a table that is read, where it builds an array anew.
+fn source_form(kind: u8) -> usize
+    ensures { λ r. ⌜ Coded source kind r ⌝ }
+{
+    match kind {
+        1 => 0x100001,
+        2 => 0x102000,
+        3 => 0x102000,
+        4 => 0x161100,
+        5 => 0x101100,
+        10 => 0x270000,
+        11 => 0x201000,
+        20 => 0x301000,
+        21 => 0x303000,
+        22 => 0x303000,
+        23 => 0x303000,
+        24 => 0x383300,
+        30 => 0x403000,
+        31 => 0x403000,
+        32 => 0x493300,
+        33 => 0x404000,
+        34 => 0x404400,
+        35 => 0x404400,
+        40 => 0x500000,
+        41 => 0x502100,
+        42 => 0x502100,
+        43 => 0x501000,
+        44 => 0x505500,
+        45 => 0x501550,
+        46 => 0x501500,
+        47 => 0x575000,
+        48 => 0x504000,
+        _ => 0,
+    }
+}
 
-const TARGET: [usize; 71] = [
-    0x000000,
-    0x100001,
-    0x102000,
-    0x102000,
-    0x161100,
-    0x101100,
-    0x000000,
-    0x000000,
-    0x000000,
-    0x000000,
-    0x270000,
-    0x201000,
-    0x270000,
-    0x000000,
-    0x000000,
-    0x000000,
-    0x000000,
-    0x000000,
-    0x000000,
-    0x000000,
-    0x000000,
-    0x000000,
-    0x000000,
-    0x000000,
-    0x000000,
-    0x000000,
-    0x000000,
-    0x000000,
-    0x000000,
-    0x000000,
-    0x000000,
-    0x000000,
-    0x000000,
-    0x000000,
-    0x000000,
-    0x000000,
-    0x000000,
-    0x000000,
-    0x000000,
-    0x000000,
-    0x500002,
-    0x502102,
-    0x502102,
-    0x501002,
-    0x505502,
-    0x501552,
-    0x501502,
-    0x575002,
-    0x000000,
-    0x000000,
-    0x000000,
-    0x000000,
-    0x000000,
-    0x000000,
-    0x000000,
-    0x000000,
-    0x000000,
-    0x000000,
-    0x000000,
-    0x000000,
-    0x572002,
-    0x571002,
-    0x000000,
-    0x5a00c2,
-    0x5b00d2,
-    0x5b0002,
-    0x570552,
-    0x570002,
-    0x5b0002,
-    0x570002,
-    0x570002,
-];
+// What a kind asks of a target record.
+fn target_form(kind: u8) -> usize
+    ensures { λ r. ⌜ Coded target kind r ⌝ }
+{
+    match kind {
+        1 => 0x100001,
+        2 => 0x102000,
+        3 => 0x102000,
+        4 => 0x161100,
+        5 => 0x101100,
+        10 => 0x270000,
+        11 => 0x201000,
+        12 => 0x270000,
+        40 => 0x500002,
+        41 => 0x502102,
+        42 => 0x502102,
+        43 => 0x501002,
+        44 => 0x505502,
+        45 => 0x501552,
+        46 => 0x501502,
+        47 => 0x575002,
+        60 => 0x572002,
+        61 => 0x571002,
+        63 => 0x5a00c2,
+        64 => 0x5b00d2,
+        65 => 0x5b0002,
+        66 => 0x570552,
+        67 => 0x570002,
+        68 => 0x5b0002,
+        69 => 0x570002,
+        70 => 0x570002,
+        _ => 0,
+    }
+}
 
 // What a kind asks; 0 where the language has no such kind.
 pub fn form_of(target: bool, kind: u8) -> usize
     ensures { λ r. ⌜ Coded (languageOf target) kind r ⌝ }
 {
-    let k = kind as usize;
     if target {
-        if k < 71 {
-            return TARGET[k];
-        }
-        return 0;
+        return target_form(kind);
     }
-    if k < 49 {
-        return SOURCE[k];
-    }
-    0
+    source_form(kind)
 }
 
 fn are_there(form: usize, a: usize, b: usize, c: usize) -> bool
