@@ -5,7 +5,7 @@ use native.Mathlib.Decide.{ℕ-discrete}
 use native.Mathlib.Nat.{div-div-eq-div-mul, pow-suc, pow-succ', mod-eq-of-lt, one-mul, div-one}
 use mathlib.Core.Bool.{Bool, true, false, not, _&&_, _||_}
 use mathlib.Core.Path.{_≡_, refl, sym, ap, _∙_}
-use borrow.Author.Tests.{eq-eqb, ne-eqb}
+use borrow.Author.Tests.{eq-eqb, ne-eqb, eqb-true}
 use lib.Bits.{bitOr, or-mod, or-shr}
 use lib.Dec.{eqb, eqb·zero-suc, eqb·suc-zero, eqb·suc-suc}
 use lib.Pow.{pow-lt}
@@ -77,3 +77,29 @@ below-let k v y b e = sym (ap (λ (p : Bool). (p && eqb v y) || b) (eq-eqb k 47 
 
 pub below-other : (k v y : ℕ) (b : Bool) → (k ≡ 47 → ⊥) → b ≡ ((eqb k 47 && eqb v y) || b)
 below-other k v y b e = sym (ap (λ (p : Bool). (p && eqb v y) || b) (ne-eqb k 47 e))
+
+-- ---- bit 0 is set in an odd number
+odd-of : (s : ℕ) → bit s 0 ≡ true → s % 2 ≡ 1
+unfolding bit
+odd-of s h = eqb-true (s % 2) 1 h
+
+odd-set : (s y : ℕ) → s % 2 ≡ 1 → (eqb 0 y || bit s y) ≡ bit s y
+unfolding bit
+odd-set s zero h = sym (eq-eqb (s % 2) 1 h)
+odd-set s (suc y) h = ap (λ (b : Bool). b || bit s (suc y)) (eqb·zero-suc y)
+
+or-true : (p : Bool) → (p || true) ≡ true
+or-true true = refl
+or-true false = refl
+
+-- r has the bits of s, and bit 0
+module _ (s r : ℕ) (low : (y : ℕ) → bit r y ≡ (eqb 0 y || bit s y)) where
+  pub low-odd : r % 2 ≡ 1
+  low-odd = odd-of r (low 0)
+
+  pub low-same : s % 2 ≡ 1 → (y : ℕ) → bit r y ≡ bit s y
+  low-same h y = low y ∙ odd-set s y h
+
+pub with-odd : (x s r : ℕ) → ((y : ℕ) → bit r y ≡ (eqb x y || bit s y)) → s % 2 ≡ 1 → r % 2 ≡ 1
+unfolding bit
+with-odd x s r high h = odd-of r (high 0 ∙ ap (λ (b : Bool). eqb x 0 || b) (eq-eqb (s % 2) 1 h) ∙ or-true (eqb x 0))

@@ -8,45 +8,39 @@ use mathlib.Core.Path.{_≡_, refl, sym, ap, subst, _∙_}
 use borrow.Author.Tests.{eqb-true, ltb-false, lt-ltb, le-ltb}
 use lib.Dec.{eqb, ltb}
 use lib.ListN.{length, getD}
-use Rattle.rules.specs.Sizes.{targetLimit}
 use Rattle.rules.specs.Records.{recordCount, kindOf, childA, childB, childC, recordAt}
 use Rattle.rules.specs.Kinds.{Language, Field, unnamed, child, number}
 use Rattle.rules.specs.Checker.{recordFault, shapeFault, timesIn, timesChildOf}
 use Rattle.rules.proofs.acceptance.ParentLaws.{Passed, IsParent, parent-above, has-parent}
 use Rattle.rules.proofs.acceptance.CheckLaws.{each-passes}
 use Rattle.checker_forms.specs.Codes.{fieldFrom, Coded}
-use Rattle.checker.specs.Searches.{putIn, putThree, noteCount}
-use Rattle.checker.specs.Scopes.{Given, Kept}
-use Rattle.checker.proofs.NoteLaws.{put-step, put-length}
-use Rattle.checker.proofs.CountLaws.{times-as}
+use Rattle.checker.specs.Searches.{putIn, putThree}
+use Rattle.checker.specs.Scopes.{Given, Formed, Kept}
+use Rattle.checker.proofs.NoteLaws.{put-step, put-length, field-has}
+use Rattle.checker.proofs.TimesLaws.{times-as}
+
+pub no-fault : (l : Language) (t : List ℕ) → Formed l t → (n : ℕ) → 1 ≤ n → n ≤ recordCount t → recordFault l t n ≡ 0
+no-fault l t h n a b =
+    omega (
+      arith,
+      ltb-false 0 (recordFault l t n)
+          (each-passes t (λ n. ltb 0 (recordFault l t n)) (h .records) n a b),
+    )
 
 pub passed-of : (l : Language) (t : List ℕ) → Kept l t → Passed l t
 passed-of l t h = record {
-  records = λ n a b. omega (
-    arith,
-    ltb-false 0 (recordFault l t n)
-        (each-passes t (λ n. ltb 0 (recordFault l t n)) (h .records) n a b),
-  );
+  records = no-fault l t (h .formed);
   shape = each-passes t (shapeFault l t) (h .shapes);
 }
 
-field-has : (d : Field) (y j : ℕ) → 0 < timesIn d y j → y ≡ j
-field-has unnamed y j h = absurd (omega arith)
-field-has (number p) y j h = absurd (omega arith)
-field-has (child s) y j h = go (eqb y j) refl h
-  where
-    go : (b : Bool) → eqb y j ≡ b → 0 < cond b 1 0 → y ≡ j
-    go true e g = eqb-true y j e
-    go false e g = absurd (omega arith)
-
 -- P of the last record, and of the children of the records above n
 pub record Known (P : ℕ → ℕ → Type 0) (l : Language) (t : List ℕ) (n : ℕ) (notes : List ℕ) : Type 0 where
-  pub size : length notes ≡ noteCount
+  pub size : recordCount t < length notes
   pub last : P (recordCount t) (getD notes (recordCount t) 0)
   pub below : (m j : ℕ) → IsParent l t m j → n < m → P j (getD notes j 0)
 
 module _ (P : ℕ → ℕ → Type 0) (l : Language) (t : List ℕ) where
-  pub known-start : (notes : List ℕ) → length notes ≡ noteCount → P (recordCount t) (getD notes (recordCount t) 0)
+  pub known-start : (notes : List ℕ) → recordCount t < length notes → P (recordCount t) (getD notes (recordCount t) 0)
       → Known P l t (recordCount t) notes
   known-start notes s p = record {
     size = s;
@@ -66,18 +60,18 @@ module _ (P : ℕ → ℕ → Type 0) (l : Language) (t : List ℕ) where
           let same : recordCount t ≡ n = omega arith in
           subst (λ (k : ℕ). P k (getD notes k 0)) same (h .last)
 
-  pub known-down : Passed l t → recordCount t ≤ targetLimit → (n : ℕ) (f : ℕ → ℕ) (notes notes' : List ℕ) → 0 < n
+  pub known-down : Passed l t → (n : ℕ) (f : ℕ → ℕ) (notes notes' : List ℕ) → 0 < n
       → n ≤ recordCount t → Given l t n f notes notes' → ((j : ℕ) → IsParent l t n j → P j (f j))
       → Known P l t n notes → Known P l t (n - 1) notes'
-  known-down keeps few n f notes notes' a b g c h = record {
-    size = g .size;
-    last = at (recordCount t) (omega arith) (λ e. h .last);
+  known-down keeps n f notes notes' a b g c h = record {
+    size = omega (arith, g .size, h .size);
+    last = at (recordCount t) (h .size) (λ e. h .last);
     below = λ m j k q.
-        at j (omega (arith, parent-above l t keeps m j k, k .in-table))
+        at j (omega (arith, parent-above l t keeps m j k, k .in-table, h .size))
         (λ e. go m j k q e (decLt n m));
   }
     where
-      at : (j : ℕ) → j < noteCount → (timesChildOf l t n j ≡ 0 → P j (getD notes j 0)) → P j (getD notes' j 0)
+      at : (j : ℕ) → j < length notes → (timesChildOf l t n j ≡ 0 → P j (getD notes j 0)) → P j (getD notes' j 0)
       at j q base = subst (P j) (sym (g .values j q)) (pick (decLt 0 (timesChildOf l t n j)))
         where
           pick : Dec (0 < timesChildOf l t n j) → P j (cond (ltb 0 (timesChildOf l t n j)) (f j) (getD notes j 0))
@@ -96,7 +90,7 @@ module _ (P : ℕ → ℕ → Type 0) (l : Language) (t : List ℕ) where
 
 -- what is put by the fields of record n is given to its children
 module _ (l : Language) (t : List ℕ) (n x : ℕ) (k : Coded l (kindOf t n) x) (u v w : ℕ) (f : ℕ → ℕ) (notes : List ℕ)
-    (s : length notes ≡ noteCount) (p : u ≡ f (childA t n)) (q : v ≡ f (childB t n)) (r : w ≡ f (childC t n)) where
+    (p : u ≡ f (childA t n)) (q : v ≡ f (childB t n)) (r : w ≡ f (childC t n)) where
   abbrev Right : ℕ → ℕ → Type 0
   Right j y = y ≡ cond (ltb 0 (timesChildOf l t n j)) (f j) (getD notes j 0)
 
@@ -106,10 +100,10 @@ module _ (l : Language) (t : List ℕ) (n x : ℕ) (k : Coded l (kindOf t n) x) 
   abbrev second : List ℕ
   second = putIn (fieldFrom (x / 256 % 16)) (childB t n) v first
 
-  first-length : length first ≡ noteCount
-  first-length = put-length (fieldFrom (x / 4096 % 16)) (childA t n) u notes ∙ s
+  first-length : length first ≡ length notes
+  first-length = put-length (fieldFrom (x / 4096 % 16)) (childA t n) u notes
 
-  second-length : length second ≡ noteCount
+  second-length : length second ≡ length notes
   second-length = put-length (fieldFrom (x / 256 % 16)) (childB t n) v first ∙ first-length
 
   its-child : (j : ℕ) (d : Field) (y z : ℕ) → z ≡ f y → timesIn d y j ≤ timesChildOf l t n j → 0 < timesIn d y j
@@ -118,7 +112,7 @@ module _ (l : Language) (t : List ℕ) (n x : ℕ) (k : Coded l (kindOf t n) x) 
       e ∙ ap f (field-has d y j g) ∙ sym (ap (λ (b : Bool). cond b (f j) (getD notes j 0))
       (lt-ltb 0 (timesChildOf l t n j) (omega arith)))
 
-  right : (j : ℕ) → j < noteCount
+  right : (j : ℕ) → j < length notes
       → Right j (getD (putThree x (childA t n) (childB t n) (childC t n) u v w notes) j 0)
   right j h =
       let times = times-as l t n x j k in
@@ -126,7 +120,7 @@ module _ (l : Language) (t : List ℕ) (n x : ℕ) (k : Coded l (kindOf t n) x) 
       (its-child j (fieldFrom (x / 16 % 16)) (childC t n) w r (omega arith))
       (λ ec. put-step (Right j) (fieldFrom (x / 256 % 16)) (childB t n) v first j (omega (arith, first-length))
       (its-child j (fieldFrom (x / 256 % 16)) (childB t n) v q (omega arith))
-      (λ eb. put-step (Right j) (fieldFrom (x / 4096 % 16)) (childA t n) u notes j (omega (arith, s))
+      (λ eb. put-step (Right j) (fieldFrom (x / 4096 % 16)) (childA t n) u notes j h
       (its-child j (fieldFrom (x / 4096 % 16)) (childA t n) u p (omega arith))
       (λ ea. sym (ap (λ (b : Bool). cond b (f j) (getD notes j 0)) (le-ltb 0 (timesChildOf l t n j) (omega arith))))))
 

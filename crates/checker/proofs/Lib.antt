@@ -1,10 +1,12 @@
 pub mod NoteLaws
 pub mod Lowest
-pub mod CountLaws
+pub mod TimesLaws
 pub mod BitLaws
 pub mod ShapeLaws
 pub mod DescentLaws
+pub mod TallyLaws
 pub mod LevelLaws
 pub mod RightLaws
 pub mod Starts
+pub mod TurnLaws
 pub mod OrderLaws

@@ -1,18 +1,18 @@
 -- What is noted of records, after it is put there by a field.
-use Prim.Native.Nat.{ℕ, suc, _+_, _<_, _≤_}
+use Prim.Native.Nat.{ℕ, zero, suc, _+_, _/_, _%_, _<_, _≤_}
 use native.Mathlib.Omega.{arith}
-use native.Mathlib.Decide.{ℕ-discrete, decLt}
+use native.Mathlib.Decide.{ℕ-discrete}
 use mathlib.Core.Bool.{Bool, true, false, cond}
 use mathlib.Core.List.{List}
 use mathlib.Core.Path.{_≡_, refl, sym, ap, subst, _∙_}
 use borrow.Author.Tests.{eq-eqb, ne-eqb, eqb-true}
 use lib.Dec.{eqb}
-use lib.ListN.{length, getD, set, length-set, List·getD-eq-default}
+use lib.ListN.{length, getD, set, length-set}
 use lib.Seq.{set-out, getD-set-same, getD-set-other}
 use Rattle.rules.specs.Kinds.{Field, unnamed, child, number}
 use Rattle.rules.specs.Checker.{timesIn}
 use Rattle.checker_forms.specs.Codes.{sortFrom, testFrom, fieldFrom}
-use Rattle.checker.specs.Searches.{putIn, countIn, noteCount}
+use Rattle.checker.specs.Searches.{putIn, joined, noted, noteIn, noteThree, Room}
 use Rattle.checker_forms.proofs.FieldLaws.{field-none, field-child, field-number}
 
 -- ---- by the digit of the field
@@ -54,25 +54,7 @@ put-step P (child s) x v l j h p q = go (ℕ-discrete x j)
     go (no e) =
         subst P (sym (getD-set-other l x j v 0 (λ i. e (sym i)))) (q (ap (λ (b : Bool). cond b 1 0) (ne-eqb x j e)))
 
--- one more for the child
-pub count-step : (f : Field) (x : ℕ) (l : List ℕ) (j : ℕ) → j < length l
-    → getD (countIn f x l) j 0 ≡ getD l j 0 + timesIn f x j
-count-step f x l j h =
-    put-step (λ (n : ℕ). n ≡ getD l j 0 + timesIn f x j) f x (getD l x 0 + 1) l j h (λ p. here f p) (λ e. omega arith)
-  where
-    here : (f : Field) → 0 < timesIn f x j → getD l x 0 + 1 ≡ getD l j 0 + timesIn f x j
-    here unnamed p = absurd (omega arith)
-    here (number t) p = absurd (omega arith)
-    here (child s) p = go (ℕ-discrete x j) p
-      where
-        go : Dec (x ≡ j) → 0 < cond (eqb x j) 1 0 → getD l x 0 + 1 ≡ getD l j 0 + cond (eqb x j) 1 0
-        go (yes e) p =
-            omega (arith, ap (λ (i : ℕ). getD l i 0) e, ap (λ (b : Bool). cond {A = ℕ} b 1 0) (eq-eqb x j e))
-        go (no e) p = absurd (omega (arith, ap (λ (b : Bool). cond {A = ℕ} b 1 0) (ne-eqb x j e)))
-
-pub count-length : (f : Field) (x : ℕ) (l : List ℕ) → length (countIn f x l) ≡ length l
-count-length f x l = put-length f x (getD l x 0 + 1) l
-
+-- what a field adds to a count
 pub times-most : (f : Field) (x j : ℕ) → timesIn f x j ≤ 1
 times-most unnamed x j = omega arith
 times-most (number p) x j = omega arith
@@ -82,19 +64,65 @@ times-most (child s) x j = go (eqb x j)
     go true = omega arith
     go false = omega arith
 
--- no count passes a bound that is one higher
-pub count-below : (f : Field) (x : ℕ) (l : List ℕ) (k : ℕ) → ((j : ℕ) → getD l j 0 < k) → (j : ℕ)
-    → getD (countIn f x l) j 0 < suc k
-count-below f x l k h j = go (decLt j (length l))
+pub field-has : (d : Field) (y j : ℕ) → 0 < timesIn d y j → y ≡ j
+field-has unnamed y j h = absurd (omega arith)
+field-has (number p) y j h = absurd (omega arith)
+field-has (child s) y j h = go (eqb y j) refl h
   where
-    go : Dec (j < length l) → getD (countIn f x l) j 0 < suc k
-    go (yes q) = omega (arith, count-step f x l j q, times-most f x j, h j)
-    go (no q) =
-        omega (arith, List·getD-eq-default (countIn f x l) 0 {n = j} (omega (arith, count-length f x l)))
+    go : (b : Bool) → eqb y j ≡ b → 0 < cond b 1 0 → y ≡ j
+    go true e g = eqb-true y j e
+    go false e g = absurd (omega arith)
 
--- counts that may still grow
-abbrev pub Room : ℕ → List ℕ → Type 0
-Room k l = (length l ≡ noteCount) × ((j : ℕ) → getD l j 0 < k)
+-- ---- one more parent
+pub note-length : (s : ℕ) (f : Field) (x : ℕ) (l : List ℕ) → length (noteIn s f x l) ≡ length l
+note-length s f x l = put-length f x (joined s (getD l x 0)) l
 
-pub room-more : (f : Field) (x : ℕ) (l m : List ℕ) (k : ℕ) → m ≡ countIn f x l → Room k l → Room (suc k) m
-room-more f x l m k e h = subst (Room (suc k)) (sym e) (count-length f x l ∙ h .0, count-below f x l k (h .1))
+note-step : (s : ℕ) (f : Field) (x : ℕ) (l : List ℕ) (j : ℕ) → j < length l
+    → getD (noteIn s f x l) j 0 ≡ noted s (timesIn f x j) (getD l j 0)
+note-step s f x l j h =
+    put-step (λ (v : ℕ). v ≡ noted s (timesIn f x j) (getD l j 0)) f x (joined s (getD l x 0)) l j h
+    (λ p. ap (λ (i : ℕ). joined s (getD l i 0)) (field-has f x j p) ∙ sym (times 1 (omega (arith, times-most f x j))))
+    (λ e. sym (times 0 e))
+  where
+    times : (k : ℕ) → timesIn f x j ≡ k → noted s (timesIn f x j) (getD l j 0) ≡ noted s k (getD l j 0)
+    times k e = ap (λ (i : ℕ). noted s i (getD l j 0)) e
+
+noted-add : (s a b v : ℕ) → noted s a (noted s b v) ≡ noted s (a + b) v
+noted-add s zero b v = let same : b ≡ 0 + b = omega arith in ap (λ (k : ℕ). noted s k v) same
+noted-add s (suc a) b v =
+    let more : suc (a + b) ≡ suc a + b = omega arith in
+    ap (joined s) (noted-add s a b v) ∙ ap (λ (k : ℕ). noted s k v) more
+
+pub room-after : (d x : ℕ) (l m : List ℕ) → length m ≡ length l → Room d x l → Room d x m
+room-after d x l m e h p q = omega (arith, e, h p q)
+
+-- of A, B and C
+module _ (s x a b c : ℕ) (l : List ℕ) where
+  abbrev first : List ℕ
+  first = noteIn s (fieldFrom (x / 4096 % 16)) a l
+
+  abbrev second : List ℕ
+  second = noteIn s (fieldFrom (x / 256 % 16)) b first
+
+  pub first-length : length first ≡ length l
+  first-length = note-length s (fieldFrom (x / 4096 % 16)) a l
+
+  pub second-length : length second ≡ length l
+  second-length = note-length s (fieldFrom (x / 256 % 16)) b first ∙ first-length
+
+  pub three-length : length (noteThree s x a b c l) ≡ length l
+  three-length = note-length s (fieldFrom (x / 16 % 16)) c second ∙ second-length
+
+  pub three-noted : (j : ℕ) → j < length l → getD (noteThree s x a b c l) j 0
+      ≡ noted s (timesIn (fieldFrom (x / 4096 % 16)) a j + timesIn (fieldFrom (x / 256 % 16)) b j
+      + timesIn (fieldFrom (x / 16 % 16)) c j) (getD l j 0)
+  three-noted j h =
+      let i = timesIn (fieldFrom (x / 4096 % 16)) a j in
+      let k = timesIn (fieldFrom (x / 256 % 16)) b j in
+      let m = timesIn (fieldFrom (x / 16 % 16)) c j in
+      let all : m + (k + i) ≡ i + k + m = omega arith in
+      note-step s (fieldFrom (x / 16 % 16)) c second j (omega (arith, second-length))
+      ∙ ap (noted s m) (note-step s (fieldFrom (x / 256 % 16)) b first j (omega (arith, first-length))
+      ∙ ap (noted s k) (note-step s (fieldFrom (x / 4096 % 16)) a l j h) ∙ noted-add s k i (getD l j 0))
+      ∙ noted-add s m (k + i) (getD l j 0)
+      ∙ ap (λ (q : ℕ). noted s q (getD l j 0)) all

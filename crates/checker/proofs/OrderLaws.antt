@@ -11,10 +11,11 @@ use Rattle.rules.specs.Sizes.{targetLimit}
 use Rattle.rules.specs.declared.{Search.Search, Checked.Checked}
 use Rattle.rules.specs.Records.{recordCount}
 use Rattle.rules.specs.Kinds.{Language, source, target, recordLimit}
-use Rattle.rules.specs.Checker.{lowestRecord, lengthFault, countFault}
+use Rattle.rules.specs.Checker.{lowestRecord, lengthFault, countFault, shapeFault}
 use Rattle.rules.specs.Checker.{levelFault, refuseIf, refuseAt, _otherwise_, lastRule, check}
 use Rattle.checker_forms.specs.Codes.{languageOf}
 use Rattle.checker.specs.Searches.{searchOf}
+use Rattle.checker.specs.Scopes.{Found, Kept}
 use Rattle.checker.specs.Order.{orNext, fromScopes, fromShapes, fromRecords}
 
 pub next-none : (rule : ℕ → ℕ) (s : Search) (r : ℕ) (next : Checked) → s ≡ searchOf r → r ≡ 0
@@ -28,6 +29,13 @@ next-at rule s (suc n) next e h = sym (ap (λ (x : Search). orNext rule x next) 
 
 pub none-found : (s : Search) (r : ℕ) → s ≡ searchOf r → r ≡ 0 → s ≡ Search.Nothing
 none-found s r e h = e ∙ ap searchOf h
+
+pub kept-of : (l : Language) (t : List ℕ) (misshapen hidden : ℕ) → Found l t misshapen hidden → misshapen ≡ 0
+    → Kept l t
+kept-of l t misshapen hidden h e = record {
+  formed = h .formed;
+  shapes = none-found (lowestRecord t (shapeFault l t)) misshapen (h .shapes) e;
+}
 
 -- ---- rule 8
 pub last-target : (b : Bool) (t : List ℕ) → b ≡ true → Checked.Accepted ≡ lastRule (languageOf b) t
@@ -79,3 +87,6 @@ check-rest l t d e h =
 pub limit-most : (b : Bool) → recordLimit (languageOf b) ≤ targetLimit
 limit-most true = omega arith
 limit-most false = omega arith
+
+pub some-record : (n : ℕ) → (n ≡ 0 → ⊥) → n % 16 ≡ 0 → 0 < n / 16
+some-record n d e = omega arith

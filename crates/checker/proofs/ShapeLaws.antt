@@ -1,4 +1,4 @@
--- Rule 6 at a record, and the counts to begin with.
+-- Rule 6 at a record.
 use Prim.Native.Nat.{ℕ, _/_, _<_}
 use native.Mathlib.Omega.{arith}
 use mathlib.Core.Bool.{Bool, true, false, not}
@@ -6,13 +6,10 @@ use mathlib.Core.List.{List}
 use mathlib.Core.Path.{_≡_, refl, sym, ap, _∙_}
 use borrow.Author.Tests.{eq-eqb, ne-eqb}
 use lib.Dec.{eqb}
-use lib.ListN.{length, getD, replicate, length-replicate, getD-replicate}
 use Rattle.rules.specs.Records.{recordCount, kindOf}
 use Rattle.rules.specs.Kinds.{Language, statement, sortNumber}
 use Rattle.rules.specs.Checker.{sortOf, timesChild, shapeFault}
-use Rattle.rules.proofs.acceptance.ParentLaws.{times-zero}
 use Rattle.checker_forms.specs.Codes.{Coded}
-use Rattle.checker.specs.Searches.{Counted, noteCount}
 
 abbrev pickShape : Bool → Bool → Bool → Bool
 pickShape b p q = elim b [ true ↦ p | false ↦ q ]
@@ -35,9 +32,3 @@ pub shape-other : (l : Language) (t : List ℕ) (n times : ℕ) → (n ≡ recor
 shape-other l t n times e h =
     sym (shape-as l t n
     ∙ (λ i. pickShape (ne-eqb n (recordCount t) e i) (not (eqb (sortOf l (kindOf t n)) 5)) (not (eqb (sym h i) 1))))
-
-pub counted-start : (l : Language) (t : List ℕ) (k : ℕ) → k ≡ noteCount → Counted l t 0 (replicate k 0)
-counted-start l t k e = record {
-  size = length-replicate k 0 ∙ e;
-  counts = λ j h. getD-replicate k j 0 0 (omega arith) ∙ sym (times-zero l t j);
-}

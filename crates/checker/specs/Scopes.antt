@@ -6,11 +6,12 @@ use mathlib.Core.Path.{_≡_}
 use lib.Dec.{eqb, ltb, leb}
 use lib.ListN.{length, getD}
 use Rattle.rules.specs.declared.{Search.Search}
-use Rattle.rules.specs.Sizes.{temporaryCount, targetLimit}
+use Rattle.rules.specs.Sizes.{temporaryCount}
 use Rattle.rules.specs.Records.{recordCount}
-use Rattle.rules.specs.Kinds.{Language}
-use Rattle.rules.specs.Checker.{lowestRecord, recordFault, timesChildOf, shapeFault, isTermOrPredicate, highestNamed}
-use Rattle.checker.specs.Searches.{noteCount}
+use Rattle.rules.specs.Kinds.{Language, recordLimit}
+use Rattle.rules.specs.Checker.{lowestRecord, recordFault, timesChildOf, shapeFault, scopeFault, isTermOrPredicate}
+use Rattle.rules.specs.Checker.{highestNamed}
+use Rattle.checker.specs.Searches.{searchOf, noted}
 
 unfoldable pub bit : ℕ → ℕ → Bool
 bit s zero = eqb (s % 2) 1
@@ -24,16 +25,43 @@ outOfScope k v s =
       | false ↦ elim (eqb k 47) [ true ↦ bit s v | false ↦ false ]
     ]
 
--- after record n the notes have f of its children, and what they had of the others
+-- after record n there is f of its children, and what there was of the others
 pub record Given (l : Language) (t : List ℕ) (n : ℕ) (f : ℕ → ℕ) (before after : List ℕ) : Type 0 where
-  pub size : length after ≡ noteCount
-  pub values : (j : ℕ) → j < noteCount → getD after j 0 ≡ cond (ltb 0 (timesChildOf l t n j)) (f j) (getD before j 0)
+  pub size : length after ≡ length before
+  pub values : (j : ℕ) → j < length before
+      → getD after j 0 ≡ cond (ltb 0 (timesChildOf l t n j)) (f j) (getD before j 0)
 
--- rules 2 to 6 are kept
-pub record Kept (l : Language) (t : List ℕ) : Type 0 where
-  pub few : recordCount t ≤ targetLimit
+-- after record n scope s is noted of its children
+pub record Noted (l : Language) (t : List ℕ) (n s : ℕ) (before after : List ℕ) : Type 0 where
+  pub size : length after ≡ length before
+  pub values : (j : ℕ) → j < length before → getD after j 0 ≡ noted s (timesChildOf l t n j) (getD before j 0)
+
+-- rules 1 and 2 are kept
+pub record Sized (l : Language) (t : List ℕ) : Type 0 where
+  pub some : 0 < recordCount t
+  pub few : recordCount t ≤ recordLimit l
+
+-- rules 1 to 5 are kept
+pub record Formed (l : Language) (t : List ℕ) : Type 0 where
+  pub sized : Sized l t
   pub records : lowestRecord t (λ n. ltb 0 (recordFault l t n)) ≡ Search.Nothing
+
+-- rules 1 to 6 are kept
+pub record Kept (l : Language) (t : List ℕ) : Type 0 where
+  pub formed : Formed l t
   pub shapes : lowestRecord t (shapeFault l t) ≡ Search.Nothing
+
+-- a note for each record of a table that keeps 1 to 5, nothing being noted yet
+pub record Ready (l : Language) (t notes : List ℕ) : Type 0 where
+  pub formed : Formed l t
+  pub size : recordCount t < length notes
+  pub nothing : (j : ℕ) → getD notes j 0 ≡ 0
+
+-- the lowest records that break 6 and 7, the second being right where no record breaks 6
+pub record Found (l : Language) (t : List ℕ) (misshapen hidden : ℕ) : Type 0 where
+  pub formed : Formed l t
+  pub shapes : lowestRecord t (shapeFault l t) ≡ searchOf misshapen
+  pub scopes : Kept l t → lowestRecord t (scopeFault l t) ≡ searchOf hidden
 
 -- a term or predicate of kind k at level n that names a temporary above 63
 abbrev pub tooDeep : ℕ → ℕ → Bool

@@ -1,12 +1,12 @@
 -- A record that is looked for, as a number; and what is noted of records that are children.
-use Prim.Native.Nat.{ℕ, zero, suc, _+_, _/_, _%_, _<_}
+use Prim.Native.Nat.{ℕ, zero, suc, _/_, _%_, _<_, _≤_}
+use mathlib.Core.Bool.{cond}
 use mathlib.Core.List.{List}
-use mathlib.Core.Path.{_≡_}
+use lib.Dec.{eqb}
 use lib.ListN.{length, getD, set}
-use Rattle.rules.specs.Sizes.{targetLimit}
+use Rattle.rules.specs.Sizes.{sourceLimit, targetLimit}
 use Rattle.rules.specs.declared.{Search.Search}
-use Rattle.rules.specs.Kinds.{Language, Field, unnamed, child, number}
-use Rattle.rules.specs.Checker.{timesChild}
+use Rattle.rules.specs.Kinds.{Field, unnamed, child, number}
 use Rattle.checker_forms.specs.Codes.{fieldFrom}
 
 -- 0 is none
@@ -14,7 +14,11 @@ abbrev pub searchOf : ℕ → Search
 searchOf zero = Search.Nothing
 searchOf (suc n) = Search.At (suc n)
 
--- v noted of x where a field has it for a child
+-- a level for each record of the longest source table, and for 0
+abbrev pub levelCount : ℕ
+levelCount = suc sourceLimit
+
+-- v put for x where a field has it for a child
 abbrev pub putIn : Field → ℕ → ℕ → List ℕ → List ℕ
 putIn unnamed x v l = l
 putIn (child s) x v l = set l x v
@@ -26,20 +30,23 @@ putThree form a b c u v w l =
     putIn (fieldFrom (form / 16 % 16)) c w
     (putIn (fieldFrom (form / 256 % 16)) b v (putIn (fieldFrom (form / 4096 % 16)) a u l))
 
--- one more
-abbrev pub countIn : Field → ℕ → List ℕ → List ℕ
-countIn f x l = putIn f x (getD l x 0 + 1) l
+-- the note of a child of a record with scope s below it: s for the first parent met, 2 from the second on
+abbrev pub joined : ℕ → ℕ → ℕ
+joined s v = cond (eqb v 0) s 2
 
-abbrev pub countThree : ℕ → ℕ → ℕ → ℕ → List ℕ → List ℕ
-countThree form a b c l =
-    countIn (fieldFrom (form / 16 % 16)) c
-    (countIn (fieldFrom (form / 256 % 16)) b (countIn (fieldFrom (form / 4096 % 16)) a l))
+-- of one that is its child k times
+abbrev pub noted : ℕ → ℕ → ℕ → ℕ
+noted s zero v = v
+noted s (suc k) v = joined s (noted s k v)
 
--- a note for each record of the longest table, and for 0
-abbrev pub noteCount : ℕ
-noteCount = suc targetLimit
+abbrev pub noteIn : ℕ → Field → ℕ → List ℕ → List ℕ
+noteIn s f x l = putIn f x (joined s (getD l x 0)) l
 
--- the notes have how often each record is a child of the records 1 .. k
-pub record Counted (l : Language) (t : List ℕ) (k : ℕ) (notes : List ℕ) : Type 0 where
-  pub size : length notes ≡ noteCount
-  pub counts : (j : ℕ) → j < noteCount → getD notes j 0 ≡ timesChild l t k j
+abbrev pub noteThree : ℕ → ℕ → ℕ → ℕ → ℕ → List ℕ → List ℕ
+noteThree s form a b c l =
+    noteIn s (fieldFrom (form / 16 % 16)) c
+    (noteIn s (fieldFrom (form / 256 % 16)) b (noteIn s (fieldFrom (form / 4096 % 16)) a l))
+
+-- there is a note for x, if a field with digit d has it for a child
+abbrev pub Room : ℕ → ℕ → List ℕ → Type 0
+Room d x l = 0 < d → d ≤ 5 → (x < length l) × (x ≤ targetLimit)

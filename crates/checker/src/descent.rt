@@ -2,37 +2,38 @@
 ghost use mathlib.Core.Path.{_≡_};
 ghost use Prim.Native.Nat.{ℕ, _<_};
 ghost use lib.ListN.{length};
-ghost use Rattle.rules.specs.Records.{fieldsOf, kindOf, recordAt};
+ghost use Rattle.rules.specs.Records.{fieldsOf, recordCount, kindOf, recordAt};
 ghost use Rattle.rules.specs.Kinds.{source};
 ghost use Rattle.rules.specs.Checker.{levelBelow, positionIn};
 ghost use Rattle.table.specs.Within.{Within};
 ghost use Rattle.checker_forms.specs.Codes.{languageOf};
-ghost use Rattle.checker.specs.Searches.{noteCount};
-ghost use Rattle.checker.specs.Scopes.{Given};
+ghost use Rattle.checker.specs.Searches.{levelCount};
+ghost use Rattle.checker.specs.Scopes.{Given, Noted, Formed};
 use super::levels::child_level;
-use super::notes::Notes;
+use super::notes::Levels;
+use super::notes::note_children;
 use super::notes::put_children;
 
-// The same number to each.
-pub fn pass_scope(target: bool, table: &[u8], n: usize, scope: u64, notes: &mut Notes)
-    requires { ⌜ Within (now table) n × (length (now notes) ≡ noteCount) ⌝ }
-    ensures { λ _. ⌜ Given (languageOf target) (now (table .entry)) n (λ (j : ℕ). scope)
-        (now (notes .entry)) (now (notes .exit)) ⌝ }
+// The same scope to each.
+pub fn pass_scope(target: bool, table: &[u8], n: usize, scope: u64, notes: &mut [u64])
+    requires { ⌜ Within (now table) n × Formed (languageOf target) (now table)
+        × (recordCount (now table) < length (now notes)) ⌝ }
+    ensures { λ _. ⌜ Noted (languageOf target) (now (table .entry)) n scope (now (notes .entry)) (now (notes .exit)) ⌝ }
 {
     let form = checker_forms::form_of(target, table::kind(table, n));
     let a = table::child_a(table, n);
     let b = table::child_b(table, n);
     let c = table::child_c(table, n);
-    put_children(notes, form, a, b, c, scope, scope, scope);
+    note_children(notes, form, a, b, c, scope);
 }
 
 // Its level to each.
-pub fn pass_level(table: &[u8], n: usize, level: u64, notes: &mut Notes)
-    requires { ⌜ Within (now table) n × (length (now notes) ≡ noteCount) × (level < 65535) ⌝ }
+pub fn pass_level(table: &[u8], n: usize, level: u64, levels: &mut Levels)
+    requires { ⌜ Within (now table) n × (length (now levels) ≡ levelCount) × (level < 65535) ⌝ }
     ensures { λ _. ⌜ Given source (now (table .entry)) n
         (λ (j : ℕ). levelBelow (kindOf (now (table .entry)) n)
         (positionIn (fieldsOf (recordAt (now (table .entry)) n)) j) level)
-        (now (notes .entry)) (now (notes .exit)) ⌝ }
+        (now (levels .entry)) (now (levels .exit)) ⌝ }
 {
     let kind = table::kind(table, n);
     let a = table::child_a(table, n);
@@ -41,5 +42,14 @@ pub fn pass_level(table: &[u8], n: usize, level: u64, notes: &mut Notes)
     let u = child_level(kind, a, b, c, a, level);
     let v = child_level(kind, a, b, c, b, level);
     let w = child_level(kind, a, b, c, c, level);
-    put_children(notes, checker_forms::form_of(false, kind), a, b, c, u, v, w);
+    put_children(
+        levels,
+        checker_forms::form_of(false, kind),
+        a,
+        b,
+        c,
+        u,
+        v,
+        w,
+    );
 }

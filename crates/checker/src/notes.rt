@@ -1,20 +1,30 @@
-// What is noted of each record: how often it is a child, the variables in scope at it, or its level.
+// What is noted of each record. For 6 and 7: 0 before a parent is met, then the variables in scope below the parent,
+// an odd number since variable 0 always is, and 2 from the second parent on. For 8: the level.
 ghost use mathlib.Core.Path.{_≡_};
-ghost use Prim.Native.Nat.{ℕ, _<_};
-ghost use lib.ListN.{length, getD};
+ghost use lib.ListN.{length};
 ghost use Rattle.checker_forms.specs.Codes.{fieldFrom};
-ghost use Rattle.checker.specs.Searches.{putIn, putThree, countIn, countThree, noteCount};
-use rules::TARGET_LIMIT;
+ghost use Rattle.checker.specs.Searches.{putIn, putThree, levelCount, joined, noteIn, noteThree, Room};
+ghost use Prim.Native.Nat.{_/_, _%_};
+use rules::SOURCE_LIMIT;
 
-// A note for each record of the longest table, and for 0.
-pub const NOTE_COUNT: usize = TARGET_LIMIT + 1;
+// A level for each record of the longest source table, and for 0.
+pub const LEVEL_COUNT: usize = SOURCE_LIMIT + 1;
 
-pub type Notes = [u64; NOTE_COUNT];
+pub type Levels = [u64; LEVEL_COUNT];
 
-// v is noted of x where a field with this digit has it for a child.
-fn put_child(notes: &mut Notes, digit: usize, x: usize, v: u64)
-    requires { ⌜ length (now notes) ≡ noteCount ⌝ }
-    ensures { λ _. ⌜ now (notes .exit) ≡ putIn (fieldFrom digit) x v (now (notes .entry)) ⌝ }
+fn join(scope: u64, v: u64) -> u64
+    ensures { λ r. ⌜ r ≡ joined scope v ⌝ }
+{
+    if v == 0 {
+        return scope;
+    }
+    2
+}
+
+// One more parent of x, where a field with this digit has it for a child.
+fn note_child(notes: &mut [u64], digit: usize, x: usize, scope: u64)
+    requires { ⌜ Room digit x (now notes) ⌝ }
+    ensures { λ _. ⌜ now (notes .exit) ≡ noteIn scope (fieldFrom digit) x (now (notes .entry)) ⌝ }
 {
     if digit == 0 {
         return;
@@ -22,14 +32,38 @@ fn put_child(notes: &mut Notes, digit: usize, x: usize, v: u64)
     if 5 < digit {
         return;
     }
-    if TARGET_LIMIT < x {
+    notes[x] = join(scope, notes[x]);
+}
+
+pub fn note_children(notes: &mut [u64], form: usize, a: usize, b: usize, c: usize, scope: u64)
+    requires { ⌜ Room (form / 4096 % 16) a (now notes) × Room (form / 256 % 16) b (now notes)
+        × Room (form / 16 % 16) c (now notes) ⌝ }
+    ensures { λ _. ⌜ now (notes .exit) ≡ noteThree scope form a b c (now (notes .entry)) ⌝ }
+{
+    note_child(notes, form / 4096 % 16, a, scope);
+    note_child(notes, form / 256 % 16, b, scope);
+    note_child(notes, form / 16 % 16, c, scope);
+}
+
+// v is put for x where a field with this digit has it for a child.
+fn put_child(levels: &mut Levels, digit: usize, x: usize, v: u64)
+    requires { ⌜ length (now levels) ≡ levelCount ⌝ }
+    ensures { λ _. ⌜ now (levels .exit) ≡ putIn (fieldFrom digit) x v (now (levels .entry)) ⌝ }
+{
+    if digit == 0 {
         return;
     }
-    notes[x] = v;
+    if 5 < digit {
+        return;
+    }
+    if SOURCE_LIMIT < x {
+        return;
+    }
+    levels[x] = v;
 }
 
 pub fn put_children(
-    notes: &mut Notes,
+    levels: &mut Levels,
     form: usize,
     a: usize,
     b: usize,
@@ -38,29 +72,10 @@ pub fn put_children(
     v: u64,
     w: u64,
 )
-    requires { ⌜ length (now notes) ≡ noteCount ⌝ }
-    ensures { λ _. ⌜ now (notes .exit) ≡ putThree form a b c u v w (now (notes .entry)) ⌝ }
+    requires { ⌜ length (now levels) ≡ levelCount ⌝ }
+    ensures { λ _. ⌜ now (levels .exit) ≡ putThree form a b c u v w (now (levels .entry)) ⌝ }
 {
-    put_child(notes, form / 4096 % 16, a, u);
-    put_child(notes, form / 256 % 16, b, v);
-    put_child(notes, form / 16 % 16, c, w);
-}
-
-fn count_child(notes: &mut Notes, digit: usize, x: usize)
-    requires { ⌜ (length (now notes) ≡ noteCount) × (getD (now notes) x 0 < 65535) ⌝ }
-    ensures { λ _. ⌜ now (notes .exit) ≡ countIn (fieldFrom digit) x (now (notes .entry)) ⌝ }
-{
-    if x < NOTE_COUNT {
-        let v = notes[x] + 1;
-        put_child(notes, digit, x, v);
-    }
-}
-
-pub fn count_children(notes: &mut Notes, form: usize, a: usize, b: usize, c: usize)
-    requires { ⌜ (length (now notes) ≡ noteCount) × ((j : ℕ) → getD (now notes) j 0 < 65533) ⌝ }
-    ensures { λ _. ⌜ now (notes .exit) ≡ countThree form a b c (now (notes .entry)) ⌝ }
-{
-    count_child(notes, form / 4096 % 16, a);
-    count_child(notes, form / 256 % 16, b);
-    count_child(notes, form / 16 % 16, c);
+    put_child(levels, form / 4096 % 16, a, u);
+    put_child(levels, form / 256 % 16, b, v);
+    put_child(levels, form / 16 % 16, c, w);
 }

@@ -1,7 +1,7 @@
 // The variables in scope, a bit for each.
 ghost use mathlib.Core.Path.{_≡_};
 ghost use mathlib.Core.Bool.{_&&_, _||_};
-ghost use Prim.Native.Nat.{ℕ, _<_};
+ghost use Prim.Native.Nat.{ℕ, _%_, _<_};
 ghost use lib.Dec.{eqb};
 ghost use Rattle.checker.specs.Scopes.{bit, outOfScope};
 
@@ -33,13 +33,15 @@ pub fn is_out_of_scope(kind: u8, mark: u8, scope: u64) -> bool
     false
 }
 
-// The variables in scope below it.
+// The variables in scope below it, 0 among them also where it is misshapen and has no scope.
 pub fn scope_below(kind: u8, mark: u8, scope: u64) -> u64
     requires { ⌜ (kind ≡ 47 → mark < 64) ⌝ }
-    ensures { λ r. ⌜ ((y : ℕ) → bit r y ≡ ((eqb kind 47 && eqb mark y) || bit scope y)) ⌝ }
+    ensures { λ r. ⌜ (r % 2 ≡ 1)
+        × (scope % 2 ≡ 1 → (y : ℕ) → bit r y ≡ ((eqb kind 47 && eqb mark y) || bit scope y)) ⌝ }
 {
+    let odd = with_bit(scope, 0);
     if kind == 47 {
-        return with_bit(scope, mark as u64);
+        return with_bit(odd, mark as u64);
     }
-    scope
+    odd
 }

@@ -11,7 +11,7 @@ use Rattle.rules.specs.Checker.{lowestRecord, recordFault, shapeFault, scopeFau
 use Rattle.checker_forms.specs.Codes.{languageOf}
 use Rattle.checker.specs.Scopes.{Kept}
 use Rattle.checker.specs.Order.{fromScopes, fromShapes, fromRecords}
-use Rattle.checker.proofs.OrderLaws.{next-none, next-at, none-found}
+use Rattle.checker.proofs.OrderLaws.{next-none, next-at, none-found, limit-most}
 use Rattle.checker.proofs.Lowest.{found-in}
 use Rattle.checker.proofs.check_records.Statement.{statement}
 use Rattle.checker.proofs.check_records.Tie as tie
@@ -20,16 +20,16 @@ lowest-fault-requires : tie.Need-lowest-fault-requires
 lowest-fault-requires c κs =
     tt
 
-check-shapes-requires : tie.Need-check-shapes-requires
-check-shapes-requires c κs =
+check-formed-requires : tie.Need-check-formed-requires
+check-formed-requires c κs =
     let s = c .before .before .before in
     let l = languageOf (s .args .target) in
-    let t = s .args .table .now in (
-      s .pre,
-      none-found (lowestRecord t (λ n. ltb 0 (recordFault l t n))) (c .before .lowest-fault .result)
-          (c .before .lowest-fault .ensures)
-          (c .if1 .taken),
-    )
+    let t = s .args .table .now in
+    record {
+      sized = s .pre;
+      records = none-found (lowestRecord t (λ n. ltb 0 (recordFault l t n))) (c .before .lowest-fault .result)
+          (c .before .lowest-fault .ensures) (c .if1 .taken);
+    }
 
 returns : tie.Need-returns
 unfolding fromRecords
@@ -37,7 +37,7 @@ returns c =
     let a = c .before .before .before .before .args in
     let l = languageOf (a .target) in
     let t = a .table .now in
-    c .check-shapes .ensures
+    c .check-formed .ensures
     ∙ next-none (recordFault l t) (lowestRecord t (λ n. ltb 0 (recordFault l t n)))
     (c .before .before .lowest-fault .result) (fromShapes l t) (c .before .before .lowest-fault .ensures)
     (c .before .if1 .taken)
@@ -61,7 +61,8 @@ refuse-requires c κs =
     let t = s .args .table .now in
     omega (
       arith,
-      s .pre,
+      s .pre .few,
+      limit-most (s .args .target),
       found-in (λ n. ltb 0 (recordFault l t n)) (recordCount t) (c .before .before .lowest-fault .result)
           (c .before .before .lowest-fault .ensures),
     )
@@ -81,5 +82,5 @@ returns-2 c =
 
 pub check-records-spec : {M : Type 1} → statement M
 check-records-spec =
-    tie.close (tie.spec lowest-fault-requires check-shapes-requires returns record-fault-requires refuse-requires
+    tie.close (tie.spec lowest-fault-requires check-formed-requires returns record-fault-requires refuse-requires
     returns-2)

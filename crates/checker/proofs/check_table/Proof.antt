@@ -2,8 +2,9 @@
 use Prim.Native.Nat.{ℕ, _<_, _≤_}
 use native.Mathlib.Omega.{arith}
 use mathlib.Core.Path.{_≡_, _∙_}
+use lib.ListN.{length}
 use Rattle.checker_forms.specs.Codes.{languageOf}
-use Rattle.checker.proofs.OrderLaws.{check-empty, check-uneven, check-many, check-rest, limit-most}
+use Rattle.checker.proofs.OrderLaws.{check-empty, check-uneven, check-many, check-rest, some-record}
 use Rattle.checker.proofs.check_table.Statement.{statement}
 use Rattle.checker.proofs.check_table.Tie as tie
 
@@ -38,7 +39,10 @@ check-records-requires c κs =
     let a = c .before .before .before .before .before .args in
     let l = languageOf (a .target) in
     let t = a .table .now in
-    omega (arith, c .if3 .left, c .before .limit .ensures, limit-most (a .target))
+    record {
+      some = some-record (length t) (c .before .before .before .if1 .left) (c .before .before .if2 .left);
+      few = omega (arith, c .if3 .left, c .before .limit .ensures);
+    }
 
 returns-4 : tie.Need-returns-4
 returns-4 c =

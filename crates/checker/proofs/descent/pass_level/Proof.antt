@@ -56,10 +56,10 @@ returns c =
     let f : ℕ → ℕ = λ j. levelBelow (kindOf t (a .n)) (positionIn (fieldsOf (recordAt t (a .n))) j) (a .level) in
     let k : Coded source (kindOf t (a .n)) x = subst (λ (k : ℕ). Coded source k x) kind (c .before .form-of .ensures) in
     let put : c .put-children .last .0
-    ≡ putThree x (childA t (a .n)) (childB t (a .n)) (childC t (a .n)) u v w (a .notes .now) =
-    c .put-children .ensures ∙ (λ i. putThree x (ea i) (eb i) (ec i) u v w (a .notes .now)) in
-    subst (λ (m : List ℕ). Given source t (a .n) f (a .notes .now) m) (sym put)
-    (given-three source t (a .n) x k u v w f (a .notes .now) (s .pre .1)
+    ≡ putThree x (childA t (a .n)) (childB t (a .n)) (childC t (a .n)) u v w (a .levels .now) =
+    c .put-children .ensures ∙ (λ i. putThree x (ea i) (eb i) (ec i) u v w (a .levels .now)) in
+    subst (λ (m : List ℕ). Given source t (a .n) f (a .levels .now) m) (sym put)
+    (given-three source t (a .n) x k u v w f (a .levels .now)
     (c .before .before .before .before .before .child-level .ensures
     ∙ (λ i. levelBelow (kind i) (positionIn (ea i ∷ eb i ∷ ec i ∷ []) (ea i)) (a .level)))
     (c .before .before .before .before .child-level2 .ensures

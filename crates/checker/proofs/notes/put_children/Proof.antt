@@ -17,7 +17,7 @@ put-child-requires-2 : tie.Need-put-child-requires-2
 put-child-requires-2 c κs =
     let a = c .before .before .before .args in
     ap length (c .before .put-child .ensures)
-    ∙ put-length (fieldFrom (a .form / 4096 % 16)) (a .a) (a .u) (a .notes .now)
+    ∙ put-length (fieldFrom (a .form / 4096 % 16)) (a .a) (a .u) (a .levels .now)
     ∙ c .before .before .before .pre
 
 put-child-requires-3 : tie.Need-put-child-requires-3
@@ -27,7 +27,7 @@ put-child-requires-3 c κs =
     ap length (c .before .put-child2 .ensures)
     ∙ put-length (fieldFrom (a .form / 256 % 16)) (a .b) (a .v) l
     ∙ ap length (c .before .before .before .put-child .ensures)
-    ∙ put-length (fieldFrom (a .form / 4096 % 16)) (a .a) (a .u) (a .notes .now)
+    ∙ put-length (fieldFrom (a .form / 4096 % 16)) (a .a) (a .u) (a .levels .now)
     ∙ c .before .before .before .before .before .pre
 
 returns : tie.Need-returns

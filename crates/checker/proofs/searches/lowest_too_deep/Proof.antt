@@ -12,41 +12,41 @@ use Rattle.rules.specs.Records.{fieldsOf, recordCount, kindOf, markOf, recordAt
 use Rattle.rules.specs.Kinds.{source}
 use Rattle.rules.specs.Checker.{scopeFault, levelFault, recordFault, levelBelow, positionIn, levelOf}
 use Rattle.checker_forms.specs.Codes.{languageOf}
-use Rattle.checker.specs.Searches.{noteCount}
+use Rattle.checker.specs.Searches.{levelCount}
 use Rattle.checker.specs.Scopes.{bit, outOfScope, tooDeep, Kept}
 use Rattle.rules.proofs.acceptance.ParentLaws.{Passed, IsParent}
 use Rattle.checker.proofs.DescentLaws.{passed-of, Known, known-start, known-here, known-down}
 use Rattle.checker.proofs.RightLaws.{Scoped, mark-used, mark-let, scoped-last, scoped-child, scoped-fault}
 use Rattle.checker.proofs.RightLaws.{Levelled, level-most, levelled-last, levelled-child, levelled-fault}
-use Rattle.checker.proofs.Starts.{scopes-start, levels-start}
+use Rattle.checker.proofs.Starts.{levels-start}
 use Rattle.checker.proofs.Lowest.{Lowest, lowest-start, lowest-down, lowest-end}
 use Rattle.checker.proofs.searches.lowest_too_deep.Statement.{statement}
 use Rattle.checker.proofs.searches.lowest_too_deep.Tie as tie
 
 low-level : (t : List ℕ) (n v : ℕ) → Kept source t → Levelled t n v → v < 65535
-low-level t n v kept h = omega (arith, level-most t (recordCount t) n, kept .few)
+low-level t n v kept h = omega (arith, level-most t (recordCount t) n, kept .formed .sized .few)
 
 abbrev Inv-loop : tie.InvT-loop
-Inv-loop table notes₀ found₀ n₀ notes found n =
-    (n ≤ recordCount table) × Known (Levelled table) source table n notes
-    × Lowest (levelFault table) (recordCount table) n found
+Inv-loop table levels₀ found₀ n₀ levels found n =
+    (n ≤ recordCount table) × Known (Levelled table) source table n levels
+    × Lowest (levelFault table) (recordCount table) n found × (length levels ≡ levelCount)
 
 abbrev μ-loop : tie.MeasureT-loop
-μ-loop table notes₀ found₀ n₀ notes found n = n
+μ-loop table levels₀ found₀ n₀ levels found n = n
 
 loop-holds : tie.Need-loop-holds Inv-loop μ-loop
 loop-holds c =
     let s = c .before in
     let t = s .args .table .now in
-    (omega arith, levels-start t (s .pre) noteCount refl, lowest-start (levelFault t) (recordCount t))
+    (omega arith, levels-start t (s .pre) levelCount refl, lowest-start (levelFault t) (recordCount t), length-replicate {A = ℕ} levelCount 0)
 
 mul-level : tie.Need-mul-level Inv-loop μ-loop
 mul-level c =
-    omega (arith, c .before .before .before .pre .few, c .before .loop .inv .0)
+    omega (arith, c .before .before .before .pre .formed .sized .few, c .before .loop .inv .0)
 
 array-read-level : tie.Need-array-read-level Inv-loop μ-loop
 array-read-level c =
-    omega (arith, c .before .before .before .pre .few, c .before .loop .inv .0)
+    omega (arith, c .before .before .before .pre .formed .sized .few, c .before .loop .inv .0)
 
 kind-requires : tie.Need-kind-requires Inv-loop μ-loop
 kind-requires c κs =
@@ -59,9 +59,9 @@ is-too-deep-requires c κs =
     let e = c .before .before .loop in
     let taken : 0 < e .n = c .before .loop-test .taken in
     let passed : Passed source t = passed-of source t (s .pre) in
-    let level = getD (e .notes) (e .n) 0 in
+    let level = getD (e .levels) (e .n) 0 in
     let here : Levelled t (e .n) level =
-    known-here (Levelled t) source t passed (e .n) (e .notes) taken (e .inv .0) (e .inv .1) in
+    known-here (Levelled t) source t passed (e .n) (e .levels) taken (e .inv .0) (e .inv .1) in
     low-level t (e .n) level (s .pre) here
 
 lower-requires : tie.Need-lower-requires Inv-loop μ-loop
@@ -75,10 +75,10 @@ pass-level-requires c κs =
     let e = c .before .before .before .before .before .loop in
     let taken : 0 < e .n = c .before .before .before .before .loop-test .taken in
     let passed : Passed source t = passed-of source t (s .pre) in
-    let level = getD (e .notes) (e .n) 0 in
+    let level = getD (e .levels) (e .n) 0 in
     let here : Levelled t (e .n) level =
-    known-here (Levelled t) source t passed (e .n) (e .notes) taken (e .inv .0) (e .inv .1) in
-    ((taken, e .inv .0), e .inv .1 .size, low-level t (e .n) level (s .pre) here)
+    known-here (Levelled t) source t passed (e .n) (e .levels) taken (e .inv .0) (e .inv .1) in
+    ((taken, e .inv .0), e .inv .3, low-level t (e .n) level (s .pre) here)
 
 sub-n : tie.Need-sub-n Inv-loop μ-loop
 sub-n c = omega arith
@@ -93,13 +93,13 @@ loop-again c =
     let e = c .before .before .before .before .before .before .loop in
     let taken : 0 < e .n = c .before .before .before .before .before .loop-test .taken in
     let passed : Passed source t = passed-of source t (s .pre) in
-    let level = getD (e .notes) (e .n) 0 in
+    let level = getD (e .levels) (e .n) 0 in
     let here : Levelled t (e .n) level =
-    known-here (Levelled t) source t passed (e .n) (e .notes) taken (e .inv .0) (e .inv .1) in
+    known-here (Levelled t) source t passed (e .n) (e .levels) taken (e .inv .0) (e .inv .1) in
     let ek = c .before .before .before .before .kind .ensures in (
       omega arith,
-      known-down (Levelled t) source t passed (s .pre .few) (e .n)
-          (λ j. levelBelow (kindOf t (e .n)) (positionIn (fieldsOf (recordAt t (e .n))) j) level) (e .notes)
+      known-down (Levelled t) source t passed (e .n)
+          (λ j. levelBelow (kindOf t (e .n)) (positionIn (fieldsOf (recordAt t (e .n))) j) level) (e .levels)
           (c .pass-level .last .1 .1 .1 .0)
           taken (e .inv .0) (c .pass-level .ensures) (λ j p. levelled-child t passed (e .n) j level p here) (e .inv .1),
       lowest-down (levelFault t) (recordCount t) (e .n) (e .found) (c .before .before .lower .result)
@@ -108,6 +108,7 @@ loop-again c =
           (c .before .before .before .is-too-deep .ensures ∙ ap (λ (k : ℕ). tooDeep k level) ek
           ∙ levelled-fault t (e .n) level here)
           (c .before .before .lower .ensures) (e .inv .2),
+      c .pass-level .ensures .size ∙ e .inv .3,
     )
 
 returns : tie.Need-returns Inv-loop μ-loop

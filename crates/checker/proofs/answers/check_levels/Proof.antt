@@ -1,4 +1,4 @@
--- `checker::check_levels` meets its contract. Assumes nothing.
+-- `checker::answers::check_levels` meets its contract. Assumes nothing.
 use Prim.Native.Nat.{ℕ}
 use native.Mathlib.Omega.{arith}
 use mathlib.Core.Bool.{Bool, false}
@@ -7,10 +7,10 @@ use Rattle.rules.specs.Records.{recordCount}
 use Rattle.rules.specs.Checker.{levelFault}
 use Rattle.checker_forms.specs.Codes.{languageOf}
 use Rattle.checker.specs.Scopes.{Kept}
-use Rattle.checker.proofs.OrderLaws.{last-target, last-none, last-at}
+use Rattle.checker.proofs.OrderLaws.{last-target, last-none, last-at, limit-most}
 use Rattle.checker.proofs.Lowest.{found-in}
-use Rattle.checker.proofs.check_levels.Statement.{statement}
-use Rattle.checker.proofs.check_levels.Tie as tie
+use Rattle.checker.proofs.answers.check_levels.Statement.{statement}
+use Rattle.checker.proofs.answers.check_levels.Tie as tie
 
 returns : tie.Need-returns
 returns c =
@@ -34,7 +34,8 @@ refuse-requires c κs =
     let t = s .args .table .now in
     omega (
       arith,
-      s .pre .few,
+      s .pre .formed .sized .few,
+      limit-most (s .args .target),
       found-in (levelFault t) (recordCount t) (c .before .lowest-too-deep .result)
           (c .before .lowest-too-deep .ensures),
     )

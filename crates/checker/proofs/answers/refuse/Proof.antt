@@ -1,8 +1,8 @@
--- `checker::refuse` meets its contract. Assumes nothing.
+-- `checker::answers::refuse` meets its contract. Assumes nothing.
 use native.Mathlib.Omega.{arith}
 use borrow.Author.Needs.{needs}
-use Rattle.checker.proofs.refuse.Statement.{statement}
-use Rattle.checker.proofs.refuse.Tie as tie
+use Rattle.checker.proofs.answers.refuse.Statement.{statement}
+use Rattle.checker.proofs.answers.refuse.Tie as tie
 
 cast-record : tie.Need-cast-record
 cast-record c =
