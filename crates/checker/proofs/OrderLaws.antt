@@ -1,6 +1,7 @@
 -- A rule's answer from the record found, and the rules in their order.
 use Prim.Native.Nat.{ℕ, zero, suc, _/_, _%_, _<_, _≤_}
 use native.Mathlib.Omega.{arith}
+use native.Mathlib.Nat.{pos-of-ne-zero}
 use mathlib.Core.Bool.{Bool, true, false, not, _||_}
 use mathlib.Core.List.{List}
 use mathlib.Core.Path.{_≡_, refl, sym, ap, _∙_}
@@ -11,16 +12,20 @@ use Rattle.rules.specs.Sizes.{targetLimit}
 use Rattle.rules.specs.declared.{Search.Search, Checked.Checked}
 use Rattle.rules.specs.Records.{recordCount}
 use Rattle.rules.specs.Kinds.{Language, source, target, recordLimit}
-use Rattle.rules.specs.Checker.{lowestRecord, lengthFault, countFault, shapeFault}
+use Rattle.rules.specs.Checker.{lowestRecord, lengthFault, countFault, recordFault, shapeFault}
 use Rattle.rules.specs.Checker.{levelFault, refuseIf, refuseAt, _otherwise_, lastRule, check}
+use Rattle.rules.proofs.lists.SearchLaws.{lowest-at, lowest-nothing}
 use Rattle.checker_forms.specs.Codes.{languageOf}
 use Rattle.checker.specs.Searches.{searchOf}
 use Rattle.checker.specs.Scopes.{Found, Kept}
 use Rattle.checker.specs.Order.{orNext, fromScopes, fromShapes, fromRecords}
 
+pub next-nothing : (rule : ℕ → ℕ) (s : Search) (next : Checked) → s ≡ Search.Nothing → next ≡ orNext rule s next
+next-nothing rule s next e = sym (ap (λ (x : Search). orNext rule x next) e)
+
 pub next-none : (rule : ℕ → ℕ) (s : Search) (r : ℕ) (next : Checked) → s ≡ searchOf r → r ≡ 0
     → next ≡ orNext rule s next
-next-none rule s r next e h = sym (ap (λ (x : Search). orNext rule x next) (e ∙ ap searchOf h))
+next-none rule s r next e h = next-nothing rule s next (e ∙ ap searchOf h)
 
 pub next-at : (rule : ℕ → ℕ) (s : Search) (r : ℕ) (next : Checked) → s ≡ searchOf r → (r ≡ 0 → ⊥)
     → Checked.Refused (rule r) r ≡ orNext rule s next
@@ -36,6 +41,26 @@ kept-of l t misshapen hidden h e = record {
   formed = h .formed;
   shapes = none-found (lowestRecord t (shapeFault l t)) misshapen (h .shapes) e;
 }
+
+-- ---- rules 3 to 5, tried record by record
+module _ (l : Language) (t : List ℕ) (n : ℕ) (before : (i : ℕ) → 1 ≤ i → i < n → recordFault l t i ≡ 0) where
+  abbrev faulty : ℕ → Bool
+  faulty i = ltb 0 (recordFault l t i)
+
+  none-before : (i : ℕ) → 1 ≤ i → i < n → faulty i ≡ false
+  none-before i a b = le-ltb 0 (recordFault l t i) (omega (arith, before i a b))
+
+  pub record-refused : (k : ℕ) → 1 ≤ n → n ≤ recordCount t → k ≡ recordFault l t n → (k ≡ 0 → ⊥)
+      → Checked.Refused k n ≡ fromRecords l t
+  unfolding fromRecords
+  record-refused k a b e h =
+      let some : 0 < recordFault l t n = omega (arith, e, pos-of-ne-zero h) in
+      ap (λ (i : ℕ). Checked.Refused i n) e
+      ∙ sym (ap (λ (s : Search). orNext (recordFault l t) s (fromShapes l t))
+      (lowest-at faulty 1 (recordCount t) n a (omega arith) (lt-ltb 0 (recordFault l t n) some) none-before))
+
+  pub no-record : recordCount t < n → lowestRecord t faulty ≡ Search.Nothing
+  no-record h = lowest-nothing faulty 1 (recordCount t) (λ i a b. none-before i a (omega arith))
 
 -- ---- rule 8
 pub last-target : (b : Bool) (t : List ℕ) → b ≡ true → Checked.Accepted ≡ lastRule (languageOf b) t

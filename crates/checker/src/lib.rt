@@ -55,11 +55,15 @@ fn check_records(target: bool, table: &[u8]) -> Checked
     requires { ⌜ Sized (languageOf target) (now table) ⌝ }
     ensures { λ r. ⌜ r ≡ fromRecords (languageOf target) (now (table .entry)) ⌝ }
 {
-    let n = searches::lowest_fault(target, table);
-    if n == 0 {
-        return check_formed(target, table);
+    let mut n = 0;
+    while n < table.len() / 16 {
+        n += 1;
+        let rule = checker_forms::record_fault(target, table, n);
+        if rule != 0 {
+            return answers::refuse(rule, n);
+        }
     }
-    answers::refuse(checker_forms::record_fault(target, table, n), n)
+    check_formed(target, table)
 }
 
 fn limit(target: bool) -> usize

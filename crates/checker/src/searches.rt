@@ -1,11 +1,8 @@
-// The lowest record that breaks a rule, as its number; 0 where none does. Each search goes down from the last record.
+// The lowest record that breaks a rule, as its number; 0 where none does. A search goes down from the last record.
 ghost use mathlib.Core.Path.{_≡_};
 ghost use mathlib.Core.Bool.{cond};
-ghost use Prim.Native.Nat.{ℕ};
-ghost use lib.Dec.{ltb};
 ghost use Rattle.rules.specs.Kinds.{source};
-ghost use Rattle.rules.specs.Checker.{lowestRecord, recordFault, levelFault};
-ghost use Rattle.checker_forms.specs.Codes.{languageOf};
+ghost use Rattle.rules.specs.Checker.{lowestRecord, levelFault};
 ghost use Rattle.checker.specs.Searches.{searchOf};
 ghost use Rattle.checker.specs.Scopes.{Kept};
 use super::descent::pass_level;
@@ -18,19 +15,6 @@ pub fn lower(fault: bool, n: usize, found: usize) -> usize
 {
     if fault {
         return n;
-    }
-    found
-}
-
-pub fn lowest_fault(target: bool, table: &[u8]) -> usize
-    ensures { λ r. ⌜ lowestRecord (now (table .entry))
-        (λ (n : ℕ). ltb 0 (recordFault (languageOf target) (now (table .entry)) n)) ≡ searchOf r ⌝ }
-{
-    let mut found = 0;
-    let mut n = table.len() / 16;
-    while 0 < n {
-        found = lower(0 < checker_forms::record_fault(target, table, n), n, found);
-        n -= 1;
     }
     found
 }

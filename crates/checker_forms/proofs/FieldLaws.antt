@@ -1,5 +1,5 @@
 -- What a field's and a literal's digit ask, test by test.
-use Prim.Native.Nat.{ℕ, zero, suc, _<_, _≤_}
+use Prim.Native.Nat.{ℕ, zero, suc, _/_, _%_, _<_, _≤_}
 use native.Mathlib.Omega.{arith}
 use mathlib.Core.Bool.{Bool, true, false, _&&_, _||_}
 use mathlib.Core.Path.{_≡_, refl, sym, ap, _∙_}
@@ -11,7 +11,7 @@ use lib.Signed.{leZ}
 use Rattle.rules.specs.Kinds.{Sort, sortNumber, Field, unnamed, child, number, between, zeroLiteral, anyLiteral}
 use Rattle.rules.specs.Kinds.{statementLiteral}
 use Rattle.rules.specs.Checker.{fieldFits, literalFits}
-use Rattle.checker_forms.specs.Codes.{sortFrom, lows, highs, testFrom, fieldFrom, literalFrom}
+use Rattle.checker_forms.specs.Codes.{sortFrom, bounds, testFrom, fieldFrom, literalFrom}
 
 pub in-range : (low high x : ℕ) → low ≤ x → leb x high ≡ between low high x
 in-range low high x h = sym (ap (λ (b : Bool). b && leb x high) (le-leb low x h))
@@ -31,7 +31,7 @@ pub eight-not : (d x : ℕ) → d ≡ 8 → (x ≡ 8 → ⊥) → between 1 5 x 
 unfolding testFrom
 eight-not d x e h = or-false (between 1 5 x) (eqb x 8) (ne-eqb x 8 h) ∙ sym (ap (λ (n : ℕ). testFrom n x) e)
 
-pub test-range : (d x : ℕ) → (d ≡ 8 → ⊥) → between (getD lows d 0) (getD highs d 0) x ≡ testFrom d x
+pub test-range : (d x : ℕ) → (d ≡ 8 → ⊥) → between (getD bounds d 0 / 256) (getD bounds d 0 % 256) x ≡ testFrom d x
 unfolding testFrom
 test-range d x h = rw (ne-eqb d 8 h, testFrom)
 

@@ -24,18 +24,16 @@ sortFrom (suc (suc (suc zero))) = term
 sortFrom (suc (suc (suc (suc zero)))) = predicate
 sortFrom (suc (suc (suc (suc (suc n))))) = statement
 
--- the numbers that a field with digit 6, 7, .. takes, from the lowest to the highest; 8 is apart
-abbrev pub lows : List ℕ
-lows = 0 ∷ 0 ∷ 0 ∷ 0 ∷ 0 ∷ 0 ∷ 1 ∷ 0 ∷ 0 ∷ 6 ∷ 0 ∷ 0 ∷ 1 ∷ 1 ∷ 0 ∷ 0 ∷ []
-
-abbrev pub highs : List ℕ
-highs = 0 ∷ 0 ∷ 0 ∷ 0 ∷ 0 ∷ 0 ∷ 7 ∷ 63 ∷ 0 ∷ 7 ∷ 61 ∷ 62 ∷ 8 ∷ 5 ∷ 0 ∷ 0 ∷ []
+-- 256 times the lowest number that a field with digit 6, 7, .. takes, and the highest; 8 is apart
+abbrev pub bounds : List ℕ
+bounds =
+    0 ∷ 0 ∷ 0 ∷ 0 ∷ 0 ∷ 0 ∷ 0x0107 ∷ 0x003f ∷ 0 ∷ 0x0607 ∷ 0x003d ∷ 0x003e ∷ 0x0108 ∷ 0x0105 ∷ []
 
 unfoldable pub testFrom : ℕ → ℕ → Bool
 testFrom d =
     elim (eqb d 8) [
       | true ↦ (λ o. between 1 5 o || eqb o 8)
-      | false ↦ (λ o. between (getD lows d 0) (getD highs d 0) o)
+      | false ↦ (λ o. between (getD bounds d 0 / 256) (getD bounds d 0 % 256) o)
     ]
 
 -- 0 is no field, 1 to 5 a child of that sort, 6 on a number

@@ -4,7 +4,7 @@ ghost use mathlib.Core.Path.{_≡_};
 ghost use lib.ListN.{getD};
 ghost use Rattle.rules.specs.Kinds.{between};
 ghost use Rattle.rules.specs.Checker.{fieldFits, literalFits};
-ghost use Rattle.checker_forms.specs.Codes.{lows, highs, testFrom, fieldFrom, literalFrom};
+ghost use Rattle.checker_forms.specs.Codes.{bounds, testFrom, fieldFrom, literalFrom};
 
 fn is_between(low: usize, high: usize, x: usize) -> bool
     ensures { λ r. ⌜ r ≡ between low high x ⌝ }
@@ -15,31 +15,18 @@ fn is_between(low: usize, high: usize, x: usize) -> bool
     false
 }
 
-// The lowest number that a field with this digit takes.
-fn lowest(digit: usize) -> usize
-    ensures { λ r. ⌜ r ≡ getD lows digit 0 ⌝ }
+// The lowest number that a field with this digit takes, 256 times, and the highest.
+fn bounds_of(digit: usize) -> usize
+    ensures { λ r. ⌜ r ≡ getD bounds digit 0 ⌝ }
 {
     match digit {
-        6 => 1,
-        9 => 6,
-        12 => 1,
-        13 => 1,
-        _ => 0,
-    }
-}
-
-// The highest.
-fn highest(digit: usize) -> usize
-    ensures { λ r. ⌜ r ≡ getD highs digit 0 ⌝ }
-{
-    match digit {
-        6 => 7,
-        7 => 63,
-        9 => 7,
-        10 => 61,
-        11 => 62,
-        12 => 8,
-        13 => 5,
+        6 => 0x0107,
+        7 => 0x003f,
+        9 => 0x0607,
+        10 => 0x003d,
+        11 => 0x003e,
+        12 => 0x0108,
+        13 => 0x0105,
         _ => 0,
     }
 }
@@ -53,7 +40,8 @@ fn number_fits(digit: usize, x: usize) -> bool
         }
         return is_between(1, 5, x);
     }
-    is_between(lowest(digit), highest(digit), x)
+    let bounds = bounds_of(digit);
+    is_between(bounds / 256, bounds % 256, x)
 }
 
 pub fn field_fits(digit: usize, x: usize) -> bool
