@@ -5,14 +5,14 @@ use native.Mathlib.Decide.{ℕ-discrete}
 use mathlib.Core.Bool.{Bool, true, false, cond}
 use mathlib.Core.List.{List}
 use mathlib.Core.Path.{_≡_, refl, sym, ap, subst, _∙_}
-use borrow.Author.Tests.{eq-eqb, ne-eqb, eqb-true}
+use borrow.Author.Tests.{eq-eqb, ne-eqb, eqb-true, ltb-true}
 use lib.Dec.{eqb}
 use lib.ListN.{length, getD, set, length-set}
 use lib.Seq.{set-out, getD-set-same, getD-set-other}
 use Rattle.rules.specs.Kinds.{Field, unnamed, child, number}
-use Rattle.rules.specs.Checker.{timesIn}
+use Rattle.rules.specs.Checker.{fieldFits, timesIn}
 use Rattle.checker_forms.specs.Codes.{sortFrom, testFrom, fieldFrom}
-use Rattle.checker.specs.Searches.{putIn, joined, noted, noteIn, noteThree, Room}
+use Rattle.checker.specs.Searches.{putIn, joined, noted, noteIn, noteThree, noteAt, Room}
 use Rattle.checker_forms.proofs.FieldLaws.{field-none, field-child, field-number}
 
 -- ---- by the digit of the field
@@ -93,8 +93,33 @@ noted-add s (suc a) b v =
     let more : suc (a + b) ≡ suc a + b = omega arith in
     ap (joined s) (noted-add s a b v) ∙ ap (λ (k : ℕ). noted s k v) more
 
-pub room-after : (d x : ℕ) (l m : List ℕ) → length m ≡ length l → Room d x l → Room d x m
-room-after d x l m e h p q = omega (arith, e, h p q)
+-- what is noted of a number that fits a field for a child, or for none, is noted by the field
+module _ (s d x : ℕ) (l : List ℕ) (h : fieldFits (fieldFrom d) x ≡ true) where
+  noted-as : (f : Field) → fieldFrom d ≡ f → (fieldFits f x ≡ true → noteAt s x l ≡ noteIn s f x l)
+      → noteAt s x l ≡ noteIn s (fieldFrom d) x l
+  noted-as f e g =
+      g (sym (ap (λ (i : Field). fieldFits i x) e) ∙ h) ∙ ap (λ (i : Field). noteIn s i x l) (sym e)
+
+  pub note-digit : d < 6 → noteAt s x l ≡ noteIn s (fieldFrom d) x l
+  note-digit p = go (ℕ-discrete d 0)
+    where
+      go : Dec (d ≡ 0) → noteAt s x l ≡ noteIn s (fieldFrom d) x l
+      go (yes e) =
+          noted-as unnamed (field-none d e) (λ q. ap (λ (b : Bool). cond b l (set l x (joined s (getD l x 0)))) q)
+      go (no e) =
+          noted-as (child (sortFrom d)) (field-child d e p)
+          (λ q. ap (λ (b : Bool). cond b l (set l x (joined s (getD l x 0))))
+          (ne-eqb x 0 (λ z. omega (arith, ltb-true 0 x q))))
+
+pub note-at-length : (s x : ℕ) (l : List ℕ) → length (noteAt s x l) ≡ length l
+note-at-length s x l = go (eqb x 0)
+  where
+    go : (b : Bool) → length (cond b l (set l x (joined s (getD l x 0)))) ≡ length l
+    go true = refl
+    go false = length-set l x (joined s (getD l x 0))
+
+pub room-after : (x : ℕ) (l m : List ℕ) → length m ≡ length l → Room x l → Room x m
+room-after x l m e h = omega (arith, e, h)
 
 -- of A, B and C
 module _ (s x a b c : ℕ) (l : List ℕ) where

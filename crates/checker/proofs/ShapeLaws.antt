@@ -1,5 +1,5 @@
 -- Rule 6 at a record.
-use Prim.Native.Nat.{ℕ, _/_, _<_}
+use Prim.Native.Nat.{ℕ}
 use native.Mathlib.Omega.{arith}
 use mathlib.Core.Bool.{Bool, true, false, not}
 use mathlib.Core.List.{List}
@@ -9,7 +9,6 @@ use lib.Dec.{eqb}
 use Rattle.rules.specs.Records.{recordCount, kindOf}
 use Rattle.rules.specs.Kinds.{Language, statement, sortNumber}
 use Rattle.rules.specs.Checker.{sortOf, timesChild, shapeFault}
-use Rattle.checker_forms.specs.Codes.{Coded}
 
 abbrev pickShape : Bool → Bool → Bool → Bool
 pickShape b p q = elim b [ true ↦ p | false ↦ q ]
@@ -20,11 +19,11 @@ shape-as : (l : Language) (t : List ℕ) (n : ℕ) → shapeFault l t n
 unfolding shapeFault
 shape-as l t n = refl
 
-pub shape-last : (l : Language) (t : List ℕ) (n x : ℕ) → n ≡ recordCount t → Coded l (kindOf t n) x
-    → not (eqb (x / 1048576) 5) ≡ shapeFault l t n
+pub shape-last : (l : Language) (t : List ℕ) (n x : ℕ) → n ≡ recordCount t → x ≡ sortOf l (kindOf t n)
+    → not (eqb x 5) ≡ shapeFault l t n
 shape-last l t n x e k =
     sym (shape-as l t n
-    ∙ (λ i. pickShape (eq-eqb n (recordCount t) e i) (not (eqb (k .sort i) 5))
+    ∙ (λ i. pickShape (eq-eqb n (recordCount t) e i) (not (eqb (sym k i) 5))
     (not (eqb (timesChild l t (recordCount t) n) 1))))
 
 pub shape-other : (l : Language) (t : List ℕ) (n times : ℕ) → (n ≡ recordCount t → ⊥)

@@ -1,6 +1,6 @@
 -- A record that is looked for, as a number; and what is noted of records that are children.
 use Prim.Native.Nat.{ℕ, zero, suc, _/_, _%_, _<_, _≤_}
-use mathlib.Core.Bool.{cond}
+use mathlib.Core.Bool.{cond, _||_}
 use mathlib.Core.List.{List}
 use lib.Dec.{eqb}
 use lib.ListN.{length, getD, set}
@@ -47,6 +47,14 @@ noteThree s form a b c l =
     noteIn s (fieldFrom (form / 16 % 16)) c
     (noteIn s (fieldFrom (form / 256 % 16)) b (noteIn s (fieldFrom (form / 4096 % 16)) a l))
 
--- there is a note for x, if a field with digit d has it for a child
-abbrev pub Room : ℕ → ℕ → List ℕ → Type 0
-Room d x l = 0 < d → d ≤ 5 → (x < length l) × (x ≤ targetLimit)
+-- the same of a child that is there, 0 being none
+abbrev pub noteAt : ℕ → ℕ → List ℕ → List ℕ
+noteAt s x l = cond (eqb x 0) l (set l x (joined s (getD l x 0)))
+
+-- C where it is a child, and not the query of 63 and 64
+abbrev pub thirdChild : ℕ → ℕ → ℕ
+thirdChild k x = cond (eqb k 63 || eqb k 64) 0 x
+
+-- there is a note for x
+abbrev pub Room : ℕ → List ℕ → Type 0
+Room x l = (x < length l) × (x ≤ targetLimit)

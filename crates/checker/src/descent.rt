@@ -7,12 +7,25 @@ ghost use Rattle.rules.specs.Kinds.{source};
 ghost use Rattle.rules.specs.Checker.{levelBelow, positionIn};
 ghost use Rattle.table.specs.Within.{Within};
 ghost use Rattle.checker_forms.specs.Codes.{languageOf};
-ghost use Rattle.checker.specs.Searches.{levelCount};
+ghost use Rattle.checker.specs.Searches.{levelCount, thirdChild};
 ghost use Rattle.checker.specs.Scopes.{Given, Noted, Formed};
 use super::levels::child_level;
 use super::notes::Levels;
 use super::notes::note_children;
 use super::notes::put_children;
+
+// Once rules 3 to 5 are kept, what stands in A and B is a child or 0; C may be a query.
+fn third_child(kind: u8, x: usize) -> usize
+    ensures { λ r. ⌜ r ≡ thirdChild kind x ⌝ }
+{
+    if kind == 63 {
+        return 0;
+    }
+    if kind == 64 {
+        return 0;
+    }
+    x
+}
 
 // The same scope to each.
 pub fn pass_scope(target: bool, table: &[u8], n: usize, scope: u64, notes: &mut [u64])
@@ -20,11 +33,10 @@ pub fn pass_scope(target: bool, table: &[u8], n: usize, scope: u64, notes: &mut 
         × (recordCount (now table) < length (now notes)) ⌝ }
     ensures { λ _. ⌜ Noted (languageOf target) (now (table .entry)) n scope (now (notes .entry)) (now (notes .exit)) ⌝ }
 {
-    let form = checker_forms::form_of(target, table::kind(table, n));
     let a = table::child_a(table, n);
     let b = table::child_b(table, n);
-    let c = table::child_c(table, n);
-    note_children(notes, form, a, b, c, scope);
+    let c = third_child(table::kind(table, n), table::child_c(table, n));
+    note_children(notes, a, b, c, scope);
 }
 
 // Its level to each.

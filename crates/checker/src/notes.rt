@@ -3,8 +3,7 @@
 ghost use mathlib.Core.Path.{_≡_};
 ghost use lib.ListN.{length};
 ghost use Rattle.checker_forms.specs.Codes.{fieldFrom};
-ghost use Rattle.checker.specs.Searches.{putIn, putThree, levelCount, joined, noteIn, noteThree, Room};
-ghost use Prim.Native.Nat.{_/_, _%_};
+ghost use Rattle.checker.specs.Searches.{putIn, putThree, levelCount, joined, noteAt, Room};
 use rules::SOURCE_LIMIT;
 
 // A level for each record of the longest source table, and for 0.
@@ -21,28 +20,24 @@ fn join(scope: u64, v: u64) -> u64
     2
 }
 
-// One more parent of x, where a field with this digit has it for a child.
-fn note_child(notes: &mut [u64], digit: usize, x: usize, scope: u64)
-    requires { ⌜ Room digit x (now notes) ⌝ }
-    ensures { λ _. ⌜ now (notes .exit) ≡ noteIn scope (fieldFrom digit) x (now (notes .entry)) ⌝ }
+// One more parent of x, where it is there.
+fn note_child(notes: &mut [u64], x: usize, scope: u64)
+    requires { ⌜ Room x (now notes) ⌝ }
+    ensures { λ _. ⌜ now (notes .exit) ≡ noteAt scope x (now (notes .entry)) ⌝ }
 {
-    if digit == 0 {
-        return;
-    }
-    if 5 < digit {
+    if x == 0 {
         return;
     }
     notes[x] = join(scope, notes[x]);
 }
 
-pub fn note_children(notes: &mut [u64], form: usize, a: usize, b: usize, c: usize, scope: u64)
-    requires { ⌜ Room (form / 4096 % 16) a (now notes) × Room (form / 256 % 16) b (now notes)
-        × Room (form / 16 % 16) c (now notes) ⌝ }
-    ensures { λ _. ⌜ now (notes .exit) ≡ noteThree scope form a b c (now (notes .entry)) ⌝ }
+pub fn note_children(notes: &mut [u64], a: usize, b: usize, c: usize, scope: u64)
+    requires { ⌜ Room a (now notes) × Room b (now notes) × Room c (now notes) ⌝ }
+    ensures { λ _. ⌜ now (notes .exit) ≡ noteAt scope c (noteAt scope b (noteAt scope a (now (notes .entry)))) ⌝ }
 {
-    note_child(notes, form / 4096 % 16, a, scope);
-    note_child(notes, form / 256 % 16, b, scope);
-    note_child(notes, form / 16 % 16, c, scope);
+    note_child(notes, a, scope);
+    note_child(notes, b, scope);
+    note_child(notes, c, scope);
 }
 
 // v is put for x where a field with this digit has it for a child.

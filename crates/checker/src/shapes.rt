@@ -1,11 +1,10 @@
 // Rules 6 and 7 in one pass down from the last record: all parents of a record are met before it.
 ghost use mathlib.Core.Path.{_≡_};
 ghost use mathlib.Core.Bool.{cond};
-ghost use Prim.Native.Nat.{_<_};
 ghost use Rattle.rules.specs.Records.{recordCount};
 ghost use Rattle.rules.specs.Checker.{shapeFault};
 ghost use Rattle.checker_forms.specs.Codes.{languageOf};
-ghost use Rattle.checker.specs.Scopes.{Ready};
+ghost use Rattle.checker.specs.Scopes.{Formed, Ready};
 ghost use Rattle.checker.specs.Order.{fromShapes};
 use super::answers::conclude;
 use super::descent::pass_scope;
@@ -16,12 +15,12 @@ use rules::Checked;
 
 // The last record is no child. As a statement it has variable 0 alone in scope; otherwise it is noted as misshapen.
 fn last_note(target: bool, table: &[u8]) -> u64
-    requires { ⌜ 0 < recordCount (now table) ⌝ }
+    requires { ⌜ Formed (languageOf target) (now table) ⌝ }
     ensures { λ r. ⌜ r ≡ cond (shapeFault (languageOf target) (now (table .entry)) (recordCount (now (table .entry))))
         0 1 ⌝ }
 {
     let n = table.len() / 16;
-    if checker_forms::form_of(target, table::kind(table, n)) / 1048576 == 5 {
+    if checker_forms::sort_of(table::kind(table, n)) == 5 {
         return 1;
     }
     0

@@ -1,19 +1,19 @@
 -- The tables of forms are those of the rules: one computation for each language.
-use Prim.Native.Nat.{ℕ, zero, suc, _+_, _-_, _/_, _<_, _≤_}
+use Prim.Native.Nat.{ℕ, zero, suc, _+_, _-_, _/_, _%_, _<_, _≤_}
 use native.Mathlib.Omega.{arith}
-use mathlib.Core.Bool.{Bool, true, false, cond, _&&_}
+use mathlib.Core.Bool.{Bool, true, false, cond, _&&_, _||_}
 use mathlib.Core.List.{List, [], _∷_, _++_}
 use mathlib.Core.Option.{Option, none, some}
 use mathlib.Core.Path.{_≡_, refl, sym, ap, subst, _∙_}
-use borrow.Author.Tests.{eq-eqb, ne-eqb, eqb-true}
+use borrow.Author.Tests.{eq-eqb, ne-eqb, eqb-true, ltb-true}
 use native.Mathlib.Nat.{zero-add}
-use lib.Dec.{eqb}
+use lib.Dec.{eqb, ltb}
 use lib.ListN.{length, getD, List·getD-append}
 use Rattle.rules.specs.Kinds.{Language, source, target, sortNumber, Form, forms, lookUp, formOf}
-use Rattle.rules.specs.Checker.{formSort}
-use Rattle.rules.proofs.acceptance.ParentLaws.{two-pass}
+use Rattle.rules.specs.Checker.{formSort, sortOf}
+use Rattle.rules.proofs.acceptance.ParentLaws.{two-pass, three-pass}
 use Rattle.checker_forms.specs.Codes.{sortFrom, bounds, testFrom, fieldFrom, literalFrom, entry, decoded}
-use Rattle.checker_forms.specs.Codes.{Coded}
+use Rattle.checker_forms.specs.Codes.{Coded, sortBy}
 use Rattle.checker_forms.proofs.MatchLaws.{Others, others-from, others-none}
 
 abbrev pub sourceCodes : List ℕ
@@ -97,23 +97,38 @@ look-listed (x ∷ xs) j (suc i) = go (eqb x 0) (look-listed xs (suc j) i)
         rw (ne-eqb (j + suc i) j (omega arith), lookUp)
         (subst (λ (k : ℕ). lookUp k (listed (suc j) xs) ≡ decoded k (getD xs i 0)) same r)
 
--- what holds of 0 and of each entry holds wherever the table is read
-abbrev every : (ℕ → Bool) → List ℕ → Bool
-every p [] = true
-every p (x ∷ xs) = p x && every p xs
+-- what holds of 0 and of each entry in its place holds wherever the table is read
+abbrev every : (ℕ → ℕ → Bool) → ℕ → List ℕ → Bool
+every p j [] = true
+every p j (x ∷ xs) = p j x && every p (suc j) xs
 
-each : (p : ℕ → Bool) (xs : List ℕ) → every p xs ≡ true → p 0 ≡ true → (i : ℕ) → p (getD xs i 0) ≡ true
-each p [] h z i = z
-each p (x ∷ xs) h z zero = two-pass (p x) (every p xs) h .0
-each p (x ∷ xs) h z (suc i) = each p xs (two-pass (p x) (every p xs) h .1) z i
+each : (p : ℕ → ℕ → Bool) (xs : List ℕ) (j : ℕ) → every p j xs ≡ true → ((k : ℕ) → p k 0 ≡ true) → (i k : ℕ)
+    → k ≡ j + i → p k (getD xs i 0) ≡ true
+each p [] j h z i k e = z k
+each p (x ∷ xs) j h z zero k e =
+    let here : k ≡ j = omega arith in
+    ap (λ (n : ℕ). p n x) here ∙ two-pass (p j x) (every p (suc j) xs) h .0
+each p (x ∷ xs) j h z (suc i) k e =
+    each p xs (suc j) (two-pass (p j x) (every p (suc j) xs) h .1) z i k (omega arith)
 
-abbrev rightSort : ℕ → Bool
-rightSort x = eqb (cond (eqb x 0) 0 (sortNumber (sortFrom (x / 1048576)))) (x / 1048576)
+each-code : (p : ℕ → ℕ → Bool) (l : Language) → every p 0 (codes l) ≡ true → ((k : ℕ) → p k 0 ≡ true) → (k : ℕ)
+    → p k (getD (codes l) k 0) ≡ true
+each-code p l h z k = each p (codes l) 0 h z k k (omega arith)
 
-every-sort : (l : Language) → every rightSort (codes l) ≡ true
+abbrev rightSort : ℕ → ℕ → Bool
+rightSort k x = eqb (cond (eqb x 0) 0 (sortNumber (sortFrom (x / 1048576)))) (x / 1048576)
+
+every-sort : (l : Language) → every rightSort 0 (codes l) ≡ true
 unfolding sortFrom
 every-sort source = refl
 every-sort target = refl
+
+abbrev sortInPlace : ℕ → ℕ → Bool
+sortInPlace k x = eqb x 0 || eqb (x / 1048576) (sortBy k)
+
+every-place : (l : Language) → every sortInPlace 0 (codes l) ≡ true
+every-place source = refl
+every-place target = refl
 
 decoded-sort : (k x : ℕ) → formSort (decoded k x) ≡ cond (eqb x 0) 0 (sortNumber (sortFrom (x / 1048576)))
 unfolding decoded
@@ -135,7 +150,7 @@ asks-of l k =
 pub coded : (l : Language) (k x : ℕ) → x ≡ getD (codes l) k 0 → Coded l k x
 coded l k x e =
     let asks : formOf l k ≡ decoded k x = asks-of l k ∙ ap (decoded k) (sym e) in
-    let right : rightSort x ≡ true = ap rightSort e ∙ each rightSort (codes l) (every-sort l) refl k in
+    let right : rightSort k x ≡ true = ap (rightSort k) e ∙ each-code rightSort l (every-sort l) (λ i. refl) k in
     record { asks = asks; sort = ap formSort asks ∙ decoded-sort k x ∙ eqb-true _ (x / 1048576) right }
 
 pub coded-at : {x : ℕ} (l : Language) (k j : ℕ) → x ≡ getD (codes l) j 0 → k ≡ j → Coded l k x
@@ -159,3 +174,66 @@ coded-high k p h =
     coded target k 0
     (others-from highCodes 40 (k - 40) k (sym place) h ∙ append-rest lowCodes highCodes (k - 40)
     ∙ ap (λ (j : ℕ). getD targetCodes j 0) place)
+
+-- what a kind asks, as a number; the language has the kind where it is not 0
+abbrev pub codeOf : Language → ℕ → ℕ
+codeOf l k = getD (codes l) k 0
+
+pub code-of : (l : Language) (k : ℕ) → Coded l k (codeOf l k)
+code-of l k = coded l k (codeOf l k) refl
+
+pub sort-by : (l : Language) (k : ℕ) → (codeOf l k ≡ 0 → ⊥) → sortOf l k ≡ sortBy k
+sort-by l k h =
+    let placed : (eqb (codeOf l k) 0 || eqb (codeOf l k / 1048576) (sortBy k)) ≡ true =
+    each-code sortInPlace l (every-place l) (λ i. refl) k in
+    code-of l k .sort
+    ∙ eqb-true (codeOf l k / 1048576) (sortBy k)
+    (ap (λ (b : Bool). b || eqb (codeOf l k / 1048576) (sortBy k)) (sym (ne-eqb (codeOf l k) 0 h)) ∙ placed)
+
+-- ---- which fields are for children: A and B are for nothing else, and C is for a query in 63 and 64
+abbrev childDigits : ℕ → ℕ → Bool
+childDigits k x =
+    ltb (x / 4096 % 16) 6 && ltb (x / 256 % 16) 6
+    && elim (eqb k 63 || eqb k 64) [ true ↦ eqb x 0 || ltb 5 (x / 16 % 16) | false ↦ ltb (x / 16 % 16) 6 ]
+
+every-digit : (l : Language) → every childDigits 0 (codes l) ≡ true
+every-digit source = refl
+every-digit target = refl
+
+no-digit : (k : ℕ) → childDigits k 0 ≡ true
+no-digit k = go (eqb k 63 || eqb k 64)
+  where
+    go : (b : Bool) → (ltb 0 6 && ltb 0 6 && elim b as (λ q. Bool) [ true ↦ true | false ↦ ltb 0 6 ]) ≡ true
+    go true = refl
+    go false = refl
+
+module _ (l : Language) (k : ℕ) where
+  digits : (ltb (codeOf l k / 4096 % 16) 6 ≡ true) × (ltb (codeOf l k / 256 % 16) 6 ≡ true)
+      × (elim (eqb k 63 || eqb k 64) as (λ q. Bool) [
+        | true ↦ eqb (codeOf l k) 0 || ltb 5 (codeOf l k / 16 % 16)
+        | false ↦ ltb (codeOf l k / 16 % 16) 6
+      ] ≡ true)
+  digits = three-pass _ _ _ (each-code childDigits l (every-digit l) no-digit k)
+
+  pub digit-a : codeOf l k / 4096 % 16 < 6
+  digit-a = ltb-true _ 6 (digits .0)
+
+  pub digit-b : codeOf l k / 256 % 16 < 6
+  digit-b = ltb-true _ 6 (digits .1)
+
+  pub digit-c : (eqb k 63 || eqb k 64) ≡ false → codeOf l k / 16 % 16 < 6
+  digit-c e =
+      ltb-true _ 6
+      (sym (ap (λ (b : Bool). elim b as (λ q. Bool) [
+        | true ↦ eqb (codeOf l k) 0 || ltb 5 (codeOf l k / 16 % 16)
+        | false ↦ ltb (codeOf l k / 16 % 16) 6
+      ]) e) ∙ digits .2)
+
+  pub digit-query : (eqb k 63 || eqb k 64) ≡ true → (codeOf l k ≡ 0 → ⊥) → 5 < codeOf l k / 16 % 16
+  digit-query e h =
+      ltb-true 5 _
+      (ap (λ (b : Bool). b || ltb 5 (codeOf l k / 16 % 16)) (sym (ne-eqb (codeOf l k) 0 h))
+      ∙ sym (ap (λ (b : Bool). elim b as (λ q. Bool) [
+        | true ↦ eqb (codeOf l k) 0 || ltb 5 (codeOf l k / 16 % 16)
+        | false ↦ ltb (codeOf l k / 16 % 16) 6
+      ]) e) ∙ digits .2)

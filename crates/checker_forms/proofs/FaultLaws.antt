@@ -16,7 +16,8 @@ use Rattle.rules.specs.Checker.{recordFault}
 use Rattle.rules.proofs.acceptance.ParentLaws.{five-pass}
 use Rattle.checker_forms.specs.Codes.{sortFrom, testFrom, fieldFrom, literalFrom, fieldDigits, withFirst}
 use Rattle.checker_forms.specs.Codes.{fieldsFrom}
-use Rattle.checker_forms.specs.Codes.{fieldsThere, entry, decoded, Coded}
+use Rattle.checker_forms.specs.Codes.{fieldsThere, entry, decoded, Coded, sortBy}
+use Rattle.checker_forms.proofs.CodeLaws.{codeOf, code-of, sort-by}
 use Rattle.checker_forms.proofs.FieldLaws.{field-none, field-child, field-number, sort-digit}
 
 -- three tests in a row
@@ -108,11 +109,11 @@ module _ (l : Language) (t : List ℕ) (n d x : ℕ) where
       sym (ap (λ (b : Bool). b && eqb (sortOf l (kindOf t x)) (sortNumber (sortFrom d))) (le-ltb x n h))
       ∙ as-child (child (sortFrom d)) (field-child d p (omega arith))
 
-  pub child-sort : (d ≡ 0 → ⊥) → d ≤ 5 → x < n → (y : ℕ) → Coded l (kindOf t x) y
-      → eqb (y / 1048576) d ≡ childFits l t n (fieldFrom d) x
-  child-sort p q h y k =
-      sym (ap (λ (b : Bool). b && eqb (y / 1048576) d) (lt-ltb x n h))
-      ∙ (λ i. ltb x n && eqb (sym (k .sort) i) (sym (sort-digit d p (omega arith)) i))
+  pub child-sort : (d ≡ 0 → ⊥) → d ≤ 5 → x < n → (y : ℕ) → y ≡ sortOf l (kindOf t x)
+      → eqb y d ≡ childFits l t n (fieldFrom d) x
+  child-sort p q h y e =
+      sym (ap (λ (b : Bool). b && eqb y d) (lt-ltb x n h))
+      ∙ (λ i. ltb x n && eqb (e i) (sym (sort-digit d p (omega arith)) i))
       ∙ as-child (child (sortFrom d)) (field-child d p (omega arith))
 
 -- the same of a number that was read
@@ -148,3 +149,26 @@ module _ (l : Language) (t : List ℕ) (n x : ℕ) (k : Coded l (kindOf t n) x) 
   fault-some h =
       let is-some : decoded (kindOf t n) x ≡ some (entry (kindOf t n) x) = rw (ne-eqb x 0 h, decoded) in
       ap (faultOf l t n) (k .asks ∙ is-some)
+
+-- the kind of a record that keeps 3 is in the language
+pub kept-kind : (l : Language) (t : List ℕ) (n : ℕ) → recordFault l t n ≡ 0 → codeOf l (kindOf t n) ≡ 0 → ⊥
+kept-kind l t n h e = omega (arith, h, fault-none l t n (codeOf l (kindOf t n)) (code-of l (kindOf t n)) e)
+
+pub kept-sort : (l : Language) (t : List ℕ) (n : ℕ) → recordFault l t n ≡ 0 → sortOf l (kindOf t n) ≡ sortBy (kindOf t n)
+kept-sort l t n h = sort-by l (kindOf t n) (kept-kind l t n h)
+
+-- and its fields are those that the kind asks
+fits-first : (p q : Bool) → _≡_ {A = ℕ} (cond p (cond q 0 5) 4) 0 → p ≡ true
+fits-first true q e = refl
+fits-first false q e = absurd (omega arith)
+
+pub kept-there : (l : Language) (t : List ℕ) (n : ℕ) → recordFault l t n ≡ 0
+    → let x = codeOf l (kindOf t n) in
+    (fieldFits (fieldFrom (x / 4096 % 16)) (childA t n) ≡ true)
+    × (fieldFits (fieldFrom (x / 256 % 16)) (childB t n) ≡ true)
+    × (fieldFits (fieldFrom (x / 16 % 16)) (childC t n) ≡ true)
+kept-there l t n h =
+    let x = codeOf l (kindOf t n) in
+    there x t n
+    (fits-first (fieldsFit (entry 0 x) (recordAt t n)) (childrenFit l t n (entry 0 x) (recordAt t n))
+    (sym (fault-some l t n x (code-of l (kindOf t n)) (kept-kind l t n h)) ∙ h))

@@ -1,6 +1,6 @@
 -- A form as a number of six hexadecimal digits: sort, mark, A, B, C, literal; 0 where the language has no such kind.
-use Prim.Native.Nat.{ℕ, zero, suc, _/_, _%_}
-use mathlib.Core.Bool.{Bool, true, false, _||_}
+use Prim.Native.Nat.{ℕ, zero, suc, _+_, _/_, _%_, _<_, _≤_}
+use mathlib.Core.Bool.{Bool, true, false, cond, _||_}
 use mathlib.Core.List.{List, [], _∷_}
 use mathlib.Core.Option.{Option, none, some}
 use mathlib.Core.Path.{_≡_}
@@ -9,7 +9,7 @@ use lib.ListN.{getD}
 use Rattle.rules.specs.Kinds.{Language, source, target, Sort, expression, place, term, predicate, statement, Field}
 use Rattle.rules.specs.Kinds.{unnamed, child, number, between, Literal, zeroLiteral, anyLiteral, statementLiteral}
 use Rattle.rules.specs.Kinds.{Form, form, beside, formOf}
-use Rattle.rules.specs.Checker.{all, fieldFits, sortOf}
+use Rattle.rules.specs.Checker.{all, fieldFits, sortOf, recordFault}
 
 abbrev pub languageOf : Bool → Language
 languageOf true = target
@@ -75,6 +75,14 @@ decoded k x = elim (eqb x 0) [ true ↦ none | false ↦ some (entry k x) ]
 pub record Coded (l : Language) (k x : ℕ) : Type 0 where
   pub asks : formOf l k ≡ decoded k x
   pub sort : sortOf l k ≡ x / 1048576
+
+-- the number of the sort of a kind that a language has: one more than its tens, of a statement 5
+abbrev pub sortBy : ℕ → ℕ
+sortBy k = cond (ltb k 40) (k / 10 + 1) 5
+
+-- the records before n keep 3 to 5
+abbrev pub Before : Language → List ℕ → ℕ → Type 0
+Before l t n = (i : ℕ) → 1 ≤ i → i < n → recordFault l t i ≡ 0
 
 -- fields are what x asks
 unfoldable pub fieldsThere : ℕ → List ℕ → Bool

@@ -10,7 +10,7 @@ ghost use Rattle.rules.specs.Records.{recordAt};
 ghost use Rattle.rules.specs.Kinds.{source, target};
 ghost use Rattle.rules.specs.Checker.{fieldFits, fieldsFit, childFits, childrenFit, recordFault};
 ghost use Rattle.table.specs.Within.{Within};
-ghost use Rattle.checker_forms.specs.Codes.{languageOf, Coded, fieldFrom, fieldsThere, entry};
+ghost use Rattle.checker_forms.specs.Codes.{languageOf, Coded, fieldFrom, fieldsThere, entry, sortBy, Before};
 
 // What a kind asks of a source record. The compiler makes a match a table that is read, where it builds an array anew.
 fn source_form(kind: u8) -> usize
@@ -140,9 +140,19 @@ fn fields_fit(form: usize, table: &[u8], n: usize) -> bool
     false
 }
 
-// Of a child that is there.
+// The sort of a kind that the language has.
+pub fn sort_of(kind: u8) -> usize
+    ensures { λ r. ⌜ r ≡ sortBy kind ⌝ }
+{
+    if kind < 40 {
+        return (kind / 10) as usize + 1;
+    }
+    5
+}
+
+// Of a child that is there. Its kind is in the language, since it stands before n.
 fn child_fits(target: bool, table: &[u8], n: usize, digit: usize, x: usize) -> bool
-    requires { ⌜ Within (now table) n ⌝ }
+    requires { ⌜ Within (now table) n × Before (languageOf target) (now table) n ⌝ }
     ensures { λ r. ⌜ (fieldFits (fieldFrom digit) x ≡ true
         → r ≡ childFits (languageOf target) (now (table .entry)) n (fieldFrom digit) x) ⌝ }
 {
@@ -158,11 +168,11 @@ fn child_fits(target: bool, table: &[u8], n: usize, digit: usize, x: usize) -> b
     if n <= x {
         return false;
     }
-    form_of(target, table::kind(table, x)) / 1048576 == digit
+    sort_of(table::kind(table, x)) == digit
 }
 
 fn children_fit(target: bool, form: usize, table: &[u8], n: usize) -> bool
-    requires { ⌜ Within (now table) n ⌝ }
+    requires { ⌜ Within (now table) n × Before (languageOf target) (now table) n ⌝ }
     ensures { λ r. ⌜ (fieldsFit (entry 0 form) (recordAt (now (table .entry)) n) ≡ true
         → r ≡ childrenFit (languageOf target) (now (table .entry)) n (entry 0 form)
         (recordAt (now (table .entry)) n)) ⌝ }
@@ -178,7 +188,7 @@ fn children_fit(target: bool, form: usize, table: &[u8], n: usize) -> bool
 
 // 3, 4 or 5 where record n breaks it, or 0.
 pub fn record_fault(target: bool, table: &[u8], n: usize) -> u32
-    requires { ⌜ Within (now table) n ⌝ }
+    requires { ⌜ Within (now table) n × Before (languageOf target) (now table) n ⌝ }
     ensures { λ r. ⌜ r ≡ recordFault (languageOf target) (now (table .entry)) n ⌝ }
 {
     let form = form_of(target, table::kind(table, n));

@@ -8,18 +8,14 @@ use lib.Dec.{ltb}
 use Rattle.rules.specs.Records.{recordCount}
 use Rattle.rules.specs.Kinds.{Language}
 use Rattle.rules.specs.Checker.{lowestRecord, recordFault}
-use Rattle.checker_forms.specs.Codes.{languageOf}
+use Rattle.checker_forms.specs.Codes.{languageOf, Before}
 use Rattle.checker.specs.Order.{fromShapes, fromRecords}
 use Rattle.checker.proofs.OrderLaws.{next-nothing, record-refused, no-record, limit-most}
 use Rattle.checker.proofs.check_records.Statement.{statement}
 use Rattle.checker.proofs.check_records.Tie as tie
 
--- the records up to n are right
-abbrev Right : Language → List ℕ → ℕ → Type 0
-Right l t n = (i : ℕ) → 1 ≤ i → i < n + 1 → recordFault l t i ≡ 0
-
-one-more : (l : Language) (t : List ℕ) (n k : ℕ) → Right l t n → k ≡ recordFault l t (n + 1) → k ≡ 0
-    → Right l t (n + 1)
+one-more : (l : Language) (t : List ℕ) (n k : ℕ) → Before l t (n + 1) → k ≡ recordFault l t (n + 1) → k ≡ 0
+    → Before l t (n + 1 + 1)
 one-more l t n k h e z i a b = go (decLt i (n + 1))
   where
     go : Dec (i < n + 1) → recordFault l t i ≡ 0
@@ -27,7 +23,7 @@ one-more l t n k h e z i a b = go (decLt i (n + 1))
     go (no p) = ap (recordFault l t) (omega arith) ∙ sym e ∙ z
 
 abbrev Inv-loop : tie.InvT-loop
-Inv-loop target table n₀ n = (n ≤ recordCount table) × Right (languageOf target) table n
+Inv-loop target table n₀ n = (n ≤ recordCount table) × Before (languageOf target) table (n + 1)
 
 abbrev μ-loop : tie.MeasureT-loop
 μ-loop target table n₀ n = recordCount table - n
@@ -39,7 +35,7 @@ add-n : tie.Need-add-n Inv-loop μ-loop
 add-n c = omega arith
 
 record-fault-requires : tie.Need-record-fault-requires Inv-loop μ-loop
-record-fault-requires c κs = omega arith
+record-fault-requires c κs = (omega arith, c .before .loop .inv .1)
 
 refuse-requires : tie.Need-refuse-requires Inv-loop μ-loop
 refuse-requires c κs =

@@ -1,12 +1,11 @@
 -- `checker::notes::note_children` meets its contract. Assumes nothing.
 use borrow.Author.Needs.{needs}
-use Prim.Native.Nat.{ℕ, _/_, _%_}
+use Prim.Native.Nat.{ℕ}
 use mathlib.Core.Path.{_≡_, ap, _∙_}
 use mathlib.Core.List.{List}
 use lib.ListN.{length}
-use Rattle.checker_forms.specs.Codes.{fieldFrom}
-use Rattle.checker.specs.Searches.{noteIn}
-use Rattle.checker.proofs.NoteLaws.{note-length, room-after}
+use Rattle.checker.specs.Searches.{noteAt}
+use Rattle.checker.proofs.NoteLaws.{note-at-length, room-after}
 use Rattle.checker.proofs.notes.note_children.Statement.{statement}
 use Rattle.checker.proofs.notes.note_children.Tie as tie
 
@@ -18,9 +17,8 @@ note-child-requires-2 c κs =
     let s = c .before .before .before .before .before .before in
     let a = s .args in
     let first = c .before .before .before .note-child in
-    room-after (a .form / 256 % 16) (a .b) (a .notes .now) (first .last .0)
-    (ap length (first .ensures) ∙ note-length (a .scope) (fieldFrom (a .form / 4096 % 16)) (a .a) (a .notes .now))
-    (s .pre .1)
+    room-after (a .b) (a .notes .now) (first .last .0)
+    (ap length (first .ensures) ∙ note-at-length (a .scope) (a .a) (a .notes .now)) (s .pre .1)
 
 note-child-requires-3 : tie.Need-note-child-requires-3
 note-child-requires-3 c κs =
@@ -28,11 +26,9 @@ note-child-requires-3 c κs =
     let a = s .args in
     let first = c .before .before .before .before .before .before .before .note-child in
     let second = c .before .before .before .note-child2 in
-    room-after (a .form / 16 % 16) (a .c) (a .notes .now) (second .last .0)
-    (ap length (second .ensures)
-    ∙ note-length (a .scope) (fieldFrom (a .form / 256 % 16)) (a .b) (first .last .0)
-    ∙ ap length (first .ensures)
-    ∙ note-length (a .scope) (fieldFrom (a .form / 4096 % 16)) (a .a) (a .notes .now))
+    room-after (a .c) (a .notes .now) (second .last .0)
+    (ap length (second .ensures) ∙ note-at-length (a .scope) (a .b) (first .last .0)
+    ∙ ap length (first .ensures) ∙ note-at-length (a .scope) (a .a) (a .notes .now))
     (s .pre .2)
 
 same-length : tie.Need-same-length
@@ -44,9 +40,8 @@ returns c =
     let first = c .before .before .before .before .before .before .before .before .before .before .note-child in
     let second = c .before .before .before .before .before .before .note-child2 in
     c .before .before .note-child3 .ensures
-    ∙ ap (λ (l : List ℕ). noteIn (a .scope) (fieldFrom (a .form / 16 % 16)) (a .c) l) (second .ensures)
-    ∙ ap (λ (l : List ℕ). noteIn (a .scope) (fieldFrom (a .form / 16 % 16)) (a .c)
-    (noteIn (a .scope) (fieldFrom (a .form / 256 % 16)) (a .b) l)) (first .ensures)
+    ∙ ap (λ (l : List ℕ). noteAt (a .scope) (a .c) l) (second .ensures)
+    ∙ ap (λ (l : List ℕ). noteAt (a .scope) (a .c) (noteAt (a .scope) (a .b) l)) (first .ensures)
 
 pub note-children-spec : {M : Type 1} → statement M
 note-children-spec =

@@ -24,7 +24,7 @@ abbrev μ-loop : tie.MeasureT-loop
 μ-loop target table notes₀ misshapen₀ hidden₀ n₀ notes misshapen hidden n = n
 
 last-note-requires : tie.Need-last-note-requires Inv-loop μ-loop
-last-note-requires c κs = c .before .before .pre .formed .sized .some
+last-note-requires c κs = c .before .before .pre .formed
 
 mul-notes : tie.Need-mul-notes Inv-loop μ-loop
 mul-notes c =
