@@ -13,7 +13,7 @@ use Rattle.rules.specs.Kinds.{Language, source, target, sortNumber, Form, forms
 use Rattle.rules.specs.Checker.{formSort, sortOf}
 use Rattle.rules.proofs.acceptance.ParentLaws.{two-pass, three-pass}
 use Rattle.checker_forms.specs.Codes.{sortFrom, bounds, testFrom, fieldFrom, literalFrom, entry, decoded}
-use Rattle.checker_forms.specs.Codes.{Coded, sortBy}
+use Rattle.checker_forms.specs.Codes.{Coded, ForChildren, sortBy}
 use Rattle.checker_forms.proofs.MatchLaws.{Others, others-from, others-none}
 
 abbrev pub sourceCodes : List ℕ
@@ -147,48 +147,9 @@ asks-of l k =
     ∙ subst (λ (n : ℕ). lookUp n (listed 0 (codes l)) ≡ decoded n (getD (codes l) k 0)) (zero-add k)
     (look-listed (codes l) 0 k)
 
-pub coded : (l : Language) (k x : ℕ) → x ≡ getD (codes l) k 0 → Coded l k x
-coded l k x e =
-    let asks : formOf l k ≡ decoded k x = asks-of l k ∙ ap (decoded k) (sym e) in
-    let right : rightSort k x ≡ true = ap (rightSort k) e ∙ each-code rightSort l (every-sort l) (λ i. refl) k in
-    record { asks = asks; sort = ap formSort asks ∙ decoded-sort k x ∙ eqb-true _ (x / 1048576) right }
-
-pub coded-at : {x : ℕ} (l : Language) (k j : ℕ) → x ≡ getD (codes l) j 0 → k ≡ j → Coded l k x
-coded-at {x = x} l k j h e = coded l k x (h ∙ sym (ap (λ (i : ℕ). getD (codes l) i 0) e))
-
-pub coded-rest : (l : Language) (k : ℕ) → Others (Unit {0}) (codes l) 0 k → Coded l k 0
-coded-rest l k h = coded l k 0 (others-none (codes l) k h)
-
-pub coded-low : (k : ℕ) → k < 40 → Others (Unit {0}) lowCodes 0 k → Coded target k 0
-coded-low k p h = coded target k 0 (others-none lowCodes k h ∙ sym (List·getD-append lowCodes highCodes 0 k p))
-
-append-rest : (xs ys : List ℕ) (i : ℕ) → getD ys i 0 ≡ getD (xs ++ ys) (length xs + i) 0
-append-rest [] ys i = ap (λ (j : ℕ). getD ys j 0) (sym (zero-add i))
-append-rest (x ∷ xs) ys i =
-    let more : suc (length xs + i) ≡ suc (length xs) + i = omega arith in
-    append-rest xs ys i ∙ ap (λ (j : ℕ). getD (x ∷ (xs ++ ys)) j 0) more
-
-pub coded-high : (k : ℕ) → 40 ≤ k → Others (Unit {0}) highCodes 40 k → Coded target k 0
-coded-high k p h =
-    let place : 40 + (k - 40) ≡ k = omega arith in
-    coded target k 0
-    (others-from highCodes 40 (k - 40) k (sym place) h ∙ append-rest lowCodes highCodes (k - 40)
-    ∙ ap (λ (j : ℕ). getD targetCodes j 0) place)
-
 -- what a kind asks, as a number; the language has the kind where it is not 0
 abbrev pub codeOf : Language → ℕ → ℕ
 codeOf l k = getD (codes l) k 0
-
-pub code-of : (l : Language) (k : ℕ) → Coded l k (codeOf l k)
-code-of l k = coded l k (codeOf l k) refl
-
-pub sort-by : (l : Language) (k : ℕ) → (codeOf l k ≡ 0 → ⊥) → sortOf l k ≡ sortBy k
-sort-by l k h =
-    let placed : (eqb (codeOf l k) 0 || eqb (codeOf l k / 1048576) (sortBy k)) ≡ true =
-    each-code sortInPlace l (every-place l) (λ i. refl) k in
-    code-of l k .sort
-    ∙ eqb-true (codeOf l k / 1048576) (sortBy k)
-    (ap (λ (b : Bool). b || eqb (codeOf l k / 1048576) (sortBy k)) (sym (ne-eqb (codeOf l k) 0 h)) ∙ placed)
 
 -- ---- which fields are for children: A and B are for nothing else, and C is for a query in 63 and 64
 abbrev childDigits : ℕ → ℕ → Bool
@@ -237,3 +198,44 @@ module _ (l : Language) (k : ℕ) where
         | true ↦ eqb (codeOf l k) 0 || ltb 5 (codeOf l k / 16 % 16)
         | false ↦ ltb (codeOf l k / 16 % 16) 6
       ]) e) ∙ digits .2)
+
+-- ---- what a number asks that is the kind's entry
+pub coded : (l : Language) (k x : ℕ) → x ≡ getD (codes l) k 0 → Coded l k x
+coded l k x e =
+    let asks : formOf l k ≡ decoded k x = asks-of l k ∙ ap (decoded k) (sym e) in
+    let right : rightSort k x ≡ true = ap (rightSort k) e ∙ each-code rightSort l (every-sort l) (λ i. refl) k in
+    let children : ForChildren x = subst ForChildren (sym e) (digit-a l k, digit-b l k) in
+    record { asks = asks; sort = ap formSort asks ∙ decoded-sort k x ∙ eqb-true _ (x / 1048576) right; children = children }
+
+pub coded-at : {x : ℕ} (l : Language) (k j : ℕ) → x ≡ getD (codes l) j 0 → k ≡ j → Coded l k x
+coded-at {x = x} l k j h e = coded l k x (h ∙ sym (ap (λ (i : ℕ). getD (codes l) i 0) e))
+
+pub coded-rest : (l : Language) (k : ℕ) → Others (Unit {0}) (codes l) 0 k → Coded l k 0
+coded-rest l k h = coded l k 0 (others-none (codes l) k h)
+
+pub coded-low : (k : ℕ) → k < 40 → Others (Unit {0}) lowCodes 0 k → Coded target k 0
+coded-low k p h = coded target k 0 (others-none lowCodes k h ∙ sym (List·getD-append lowCodes highCodes 0 k p))
+
+append-rest : (xs ys : List ℕ) (i : ℕ) → getD ys i 0 ≡ getD (xs ++ ys) (length xs + i) 0
+append-rest [] ys i = ap (λ (j : ℕ). getD ys j 0) (sym (zero-add i))
+append-rest (x ∷ xs) ys i =
+    let more : suc (length xs + i) ≡ suc (length xs) + i = omega arith in
+    append-rest xs ys i ∙ ap (λ (j : ℕ). getD (x ∷ (xs ++ ys)) j 0) more
+
+pub coded-high : (k : ℕ) → 40 ≤ k → Others (Unit {0}) highCodes 40 k → Coded target k 0
+coded-high k p h =
+    let place : 40 + (k - 40) ≡ k = omega arith in
+    coded target k 0
+    (others-from highCodes 40 (k - 40) k (sym place) h ∙ append-rest lowCodes highCodes (k - 40)
+    ∙ ap (λ (j : ℕ). getD targetCodes j 0) place)
+
+pub code-of : (l : Language) (k : ℕ) → Coded l k (codeOf l k)
+code-of l k = coded l k (codeOf l k) refl
+
+pub sort-by : (l : Language) (k : ℕ) → (codeOf l k ≡ 0 → ⊥) → sortOf l k ≡ sortBy k
+sort-by l k h =
+    let placed : (eqb (codeOf l k) 0 || eqb (codeOf l k / 1048576) (sortBy k)) ≡ true =
+    each-code sortInPlace l (every-place l) (λ i. refl) k in
+    code-of l k .sort
+    ∙ eqb-true (codeOf l k / 1048576) (sortBy k)
+    (ap (λ (b : Bool). b || eqb (codeOf l k / 1048576) (sortBy k)) (sym (ne-eqb (codeOf l k) 0 h)) ∙ placed)

@@ -1,11 +1,12 @@
 -- Rules 3 to 5 at one record, from what its kind's number asks.
 use Prim.Native.Nat.{ℕ, zero, suc, _/_, _%_, _<_, _≤_}
 use native.Mathlib.Omega.{arith}
+use native.Mathlib.Decide.{ℕ-discrete}
 use mathlib.Core.Bool.{Bool, true, false, cond, _&&_}
 use mathlib.Core.List.{List, [], _∷_, map}
 use mathlib.Core.Option.{Option, none, some}
 use mathlib.Core.Path.{_≡_, refl, sym, ap, subst, _∙_}
-use borrow.Author.Tests.{eq-eqb, ne-eqb, lt-ltb, le-ltb, ltb-true}
+use borrow.Author.Tests.{eq-eqb, ne-eqb, lt-ltb, le-ltb, ltb-true, eqb-true}
 use lib.Dec.{eqb, ltb}
 use lib.IntN.{ℤ}
 use lib.ListN.{getD}
@@ -92,17 +93,25 @@ module _ (l : Language) (t : List ℕ) (n d x : ℕ) where
   as-child : (f : Field) → fieldFrom d ≡ f → childFits l t n f x ≡ childFits l t n (fieldFrom d) x
   as-child f e = ap (λ (g : Field). childFits l t n g x) (sym e)
 
-  pub child-none : d ≡ 0 → true ≡ childFits l t n (fieldFrom d) x
+  child-none : d ≡ 0 → true ≡ childFits l t n (fieldFrom d) x
   child-none e = as-child unnamed (field-none d e)
 
   pub child-number : 5 < d → true ≡ childFits l t n (fieldFrom d) x
   child-number h = as-child (number (testFrom d)) (field-number d (λ e. omega arith) (omega arith))
 
-  pub child-zero : (d ≡ 0 → ⊥) → d ≤ 5 → x ≡ 0 → fieldFits (fieldFrom d) x ≡ true
-      → false ≡ childFits l t n (fieldFrom d) x
-  child-zero p q e h =
-      let there : ltb 0 x ≡ true = subst (λ (f : Field). fieldFits f x ≡ true) (field-child d p (omega arith)) h in
-      absurd (omega (arith, ltb-true 0 x there))
+  pub child-zero : d ≤ 5 → x ≡ 0 → fieldFits (fieldFrom d) x ≡ true → true ≡ childFits l t n (fieldFrom d) x
+  child-zero q e h = go (ℕ-discrete d 0)
+    where
+      go : Dec (d ≡ 0) → true ≡ childFits l t n (fieldFrom d) x
+      go (yes z) = child-none z
+      go (no p) =
+          let there : ltb 0 x ≡ true = subst (λ (f : Field). fieldFits f x ≡ true) (field-child d p (omega arith)) h in
+          absurd (omega (arith, ltb-true 0 x there))
+
+  -- a number that is there fits no field for none
+  pub digit-some : (x ≡ 0 → ⊥) → fieldFits (fieldFrom d) x ≡ true → d ≡ 0 → ⊥
+  digit-some p h e =
+      p (eqb-true x 0 (subst (λ (f : Field). fieldFits f x ≡ true) (field-none d e) h))
 
   pub child-late : (d ≡ 0 → ⊥) → d ≤ 5 → n ≤ x → false ≡ childFits l t n (fieldFrom d) x
   child-late p q h =
@@ -116,13 +125,7 @@ module _ (l : Language) (t : List ℕ) (n d x : ℕ) where
       ∙ (λ i. ltb x n && eqb (e i) (sym (sort-digit d p (omega arith)) i))
       ∙ as-child (child (sortFrom d)) (field-child d p (omega arith))
 
--- the same of a number that was read
-pub at-child : (l : Language) (t : List ℕ) (n d x y : ℕ) (b : Bool) → x ≡ y
-    → (fieldFits (fieldFrom d) x ≡ true → b ≡ childFits l t n (fieldFrom d) x) → fieldFits (fieldFrom d) y ≡ true
-    → b ≡ childFits l t n (fieldFrom d) y
-at-child l t n d x y b e f h =
-    subst (λ (z : ℕ). fieldFits (fieldFrom d) z ≡ true → b ≡ childFits l t n (fieldFrom d) z) e f h
-
+-- what the fields of a record that keeps 4 fit
 pub there : (x : ℕ) (t : List ℕ) (n : ℕ) → fieldsFit (entry 0 x) (recordAt t n) ≡ true
     → (fieldFits (fieldFrom (x / 4096 % 16)) (childA t n) ≡ true)
     × (fieldFits (fieldFrom (x / 256 % 16)) (childB t n) ≡ true)

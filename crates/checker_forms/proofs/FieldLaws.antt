@@ -35,6 +35,9 @@ pub test-range : (d x : ℕ) → (d ≡ 8 → ⊥) → between (getD bounds d 0 
 unfolding testFrom
 test-range d x h = rw (ne-eqb d 8 h, testFrom)
 
+pub as-field : (d x : ℕ) (f : Field) → fieldFrom d ≡ f → fieldFits f x ≡ fieldFits (fieldFrom d) x
+as-field d x f e = ap (λ (g : Field). fieldFits g x) (sym e)
+
 pub field-none : (d : ℕ) → d ≡ 0 → fieldFrom d ≡ unnamed
 unfolding fieldFrom
 field-none d e = ap fieldFrom e

@@ -71,10 +71,15 @@ entry k x =
 unfoldable pub decoded : ℕ → ℕ → Option Form
 decoded k x = elim (eqb x 0) [ true ↦ none | false ↦ some (entry k x) ]
 
+-- A and B are fields for a child or for none
+abbrev pub ForChildren : ℕ → Type 0
+ForChildren x = (x / 4096 % 16 < 6) × (x / 256 % 16 < 6)
+
 -- x is what kind k asks in a language
 pub record Coded (l : Language) (k x : ℕ) : Type 0 where
   pub asks : formOf l k ≡ decoded k x
   pub sort : sortOf l k ≡ x / 1048576
+  pub children : ForChildren x
 
 -- the number of the sort of a kind that a language has: one more than its tens, of a statement 5
 abbrev pub sortBy : ℕ → ℕ

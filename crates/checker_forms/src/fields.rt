@@ -1,6 +1,7 @@
 // What a digit of a form asks of a field: 0 none, 1 to 5 a child of that sort, 6 on a number in a range; and of a
 // literal: 0 zero, 1 any, 2 a statement.
 ghost use mathlib.Core.Path.{_≡_};
+ghost use Prim.Native.Nat.{_<_};
 ghost use lib.ListN.{getD};
 ghost use Rattle.rules.specs.Kinds.{between};
 ghost use Rattle.rules.specs.Checker.{fieldFits, literalFits};
@@ -44,14 +45,22 @@ fn number_fits(digit: usize, x: usize) -> bool
     is_between(bounds / 256, bounds % 256, x)
 }
 
-pub fn field_fits(digit: usize, x: usize) -> bool
+// Of a field for a child or for none.
+pub fn child_there(digit: usize, x: usize) -> bool
+    requires { ⌜ digit < 6 ⌝ }
     ensures { λ r. ⌜ r ≡ fieldFits (fieldFrom digit) x ⌝ }
 {
     if digit == 0 {
         return x == 0;
     }
+    0 < x
+}
+
+pub fn field_fits(digit: usize, x: usize) -> bool
+    ensures { λ r. ⌜ r ≡ fieldFits (fieldFrom digit) x ⌝ }
+{
     if digit < 6 {
-        return 0 < x;
+        return child_there(digit, x);
     }
     number_fits(digit, x)
 }

@@ -11,6 +11,7 @@ ghost use Rattle.rules.specs.Kinds.{source, target};
 ghost use Rattle.rules.specs.Checker.{fieldFits, fieldsFit, childFits, childrenFit, recordFault};
 ghost use Rattle.table.specs.Within.{Within};
 ghost use Rattle.checker_forms.specs.Codes.{languageOf, Coded, fieldFrom, fieldsThere, entry, sortBy, Before};
+ghost use Rattle.checker_forms.specs.Codes.{ForChildren};
 
 // What a kind asks of a source record. The compiler makes a match a table that is read, where it builds an array anew.
 fn source_form(kind: u8) -> usize
@@ -114,10 +115,11 @@ pub fn form_of(target: bool, kind: u8) -> usize
 }
 
 fn are_there(form: usize, a: usize, b: usize, c: usize) -> bool
+    requires { ⌜ ForChildren form ⌝ }
     ensures { λ r. ⌜ r ≡ fieldsThere form (a ∷ b ∷ c ∷ []) ⌝ }
 {
-    if fields::field_fits(form / 4096 % 16, a) {
-        if fields::field_fits(form / 256 % 16, b) {
+    if fields::child_there(form / 4096 % 16, a) {
+        if fields::child_there(form / 256 % 16, b) {
             return fields::field_fits(form / 16 % 16, c);
         }
         return false;
@@ -126,7 +128,7 @@ fn are_there(form: usize, a: usize, b: usize, c: usize) -> bool
 }
 
 fn fields_fit(form: usize, table: &[u8], n: usize) -> bool
-    requires { ⌜ Within (now table) n ⌝ }
+    requires { ⌜ Within (now table) n × ForChildren form ⌝ }
     ensures { λ r. ⌜ r ≡ fieldsFit (entry 0 form) (recordAt (now (table .entry)) n) ⌝ }
 {
     if fields::field_fits(form / 65536 % 16, table::mark(table, n) as usize) {
@@ -150,20 +152,14 @@ pub fn sort_of(kind: u8) -> usize
     5
 }
 
-// Of a child that is there. Its kind is in the language, since it stands before n.
+// Of a field for a child or for none, with what fits it. A child's kind is in the language, since it stands before n.
 fn child_fits(target: bool, table: &[u8], n: usize, digit: usize, x: usize) -> bool
-    requires { ⌜ Within (now table) n × Before (languageOf target) (now table) n ⌝ }
-    ensures { λ r. ⌜ (fieldFits (fieldFrom digit) x ≡ true
-        → r ≡ childFits (languageOf target) (now (table .entry)) n (fieldFrom digit) x) ⌝ }
+    requires { ⌜ Within (now table) n × Before (languageOf target) (now table) n × (digit < 6)
+        × (fieldFits (fieldFrom digit) x ≡ true) ⌝ }
+    ensures { λ r. ⌜ r ≡ childFits (languageOf target) (now (table .entry)) n (fieldFrom digit) x ⌝ }
 {
-    if digit == 0 {
-        return true;
-    }
-    if 5 < digit {
-        return true;
-    }
     if x == 0 {
-        return false;
+        return true;
     }
     if n <= x {
         return false;
@@ -171,15 +167,27 @@ fn child_fits(target: bool, table: &[u8], n: usize, digit: usize, x: usize) -> b
     sort_of(table::kind(table, x)) == digit
 }
 
+// Of C, which may be a number.
+fn third_fits(target: bool, table: &[u8], n: usize, digit: usize, x: usize) -> bool
+    requires { ⌜ Within (now table) n × Before (languageOf target) (now table) n
+        × (fieldFits (fieldFrom digit) x ≡ true) ⌝ }
+    ensures { λ r. ⌜ r ≡ childFits (languageOf target) (now (table .entry)) n (fieldFrom digit) x ⌝ }
+{
+    if 5 < digit {
+        return true;
+    }
+    child_fits(target, table, n, digit, x)
+}
+
 fn children_fit(target: bool, form: usize, table: &[u8], n: usize) -> bool
-    requires { ⌜ Within (now table) n × Before (languageOf target) (now table) n ⌝ }
-    ensures { λ r. ⌜ (fieldsFit (entry 0 form) (recordAt (now (table .entry)) n) ≡ true
-        → r ≡ childrenFit (languageOf target) (now (table .entry)) n (entry 0 form)
-        (recordAt (now (table .entry)) n)) ⌝ }
+    requires { ⌜ Within (now table) n × Before (languageOf target) (now table) n × ForChildren form
+        × (fieldsFit (entry 0 form) (recordAt (now table) n) ≡ true) ⌝ }
+    ensures { λ r. ⌜ r ≡ childrenFit (languageOf target) (now (table .entry)) n (entry 0 form)
+        (recordAt (now (table .entry)) n) ⌝ }
 {
     if child_fits(target, table, n, form / 4096 % 16, table::child_a(table, n)) {
         if child_fits(target, table, n, form / 256 % 16, table::child_b(table, n)) {
-            return child_fits(target, table, n, form / 16 % 16, table::child_c(table, n));
+            return third_fits(target, table, n, form / 16 % 16, table::child_c(table, n));
         }
         return false;
     }
@@ -195,12 +203,10 @@ pub fn record_fault(target: bool, table: &[u8], n: usize) -> u32
     if form == 0 {
         return 3;
     }
-    let fields = fields_fit(form, table, n);
-    let children = children_fit(target, form, table, n);
-    if !fields {
+    if !fields_fit(form, table, n) {
         return 4;
     }
-    if !children {
+    if !children_fit(target, form, table, n) {
         return 5;
     }
     0

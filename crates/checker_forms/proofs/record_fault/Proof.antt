@@ -28,23 +28,24 @@ returns c =
     fault-none l t (a .n) x k (c .if1 .taken)
 
 fields-fit-requires : tie.Need-fields-fit-requires
-fields-fit-requires c κs = search needs
-
-children-fit-requires : tie.Need-children-fit-requires
-children-fit-requires c κs = search needs
+fields-fit-requires c κs = (c .before .before .before .before .pre .0, c .before .form-of .ensures .children)
 
 returns-2 : tie.Need-returns-2
 returns-2 c =
-    let a = c .before .before .before .before .before .before .before .args in
+    let a = c .before .before .before .before .before .before .args in
     let l = languageOf (a .target) in
     let t = a .table .now in
-    let x = c .before .before .before .before .form-of .result in
+    let x = c .before .before .before .form-of .result in
     let k : Coded l (kindOf t (a .n)) x =
-    subst (λ (k : ℕ). Coded l k x) (c .before .before .before .before .before .kind .ensures)
-    (c .before .before .before .before .form-of .ensures) in
-    sym (fault-some l t (a .n) x k (c .before .before .before .if1 .left)
+    subst (λ (k : ℕ). Coded l k x) (c .before .before .before .before .kind .ensures) (c .before .before .before .form-of .ensures) in
+    sym (fault-some l t (a .n) x k (c .before .before .if1 .left)
     ∙ ap (λ (b : Bool). cond b (cond (childrenFit l t (a .n) (entry 0 x) (recordAt t (a .n))) 0 5) 4)
-    (sym (c .before .before .fields-fit .ensures) ∙ not-true _ (c .if2 .taken)))
+    (sym (c .before .fields-fit .ensures) ∙ not-true _ (c .if2 .taken)))
+
+children-fit-requires : tie.Need-children-fit-requires
+children-fit-requires c κs =
+    let s = c .before .before .before .before .before .before in
+    (s .pre .0, s .pre .1, c .before .before .before .form-of .ensures .children, sym (c .before .fields-fit .ensures) ∙ not-false _ (c .if2 .left))
 
 returns-3 : tie.Need-returns-3
 returns-3 c =
@@ -53,13 +54,11 @@ returns-3 c =
     let t = a .table .now in
     let x = c .before .before .before .before .before .form-of .result in
     let k : Coded l (kindOf t (a .n)) x =
-    subst (λ (k : ℕ). Coded l k x) (c .before .before .before .before .before .before .kind .ensures)
-    (c .before .before .before .before .before .form-of .ensures) in
-    let fit : fieldsFit (entry 0 x) (recordAt t (a .n)) ≡ true = sym (c .before .before .before .fields-fit .ensures)
-    ∙ not-false _ (c .before .if2 .left) in
+    subst (λ (k : ℕ). Coded l k x) (c .before .before .before .before .before .before .kind .ensures) (c .before .before .before .before .before .form-of .ensures) in
+    let fit : fieldsFit (entry 0 x) (recordAt t (a .n)) ≡ true =
+    sym (c .before .before .before .fields-fit .ensures) ∙ not-false _ (c .before .before .if2 .left) in
     sym (fault-some l t (a .n) x k (c .before .before .before .before .if1 .left)
-    ∙ (λ i. cond (fit i) (cond ((sym (c .before .before .children-fit .ensures fit) ∙ not-true _ (c .if3 .taken)) i) 0
-    5) 4))
+    ∙ (λ i. cond (fit i) (cond ((sym (c .before .children-fit .ensures) ∙ not-true _ (c .if3 .taken)) i) 0 5) 4))
 
 returns-4 : tie.Need-returns-4
 returns-4 c =
@@ -68,13 +67,11 @@ returns-4 c =
     let t = a .table .now in
     let x = c .before .before .before .before .before .form-of .result in
     let k : Coded l (kindOf t (a .n)) x =
-    subst (λ (k : ℕ). Coded l k x) (c .before .before .before .before .before .before .kind .ensures)
-    (c .before .before .before .before .before .form-of .ensures) in
-    let fit : fieldsFit (entry 0 x) (recordAt t (a .n)) ≡ true = sym (c .before .before .before .fields-fit .ensures)
-    ∙ not-false _ (c .before .if2 .left) in
+    subst (λ (k : ℕ). Coded l k x) (c .before .before .before .before .before .before .kind .ensures) (c .before .before .before .before .before .form-of .ensures) in
+    let fit : fieldsFit (entry 0 x) (recordAt t (a .n)) ≡ true =
+    sym (c .before .before .before .fields-fit .ensures) ∙ not-false _ (c .before .before .if2 .left) in
     sym (fault-some l t (a .n) x k (c .before .before .before .before .if1 .left)
-    ∙ (λ i. cond (fit i) (cond ((sym (c .before .before .children-fit .ensures fit) ∙ not-false _ (c .if3 .left)) i) 0
-    5) 4))
+    ∙ (λ i. cond (fit i) (cond ((sym (c .before .children-fit .ensures) ∙ not-false _ (c .if3 .left)) i) 0 5) 4))
 
 pub record-fault-spec : {M : Type 1} → statement M
 record-fault-spec =
@@ -84,7 +81,7 @@ record-fault-spec =
     form-of-requires
     returns
     fields-fit-requires
-    children-fit-requires
     returns-2
+    children-fit-requires
     returns-3
     returns-4)
