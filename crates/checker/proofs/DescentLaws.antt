@@ -11,7 +11,7 @@ use lib.ListN.{length, getD}
 use Rattle.rules.specs.Records.{recordCount, kindOf, childA, childB, childC, recordAt}
 use Rattle.rules.specs.Kinds.{Language, Field, unnamed, child, number}
 use Rattle.rules.specs.Checker.{recordFault, shapeFault, timesIn, timesChildOf}
-use Rattle.rules.proofs.acceptance.ParentLaws.{Passed, IsParent, parent-above, has-parent}
+use Rattle.rules.proofs.acceptance.ParentLaws.{Passed, IsParent, parent-above, has-parent, child-once, times-both}
 use Rattle.rules.proofs.acceptance.CheckLaws.{each-passes}
 use Rattle.checker_forms.specs.Codes.{fieldFrom, Coded}
 use Rattle.checker.specs.Searches.{putIn, putThree}
@@ -87,6 +87,35 @@ module _ (P : ℕ → ℕ → Type 0) (l : Language) (t : List ℕ) where
       go m j k q e (no p) =
           let same : m ≡ n = omega arith in
           absurd (omega (arith, e, subst (λ (i : ℕ). 0 < timesChildOf l t i j) same (k .has-child)))
+
+-- nothing is put yet for a child of the records up to n
+abbrev pub Fresh : Language → List ℕ → ℕ → List ℕ → Type 0
+Fresh l t n notes = (m j : ℕ) → IsParent l t m j → m ≤ n → getD notes j 0 ≡ 0
+
+pub fresh-down : (l : Language) (t : List ℕ) → Passed l t → (n : ℕ) (f : ℕ → ℕ) (notes notes' : List ℕ) → 0 < n
+    → n ≤ recordCount t → recordCount t < length notes → Given l t n f notes notes' → Fresh l t n notes
+    → Fresh l t (n - 1) notes'
+fresh-down l t keeps n f notes notes' a b size g h m j p q =
+    let below = parent-above l t keeps m j p in
+    let once = child-once l t keeps j (below .0) (omega (arith, below, p .in-table)) in
+    let both = times-both l t j m n (recordCount t) (p .in-table .0) (omega arith) b in
+    let other : timesChildOf l t n j ≤ 0 = omega (arith, both, once, p .has-child) in
+    g .values j (omega (arith, below, p .in-table, size))
+    ∙ ap (λ (x : Bool). cond x (f j) (getD notes j 0)) (le-ltb 0 (timesChildOf l t n j) other)
+    ∙ h m j p (omega arith)
+
+-- so 0 need not be put
+pub given-none : (l : Language) (t : List ℕ) (n : ℕ) (f : ℕ → ℕ) (notes : List ℕ) → ((j : ℕ) → f j ≡ 0)
+    → ((j : ℕ) → 0 < timesChildOf l t n j → getD notes j 0 ≡ 0) → Given l t n f notes notes
+given-none l t n f notes zero-of h = record { size = refl; values = λ j p. go j (decLt 0 (timesChildOf l t n j)) }
+  where
+    go : (j : ℕ) → Dec (0 < timesChildOf l t n j)
+        → getD notes j 0 ≡ cond (ltb 0 (timesChildOf l t n j)) (f j) (getD notes j 0)
+    go j (yes p) =
+        h j p ∙ sym (zero-of j)
+        ∙ sym (ap (λ (x : Bool). cond x (f j) (getD notes j 0)) (lt-ltb 0 (timesChildOf l t n j) p))
+    go j (no p) =
+        sym (ap (λ (x : Bool). cond x (f j) (getD notes j 0)) (le-ltb 0 (timesChildOf l t n j) (omega arith)))
 
 -- what is put by the fields of record n is given to its children
 module _ (l : Language) (t : List ℕ) (n x : ℕ) (k : Coded l (kindOf t n) x) (u v w : ℕ) (f : ℕ → ℕ) (notes : List ℕ)

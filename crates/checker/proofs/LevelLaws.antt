@@ -1,10 +1,11 @@
 -- The levels below a record and the temporaries that it names, test by test.
 use Prim.Native.Nat.{ℕ, suc, _+_, _<_, _≤_}
 use native.Mathlib.Omega.{arith}
+use native.Mathlib.Decide.{decLt}
 use mathlib.Core.Bool.{Bool, true, false, cond, _&&_, _||_}
 use mathlib.Core.List.{List, [], _∷_}
 use mathlib.Core.Path.{_≡_, refl, sym, ap, _∙_}
-use borrow.Author.Tests.{eq-eqb, ne-eqb}
+use borrow.Author.Tests.{eq-eqb, ne-eqb, lt-leb}
 use lib.Dec.{eqb, leb}
 use lib.ListN.{length}
 use Rattle.rules.specs.Checker.{isUnary, isBinary, isJoint, levelBelow, positionIn, highestNamed}
@@ -28,6 +29,13 @@ first-is k i j e = sym (ap (λ (b : Bool). b || eqb k j) (eq-eqb k i e))
 pub first-not : (k i j : ℕ) → (k ≡ i → ⊥) → eqb k j ≡ (eqb k i || eqb k j)
 first-not k i j e = sym (ap (λ (b : Bool). b || eqb k j) (ne-eqb k i e))
 
+and-false : (p : Bool) → (p && false) ≡ false
+and-false true = refl
+and-false false = refl
+
+either-not : (k i j : ℕ) → (k ≡ i → ⊥) → (k ≡ j → ⊥) → false ≡ (eqb k i || eqb k j)
+either-not k i j p q = sym (λ n. ne-eqb k i p n || ne-eqb k j q n)
+
 -- ---- the level below
 module _ (k i n : ℕ) where
   pub below-unary : isUnary k ≡ true → n + 1 ≡ levelBelow k i n
@@ -43,6 +51,23 @@ module _ (k i n : ℕ) where
 
   pub below-none : isUnary k ≡ false → isBinary k ≡ false → isJoint k ≡ false → 0 ≡ levelBelow k i n
   below-none u v w = sym (λ j. cond (u j) (suc n) (cond (v j) (n + 1 + i) (cond (w j) n 0)))
+
+  -- another kind than a term's or predicate's
+  pub below-outside : (21 ≤ k → k ≤ 35 → ⊥) → levelBelow k i n ≡ 0
+  below-outside h =
+      sym (below-none (sym (unary-range k false (go (decLt k 21)) (λ e. h (omega arith) (omega arith))
+      (λ e. h (omega arith) (omega arith)) (λ e. h (omega arith) (omega arith))))
+      (sym (either-not k 24 32 (λ e. h (omega arith) (omega arith)) (λ e. h (omega arith) (omega arith))))
+      (sym (either-not k 34 35 (λ e. h (omega arith) (omega arith)) (λ e. h (omega arith) (omega arith)))))
+    where
+      high : Dec (k < 36) → 21 ≤ k → 23 < k
+      high (yes q) p = absurd (h p (omega arith))
+      high (no q) p = omega arith
+
+      go : Dec (k < 21) → false ≡ (leb 21 k && leb k 23)
+      go (yes p) = sym (ap (λ (b : Bool). b && leb k 23) (lt-leb 21 k p))
+      go (no p) =
+          sym (ap (λ (b : Bool). leb 21 k && b) (lt-leb k 23 (high (decLt k 36) (omega arith))) ∙ and-false (leb 21 k))
 
   pub below-most : levelBelow k i n ≤ n + 1 + i
   below-most = go (isUnary k) (isBinary k) (isJoint k)

@@ -17,8 +17,8 @@ use Rattle.rules.proofs.acceptance.KindViews.{formAt}
 use Rattle.rules.proofs.acceptance.ParentLaws.{Passed, IsParent, two-pass}
 use Rattle.rules.proofs.acceptance.FormLaws.{fields-split}
 use Rattle.rules.proofs.acceptance.ScopeLaws.{scope-child, scope-last, level-child, level-last}
-use Rattle.checker.specs.Scopes.{bit, outOfScope, tooDeep}
-use Rattle.checker.proofs.LevelLaws.{below-most, position-most}
+use Rattle.checker.specs.Scopes.{bit, outOfScope, tooDeep, childLevel}
+use Rattle.checker.proofs.LevelLaws.{below-most, below-outside, position-most}
 
 -- ---- the marks of 10 and 47 are variables
 four-less : (p q : Bool) → _≡_ {A = ℕ} (cond p (cond q 0 5) 4) 0 → p ≡ true
@@ -118,11 +118,17 @@ level-most t (suc d) n = go (parentOf source t n) (λ m. level-most t d m)
           position-most (fieldsOf (recordAt t m)) n,
         )
 
+pub child-outside : (t : List ℕ) (n v k : ℕ) → k ≡ kindOf t n → (21 ≤ k → k ≤ 35 → ⊥) → (j : ℕ)
+    → childLevel t n v j ≡ 0
+child-outside t n v k e h j =
+    ap (λ (i : ℕ). levelBelow i (positionIn (fieldsOf (recordAt t n)) j) v) (sym e)
+    ∙ below-outside k (positionIn (fieldsOf (recordAt t n)) j) v h
+
 pub levelled-last : (t : List ℕ) → Passed source t → (v : ℕ) → v ≡ 0 → Levelled t (recordCount t) v
 levelled-last t keeps v e = e ∙ sym (level-last t keeps)
 
 pub levelled-child : (t : List ℕ) → Passed source t → (n j v : ℕ) → IsParent source t n j → Levelled t n v
-    → Levelled t j (levelBelow (kindOf t n) (positionIn (fieldsOf (recordAt t n)) j) v)
+    → Levelled t j (childLevel t n v j)
 levelled-child t keeps n j v p h =
     ap (levelBelow (kindOf t n) (positionIn (fieldsOf (recordAt t n)) j)) h ∙ sym (level-child t keeps n j p)
 

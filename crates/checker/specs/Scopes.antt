@@ -7,10 +7,10 @@ use lib.Dec.{eqb, ltb, leb}
 use lib.ListN.{length, getD}
 use Rattle.rules.specs.declared.{Search.Search}
 use Rattle.rules.specs.Sizes.{temporaryCount}
-use Rattle.rules.specs.Records.{recordCount}
+use Rattle.rules.specs.Records.{fieldsOf, recordCount, kindOf, recordAt}
 use Rattle.rules.specs.Kinds.{Language, recordLimit}
 use Rattle.rules.specs.Checker.{lowestRecord, recordFault, timesChildOf, shapeFault, scopeFault, isTermOrPredicate}
-use Rattle.rules.specs.Checker.{highestNamed}
+use Rattle.rules.specs.Checker.{levelBelow, positionIn, highestNamed}
 use Rattle.checker.specs.Searches.{searchOf, noted}
 
 unfoldable pub bit : ℕ → ℕ → Bool
@@ -62,6 +62,10 @@ pub record Found (l : Language) (t : List ℕ) (misshapen hidden : ℕ) : Type 0
   pub formed : Formed l t
   pub shapes : lowestRecord t (shapeFault l t) ≡ searchOf misshapen
   pub scopes : Kept l t → lowestRecord t (scopeFault l t) ≡ searchOf hidden
+
+-- the level of child j of record n, which is at level v
+abbrev pub childLevel : List ℕ → ℕ → ℕ → ℕ → ℕ
+childLevel t n v j = levelBelow (kindOf t n) (positionIn (fieldsOf (recordAt t n)) j) v
 
 -- a term or predicate of kind k at level n that names a temporary above 63
 abbrev pub tooDeep : ℕ → ℕ → Bool

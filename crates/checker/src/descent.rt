@@ -1,14 +1,14 @@
 // What a record gives to its children.
 ghost use mathlib.Core.Path.{_≡_};
 ghost use Prim.Native.Nat.{ℕ, _<_};
-ghost use lib.ListN.{length};
-ghost use Rattle.rules.specs.Records.{fieldsOf, recordCount, kindOf, recordAt};
+ghost use lib.ListN.{length, getD};
+ghost use Rattle.rules.specs.Records.{recordCount, kindOf};
 ghost use Rattle.rules.specs.Kinds.{source};
-ghost use Rattle.rules.specs.Checker.{levelBelow, positionIn};
+ghost use Rattle.rules.specs.Checker.{timesChildOf};
 ghost use Rattle.table.specs.Within.{Within};
 ghost use Rattle.checker_forms.specs.Codes.{languageOf};
 ghost use Rattle.checker.specs.Searches.{levelCount, thirdChild};
-ghost use Rattle.checker.specs.Scopes.{Given, Noted, Formed};
+ghost use Rattle.checker.specs.Scopes.{Given, Noted, Formed, childLevel};
 use super::levels::child_level;
 use super::notes::Levels;
 use super::notes::note_children;
@@ -39,15 +39,13 @@ pub fn pass_scope(target: bool, table: &[u8], n: usize, scope: u64, notes: &mut 
     note_children(notes, a, b, c, scope);
 }
 
-// Its level to each.
-pub fn pass_level(table: &[u8], n: usize, level: u64, levels: &mut Levels)
-    requires { ⌜ Within (now table) n × (length (now levels) ≡ levelCount) × (level < 65535) ⌝ }
-    ensures { λ _. ⌜ Given source (now (table .entry)) n
-        (λ (j : ℕ). levelBelow (kindOf (now (table .entry)) n)
-        (positionIn (fieldsOf (recordAt (now (table .entry)) n)) j) level)
+// Its level to each child of a term or predicate.
+fn put_levels(table: &[u8], n: usize, kind: u8, level: u16, levels: &mut Levels)
+    requires { ⌜ Within (now table) n × (kind ≡ kindOf (now table) n) × (length (now levels) ≡ levelCount)
+        × (level < 2048) ⌝ }
+    ensures { λ _. ⌜ Given source (now (table .entry)) n (childLevel (now (table .entry)) n level)
         (now (levels .entry)) (now (levels .exit)) ⌝ }
 {
-    let kind = table::kind(table, n);
     let a = table::child_a(table, n);
     let b = table::child_b(table, n);
     let c = table::child_c(table, n);
@@ -64,4 +62,21 @@ pub fn pass_level(table: &[u8], n: usize, level: u64, levels: &mut Levels)
         v,
         w,
     );
+}
+
+// Another record's children have level 0, which is there from the start.
+pub fn pass_level(table: &[u8], n: usize, level: u16, levels: &mut Levels)
+    requires { ⌜ Within (now table) n × (length (now levels) ≡ levelCount) × (level < 2048)
+        × ((j : ℕ) → 0 < timesChildOf source (now table) n j → getD (now levels) j 0 ≡ 0) ⌝ }
+    ensures { λ _. ⌜ Given source (now (table .entry)) n (childLevel (now (table .entry)) n level)
+        (now (levels .entry)) (now (levels .exit)) ⌝ }
+{
+    let kind = table::kind(table, n);
+    if kind < 21 {
+        return;
+    }
+    if 35 < kind {
+        return;
+    }
+    put_levels(table, n, kind, level, levels);
 }

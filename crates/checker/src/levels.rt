@@ -41,7 +41,7 @@ fn is_joint(kind: u8) -> bool
     kind == 35
 }
 
-fn position_in(a: usize, b: usize, c: usize, x: usize) -> u64
+fn position_in(a: usize, b: usize, c: usize, x: usize) -> u16
     ensures { λ r. ⌜ (r ≡ positionIn (a ∷ b ∷ c ∷ []) x) × (r < 4) ⌝ }
 {
     if a == x {
@@ -57,8 +57,8 @@ fn position_in(a: usize, b: usize, c: usize, x: usize) -> u64
 }
 
 // The level of child x of a record of this kind, at this level, that has children A, B and C.
-pub fn child_level(kind: u8, a: usize, b: usize, c: usize, x: usize, level: u64) -> u64
-    requires { ⌜ level < 65535 ⌝ }
+pub fn child_level(kind: u8, a: usize, b: usize, c: usize, x: usize, level: u16) -> u16
+    requires { ⌜ level < 2048 ⌝ }
     ensures { λ r. ⌜ r ≡ levelBelow kind (positionIn (a ∷ b ∷ c ∷ []) x) level ⌝ }
 {
     if is_unary(kind) {
@@ -73,8 +73,8 @@ pub fn child_level(kind: u8, a: usize, b: usize, c: usize, x: usize, level: u64)
     0
 }
 
-fn highest_named(kind: u8, level: u64) -> u64
-    requires { ⌜ level < 65535 ⌝ }
+fn highest_named(kind: u8, level: u16) -> u16
+    requires { ⌜ level < 2048 ⌝ }
     ensures { λ r. ⌜ r ≡ highestNamed kind level ⌝ }
 {
     if is_unary(kind) {
@@ -87,8 +87,8 @@ fn highest_named(kind: u8, level: u64) -> u64
 }
 
 // A record of this kind at this level breaks rule 8.
-pub fn is_too_deep(kind: u8, level: u64) -> bool
-    requires { ⌜ level < 65535 ⌝ }
+pub fn is_too_deep(kind: u8, level: u16) -> bool
+    requires { ⌜ level < 2048 ⌝ }
     ensures { λ r. ⌜ r ≡ tooDeep kind level ⌝ }
 {
     if kind < 20 {

@@ -21,7 +21,19 @@ use rules::Checked;
 use rules::SOURCE_LIMIT;
 use rules::TARGET_LIMIT;
 
-// Rules 6 to 8, with notes for a table of at most 256 records.
+// Few records: the least notes to clear.
+const SMALL_LIMIT: usize = 64;
+
+// Rules 6 to 8, with notes for a small table.
+fn check_small(target: bool, table: &[u8]) -> Checked
+    requires { ⌜ Formed (languageOf target) (now table) × (recordCount (now table) ≤ 64) ⌝ }
+    ensures { λ r. ⌜ r ≡ fromShapes (languageOf target) (now (table .entry)) ⌝ }
+{
+    let mut notes = [0u64; SMALL_LIMIT + 1];
+    shapes::check_shapes(target, table, &mut notes[..])
+}
+
+// With notes for the longest source table.
 fn check_short(target: bool, table: &[u8]) -> Checked
     requires { ⌜ Formed (languageOf target) (now table) × (recordCount (now table) ≤ sourceLimit) ⌝ }
     ensures { λ r. ⌜ r ≡ fromShapes (languageOf target) (now (table .entry)) ⌝ }
@@ -44,6 +56,9 @@ fn check_formed(target: bool, table: &[u8]) -> Checked
     requires { ⌜ Formed (languageOf target) (now table) ⌝ }
     ensures { λ r. ⌜ r ≡ fromShapes (languageOf target) (now (table .entry)) ⌝ }
 {
+    if table.len() / 16 <= SMALL_LIMIT {
+        return check_small(target, table);
+    }
     if table.len() / 16 <= SOURCE_LIMIT {
         return check_short(target, table);
     }

@@ -9,7 +9,7 @@ use rules::SOURCE_LIMIT;
 // A level for each record of the longest source table, and for 0.
 pub const LEVEL_COUNT: usize = SOURCE_LIMIT + 1;
 
-pub type Levels = [u64; LEVEL_COUNT];
+pub type Levels = [u16; LEVEL_COUNT];
 
 fn join(scope: u64, v: u64) -> u64
     ensures { λ r. ⌜ r ≡ joined scope v ⌝ }
@@ -41,7 +41,7 @@ pub fn note_children(notes: &mut [u64], a: usize, b: usize, c: usize, scope: u64
 }
 
 // v is put for x where a field with this digit has it for a child.
-fn put_child(levels: &mut Levels, digit: usize, x: usize, v: u64)
+fn put_child(levels: &mut Levels, digit: usize, x: usize, v: u16)
     requires { ⌜ length (now levels) ≡ levelCount ⌝ }
     ensures { λ _. ⌜ now (levels .exit) ≡ putIn (fieldFrom digit) x v (now (levels .entry)) ⌝ }
 {
@@ -63,9 +63,9 @@ pub fn put_children(
     a: usize,
     b: usize,
     c: usize,
-    u: u64,
-    v: u64,
-    w: u64,
+    u: u16,
+    v: u16,
+    w: u16,
 )
     requires { ⌜ length (now levels) ≡ levelCount ⌝ }
     ensures { λ _. ⌜ now (levels .exit) ≡ putThree form a b c u v w (now (levels .entry)) ⌝ }

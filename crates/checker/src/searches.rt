@@ -23,7 +23,7 @@ pub fn lowest_too_deep(table: &[u8]) -> usize
     requires { ⌜ Kept source (now table) ⌝ }
     ensures { λ r. ⌜ lowestRecord (now (table .entry)) (levelFault (now (table .entry))) ≡ searchOf r ⌝ }
 {
-    let mut levels = [0u64; LEVEL_COUNT];
+    let mut levels = [0u16; LEVEL_COUNT];
     let mut found = 0;
     let mut n = table.len() / 16;
     while 0 < n {

@@ -1,83 +1,39 @@
 -- `checker::descent::pass_level` meets its contract. Assumes nothing.
 use borrow.Author.Needs.{needs}
-use Prim.Native.Nat.{ℕ}
-use mathlib.Core.List.{List, [], _∷_}
-use mathlib.Core.Path.{_≡_, sym, subst, _∙_}
-use Rattle.rules.specs.Records.{fieldsOf, kindOf, childA, childB, childC, recordAt}
+use native.Mathlib.Omega.{arith}
 use Rattle.rules.specs.Kinds.{source}
-use Rattle.rules.specs.Checker.{levelBelow, positionIn}
-use Rattle.checker_forms.specs.Codes.{Coded}
-use Rattle.checker.specs.Searches.{putThree}
-use Rattle.checker.specs.Scopes.{Given}
-use Rattle.checker.proofs.DescentLaws.{given-three}
+use Rattle.checker.specs.Scopes.{childLevel}
+use Rattle.checker.proofs.DescentLaws.{given-none}
+use Rattle.checker.proofs.RightLaws.{child-outside}
 use Rattle.checker.proofs.descent.pass_level.Statement.{statement}
 use Rattle.checker.proofs.descent.pass_level.Tie as tie
 
 kind-requires : tie.Need-kind-requires
 kind-requires c κs = search needs
 
-child-a-requires : tie.Need-child-a-requires
-child-a-requires c κs = search needs
-
-child-b-requires : tie.Need-child-b-requires
-child-b-requires c κs = search needs
-
-child-c-requires : tie.Need-child-c-requires
-child-c-requires c κs = search needs
-
-child-level-requires : tie.Need-child-level-requires
-child-level-requires c κs = search needs
-
-child-level-requires-2 : tie.Need-child-level-requires-2
-child-level-requires-2 c κs = search needs
-
-child-level-requires-3 : tie.Need-child-level-requires-3
-child-level-requires-3 c κs = search needs
-
-form-of-requires : tie.Need-form-of-requires
-form-of-requires c κs = search needs
-
-put-children-requires : tie.Need-put-children-requires
-put-children-requires c κs = search needs
-
 returns : tie.Need-returns
 returns c =
-    let s = c .before .before .before .before .before .before .before .before .before .before .before in
+    let s = c .before .before .before in
     let a = s .args in
     let t = a .table .now in
-    let x = c .before .form-of .result in
-    let kind = c .before .before .before .before .before .before .before .before .before .kind .ensures in
-    let ea = c .before .before .before .before .before .before .before .before .child-a .ensures in
-    let eb = c .before .before .before .before .before .before .before .child-b .ensures in
-    let ec = c .before .before .before .before .before .before .child-c .ensures in
-    let u = c .before .before .before .before .before .child-level .result in
-    let v = c .before .before .before .before .child-level2 .result in
-    let w = c .before .before .before .child-level3 .result in
-    let f : ℕ → ℕ = λ j. levelBelow (kindOf t (a .n)) (positionIn (fieldsOf (recordAt t (a .n))) j) (a .level) in
-    let k : Coded source (kindOf t (a .n)) x = subst (λ (k : ℕ). Coded source k x) kind (c .before .form-of .ensures) in
-    let put : c .put-children .last .0
-    ≡ putThree x (childA t (a .n)) (childB t (a .n)) (childC t (a .n)) u v w (a .levels .now) =
-    c .put-children .ensures ∙ (λ i. putThree x (ea i) (eb i) (ec i) u v w (a .levels .now)) in
-    subst (λ (m : List ℕ). Given source t (a .n) f (a .levels .now) m) (sym put)
-    (given-three source t (a .n) x k u v w f (a .levels .now)
-    (c .before .before .before .before .before .child-level .ensures
-    ∙ (λ i. levelBelow (kind i) (positionIn (ea i ∷ eb i ∷ ec i ∷ []) (ea i)) (a .level)))
-    (c .before .before .before .before .child-level2 .ensures
-    ∙ (λ i. levelBelow (kind i) (positionIn (ea i ∷ eb i ∷ ec i ∷ []) (eb i)) (a .level)))
-    (c .before .before .before .child-level3 .ensures
-    ∙ (λ i. levelBelow (kind i) (positionIn (ea i ∷ eb i ∷ ec i ∷ []) (ec i)) (a .level))))
+    let k = c .before .kind in
+    given-none source t (a .n) (childLevel t (a .n) (a .level)) (a .levels .now)
+    (child-outside t (a .n) (a .level) (k .result) (k .ensures) (λ p q. omega (arith, c .if1 .taken))) (s .pre .3)
+
+returns-2 : tie.Need-returns-2
+returns-2 c =
+    let s = c .before .before .before .before in
+    let a = s .args in
+    let t = a .table .now in
+    let k = c .before .before .kind in
+    given-none source t (a .n) (childLevel t (a .n) (a .level)) (a .levels .now)
+    (child-outside t (a .n) (a .level) (k .result) (k .ensures) (λ p q. omega (arith, c .if2 .taken))) (s .pre .3)
+
+put-levels-requires : tie.Need-put-levels-requires
+put-levels-requires c κs = search needs
+
+returns-3 : tie.Need-returns-3
+returns-3 c = c .put-levels .ensures
 
 pub pass-level-spec : {M : Type 1} → statement M
-pass-level-spec =
-    tie.close
-    (tie.spec
-    kind-requires
-    child-a-requires
-    child-b-requires
-    child-c-requires
-    child-level-requires
-    child-level-requires-2
-    child-level-requires-3
-    form-of-requires
-    put-children-requires
-    returns)
+pass-level-spec = tie.close (tie.spec kind-requires returns returns-2 put-levels-requires returns-3)

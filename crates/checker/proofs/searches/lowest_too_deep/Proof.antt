@@ -13,23 +13,24 @@ use Rattle.rules.specs.Kinds.{source}
 use Rattle.rules.specs.Checker.{scopeFault, levelFault, recordFault, levelBelow, positionIn, levelOf}
 use Rattle.checker_forms.specs.Codes.{languageOf}
 use Rattle.checker.specs.Searches.{levelCount}
-use Rattle.checker.specs.Scopes.{bit, outOfScope, tooDeep, Kept}
+use Rattle.checker.specs.Scopes.{tooDeep, childLevel, Kept}
 use Rattle.rules.proofs.acceptance.ParentLaws.{Passed, IsParent}
-use Rattle.checker.proofs.DescentLaws.{passed-of, Known, known-start, known-here, known-down}
+use Rattle.checker.proofs.DescentLaws.{passed-of, Known, known-here, known-down, Fresh, fresh-down}
 use Rattle.checker.proofs.RightLaws.{Scoped, mark-used, mark-let, scoped-last, scoped-child, scoped-fault}
 use Rattle.checker.proofs.RightLaws.{Levelled, level-most, levelled-last, levelled-child, levelled-fault}
-use Rattle.checker.proofs.Starts.{levels-start}
+use Rattle.checker.proofs.Starts.{levels-start, fresh-start}
 use Rattle.checker.proofs.Lowest.{Lowest, lowest-start, lowest-down, lowest-end}
 use Rattle.checker.proofs.searches.lowest_too_deep.Statement.{statement}
 use Rattle.checker.proofs.searches.lowest_too_deep.Tie as tie
 
-low-level : (t : List ℕ) (n v : ℕ) → Kept source t → Levelled t n v → v < 65535
+low-level : (t : List ℕ) (n v : ℕ) → Kept source t → Levelled t n v → v < 2048
 low-level t n v kept h = omega (arith, level-most t (recordCount t) n, kept .formed .sized .few)
 
 abbrev Inv-loop : tie.InvT-loop
 Inv-loop table levels₀ found₀ n₀ levels found n =
     (n ≤ recordCount table) × Known (Levelled table) source table n levels
     × Lowest (levelFault table) (recordCount table) n found × (length levels ≡ levelCount)
+    × Fresh source table n levels
 
 abbrev μ-loop : tie.MeasureT-loop
 μ-loop table levels₀ found₀ n₀ levels found n = n
@@ -37,8 +38,13 @@ abbrev μ-loop : tie.MeasureT-loop
 loop-holds : tie.Need-loop-holds Inv-loop μ-loop
 loop-holds c =
     let s = c .before in
-    let t = s .args .table .now in
-    (omega arith, levels-start t (s .pre) levelCount refl, lowest-start (levelFault t) (recordCount t), length-replicate {A = ℕ} levelCount 0)
+    let t = s .args .table .now in (
+      omega arith,
+      levels-start t (s .pre) levelCount refl,
+      lowest-start (levelFault t) (recordCount t),
+      length-replicate {A = ℕ} levelCount 0,
+      fresh-start source t (recordCount t) levelCount,
+    )
 
 mul-level : tie.Need-mul-level Inv-loop μ-loop
 mul-level c =
@@ -77,8 +83,12 @@ pass-level-requires c κs =
     let passed : Passed source t = passed-of source t (s .pre) in
     let level = getD (e .levels) (e .n) 0 in
     let here : Levelled t (e .n) level =
-    known-here (Levelled t) source t passed (e .n) (e .levels) taken (e .inv .0) (e .inv .1) in
-    ((taken, e .inv .0), e .inv .3, low-level t (e .n) level (s .pre) here)
+    known-here (Levelled t) source t passed (e .n) (e .levels) taken (e .inv .0) (e .inv .1) in (
+      (taken, e .inv .0),
+      e .inv .3,
+      low-level t (e .n) level (s .pre) here,
+      λ j p. e .inv .4 (e .n) j (record { in-table = (taken, e .inv .0); has-child = p }) (omega arith),
+    )
 
 sub-n : tie.Need-sub-n Inv-loop μ-loop
 sub-n c = omega arith
@@ -99,7 +109,7 @@ loop-again c =
     let ek = c .before .before .before .before .kind .ensures in (
       omega arith,
       known-down (Levelled t) source t passed (e .n)
-          (λ j. levelBelow (kindOf t (e .n)) (positionIn (fieldsOf (recordAt t (e .n))) j) level) (e .levels)
+          (childLevel t (e .n) level) (e .levels)
           (c .pass-level .last .1 .1 .1 .0)
           taken (e .inv .0) (c .pass-level .ensures) (λ j p. levelled-child t passed (e .n) j level p here) (e .inv .1),
       lowest-down (levelFault t) (recordCount t) (e .n) (e .found) (c .before .before .lower .result)
@@ -109,6 +119,8 @@ loop-again c =
           ∙ levelled-fault t (e .n) level here)
           (c .before .before .lower .ensures) (e .inv .2),
       c .pass-level .ensures .size ∙ e .inv .3,
+      fresh-down source t passed (e .n) (childLevel t (e .n) level) (e .levels) (c .pass-level .last .1 .1 .1 .0) taken
+          (e .inv .0) (e .inv .1 .size) (c .pass-level .ensures) (e .inv .4),
     )
 
 returns : tie.Need-returns Inv-loop μ-loop
