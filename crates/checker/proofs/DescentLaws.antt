@@ -2,14 +2,14 @@
 use Prim.Native.Nat.{ℕ, _-_, _/_, _%_, _<_, _≤_}
 use native.Mathlib.Omega.{arith}
 use native.Mathlib.Decide.{decLt}
-use mathlib.Core.Bool.{Bool, true, false, cond}
+use mathlib.Core.Bool.{Bool, cond}
 use mathlib.Core.List.{List}
 use mathlib.Core.Path.{_≡_, refl, sym, ap, subst, _∙_}
-use borrow.Author.Tests.{eqb-true, ltb-false, lt-ltb, le-ltb}
-use lib.Dec.{eqb, ltb}
+use borrow.Author.Tests.{ltb-false, lt-ltb, le-ltb}
+use lib.Dec.{ltb}
 use lib.ListN.{length, getD}
-use Rattle.rules.specs.Records.{recordCount, kindOf, childA, childB, childC, recordAt}
-use Rattle.rules.specs.Kinds.{Language, Field, unnamed, child, number}
+use Rattle.rules.specs.Records.{recordCount, kindOf, childA, childB, childC}
+use Rattle.rules.specs.Kinds.{Language, Field, number}
 use Rattle.rules.specs.Checker.{recordFault, shapeFault, timesIn, timesChildOf}
 use Rattle.rules.proofs.acceptance.ParentLaws.{Passed, IsParent, parent-above, has-parent, child-once, times-both}
 use Rattle.rules.proofs.acceptance.CheckLaws.{each-passes}

@@ -55,7 +55,7 @@ put-step P (child s) x v l j h p q = go (ℕ-discrete x j)
         subst P (sym (getD-set-other l x j v 0 (λ i. e (sym i)))) (q (ap (λ (b : Bool). cond b 1 0) (ne-eqb x j e)))
 
 -- what a field adds to a count
-pub times-most : (f : Field) (x j : ℕ) → timesIn f x j ≤ 1
+times-most : (f : Field) (x j : ℕ) → timesIn f x j ≤ 1
 times-most unnamed x j = omega arith
 times-most (number p) x j = omega arith
 times-most (child s) x j = go (eqb x j)
@@ -74,7 +74,7 @@ field-has (child s) y j h = go (eqb y j) refl h
     go false e g = absurd (omega arith)
 
 -- ---- one more parent
-pub note-length : (s : ℕ) (f : Field) (x : ℕ) (l : List ℕ) → length (noteIn s f x l) ≡ length l
+note-length : (s : ℕ) (f : Field) (x : ℕ) (l : List ℕ) → length (noteIn s f x l) ≡ length l
 note-length s f x l = put-length f x (joined s (getD l x 0)) l
 
 note-step : (s : ℕ) (f : Field) (x : ℕ) (l : List ℕ) (j : ℕ) → j < length l

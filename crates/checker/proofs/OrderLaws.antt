@@ -11,7 +11,7 @@ use lib.ListN.{length}
 use Rattle.rules.specs.Sizes.{targetLimit}
 use Rattle.rules.specs.declared.{Search.Search, Checked.Checked}
 use Rattle.rules.specs.Records.{recordCount}
-use Rattle.rules.specs.Kinds.{Language, source, target, recordLimit}
+use Rattle.rules.specs.Kinds.{Language, recordLimit}
 use Rattle.rules.specs.Checker.{lowestRecord, lengthFault, countFault, recordFault, shapeFault}
 use Rattle.rules.specs.Checker.{levelFault, refuseIf, refuseAt, _otherwise_, lastRule, check}
 use Rattle.rules.proofs.lists.SearchLaws.{lowest-at, lowest-nothing}
@@ -32,7 +32,7 @@ pub next-at : (rule : ℕ → ℕ) (s : Search) (r : ℕ) (next : Checked) → s
 next-at rule s zero next e h = absurd (h refl)
 next-at rule s (suc n) next e h = sym (ap (λ (x : Search). orNext rule x next) e)
 
-pub none-found : (s : Search) (r : ℕ) → s ≡ searchOf r → r ≡ 0 → s ≡ Search.Nothing
+none-found : (s : Search) (r : ℕ) → s ≡ searchOf r → r ≡ 0 → s ≡ Search.Nothing
 none-found s r e h = e ∙ ap searchOf h
 
 pub kept-of : (l : Language) (t : List ℕ) (misshapen hidden : ℕ) → Found l t misshapen hidden → misshapen ≡ 0

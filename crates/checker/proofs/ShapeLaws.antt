@@ -1,13 +1,12 @@
 -- Rule 6 at a record.
 use Prim.Native.Nat.{ℕ}
-use native.Mathlib.Omega.{arith}
 use mathlib.Core.Bool.{Bool, true, false, not}
 use mathlib.Core.List.{List}
-use mathlib.Core.Path.{_≡_, refl, sym, ap, _∙_}
+use mathlib.Core.Path.{_≡_, refl, sym, _∙_}
 use borrow.Author.Tests.{eq-eqb, ne-eqb}
 use lib.Dec.{eqb}
 use Rattle.rules.specs.Records.{recordCount, kindOf}
-use Rattle.rules.specs.Kinds.{Language, statement, sortNumber}
+use Rattle.rules.specs.Kinds.{Language}
 use Rattle.rules.specs.Checker.{sortOf, timesChild, shapeFault}
 
 abbrev pickShape : Bool → Bool → Bool → Bool

@@ -1,10 +1,10 @@
 -- Notes and levels before any record is passed.
-use Prim.Native.Nat.{ℕ, _<_, _≤_}
+use Prim.Native.Nat.{ℕ, _<_}
 use native.Mathlib.Omega.{arith}
 use native.Mathlib.Decide.{decLt}
 use mathlib.Core.List.{List}
-use mathlib.Core.Path.{_≡_, refl, sym, _∙_}
-use lib.ListN.{length, getD, replicate, length-replicate, getD-replicate, List·getD-eq-default}
+use mathlib.Core.Path.{_≡_}
+use lib.ListN.{getD, replicate, length-replicate, getD-replicate, List·getD-eq-default}
 use Rattle.rules.specs.Records.{recordCount}
 use Rattle.rules.specs.Kinds.{Language, source}
 use Rattle.checker.specs.Searches.{levelCount}

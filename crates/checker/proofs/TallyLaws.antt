@@ -21,7 +21,7 @@ use Rattle.checker.proofs.ShapeLaws.{shape-other}
 use Rattle.checker.proofs.DescentLaws.{no-fault}
 
 -- v is noted of a record that c parents were met of
-abbrev pub Tally : ℕ → ℕ → Type 0
+abbrev Tally : ℕ → ℕ → Type 0
 Tally zero v = v ≡ 0
 Tally (suc zero) v = v % 2 ≡ 1
 Tally (suc (suc c)) v = v ≡ 2

@@ -12,10 +12,10 @@ use lib.Dec.{eqb}
 use lib.ListN.{length, getD}
 use Rattle.rules.specs.Sizes.{targetLimit}
 use Rattle.rules.specs.Records.{Record, kindOf, childA, childB, childC, recordAt}
-use Rattle.rules.specs.Kinds.{Language, Field, Form, child, formOf}
+use Rattle.rules.specs.Kinds.{Language, Field, Form}
 use Rattle.rules.specs.Checker.{fieldFits, recordFault, timesIn, timesOf, timesChildOf, timesChild}
 use Rattle.rules.proofs.acceptance.ParentLaws.{times-in-all, times-suc, same-yes, child-below}
-use Rattle.checker_forms.specs.Codes.{sortFrom, fieldFrom, entry, decoded, Coded}
+use Rattle.checker_forms.specs.Codes.{fieldFrom, entry, decoded, Coded}
 use Rattle.checker_forms.proofs.CodeLaws.{codeOf, code-of, digit-a, digit-b, digit-c, digit-query}
 use Rattle.checker_forms.proofs.FaultLaws.{field-asked, kept-kind, kept-there}
 use Rattle.checker_forms.proofs.FieldLaws.{field-none, field-child}

@@ -12,11 +12,11 @@ use lib.ListN.{length, getD, List·getD-append}
 use Rattle.rules.specs.Kinds.{Language, source, target, sortNumber, Form, forms, lookUp, formOf}
 use Rattle.rules.specs.Checker.{formSort, sortOf}
 use Rattle.rules.proofs.acceptance.ParentLaws.{two-pass, three-pass}
-use Rattle.checker_forms.specs.Codes.{sortFrom, bounds, testFrom, fieldFrom, literalFrom, entry, decoded}
+use Rattle.checker_forms.specs.Codes.{sortFrom, testFrom, fieldFrom, literalFrom, entry, decoded}
 use Rattle.checker_forms.specs.Codes.{Coded, ForChildren, sortBy}
 use Rattle.checker_forms.proofs.MatchLaws.{Others, others-from, others-none}
 
-abbrev pub sourceCodes : List ℕ
+abbrev sourceCodes : List ℕ
 sourceCodes =
     0x000000 ∷ 0x100001 ∷ 0x102000 ∷ 0x102000 ∷ 0x161100 ∷ 0x101100 ∷ 0x000000 ∷ 0x000000 ∷ 0x000000 ∷ 0x000000 ∷
     0x270000 ∷ 0x201000 ∷ 0x000000 ∷ 0x000000 ∷ 0x000000 ∷ 0x000000 ∷ 0x000000 ∷ 0x000000 ∷ 0x000000 ∷ 0x000000 ∷
@@ -39,10 +39,10 @@ highCodes =
     0x572002 ∷ 0x571002 ∷ 0x000000 ∷ 0x5a00c2 ∷ 0x5b00d2 ∷ 0x5b0002 ∷ 0x570552 ∷ 0x570002 ∷ 0x5b0002 ∷ 0x570002 ∷
     0x570002 ∷ []
 
-abbrev pub targetCodes : List ℕ
+abbrev targetCodes : List ℕ
 targetCodes = lowCodes ++ highCodes
 
-abbrev pub codes : Language → List ℕ
+abbrev codes : Language → List ℕ
 codes source = sourceCodes
 codes target = targetCodes
 
@@ -200,7 +200,7 @@ module _ (l : Language) (k : ℕ) where
       ]) e) ∙ digits .2)
 
 -- ---- what a number asks that is the kind's entry
-pub coded : (l : Language) (k x : ℕ) → x ≡ getD (codes l) k 0 → Coded l k x
+coded : (l : Language) (k x : ℕ) → x ≡ getD (codes l) k 0 → Coded l k x
 coded l k x e =
     let asks : formOf l k ≡ decoded k x = asks-of l k ∙ ap (decoded k) (sym e) in
     let right : rightSort k x ≡ true = ap (rightSort k) e ∙ each-code rightSort l (every-sort l) (λ i. refl) k in

@@ -4,14 +4,13 @@ use native.Mathlib.Omega.{arith}
 use native.Mathlib.Decide.{ℕ-discrete}
 use mathlib.Core.Bool.{Bool, true, false, cond, _&&_}
 use mathlib.Core.List.{List, [], _∷_, map}
-use mathlib.Core.Option.{Option, none, some}
+use mathlib.Core.Option.{some}
 use mathlib.Core.Path.{_≡_, refl, sym, ap, subst, _∙_}
-use borrow.Author.Tests.{eq-eqb, ne-eqb, lt-ltb, le-ltb, ltb-true, eqb-true}
+use borrow.Author.Tests.{ne-eqb, lt-ltb, le-ltb, ltb-true, eqb-true}
 use lib.Dec.{eqb, ltb}
-use lib.IntN.{ℤ}
 use lib.ListN.{getD}
 use Rattle.rules.specs.Records.{kindOf, markOf, childA, childB, childC, literalOf, recordAt}
-use Rattle.rules.specs.Kinds.{Language, Sort, sortNumber, Field, unnamed, child, number, Form, fieldOf, beside}
+use Rattle.rules.specs.Kinds.{Language, sortNumber, Field, unnamed, child, number, fieldOf, beside}
 use Rattle.rules.specs.Checker.{all, fieldFits, literalFits, fieldsFit, sortOf, childFits, childrenFit, faultOf}
 use Rattle.rules.specs.Checker.{recordFault}
 use Rattle.rules.proofs.acceptance.ParentLaws.{five-pass}

@@ -3,14 +3,12 @@ use Prim.Native.Nat.{ℕ, zero, suc, _/_, _%_, _<_, _≤_}
 use native.Mathlib.Omega.{arith}
 use mathlib.Core.Bool.{Bool, true, false, _&&_, _||_}
 use mathlib.Core.Path.{_≡_, refl, sym, ap, _∙_}
-use borrow.Author.Tests.{eq-eqb, ne-eqb, lt-ltb, le-ltb, le-leb, lt-leb}
-use lib.Dec.{eqb, ltb, leb}
-use lib.IntN.{ℤ, pos}
+use borrow.Author.Tests.{ne-eqb, lt-ltb, le-ltb, le-leb, lt-leb}
+use lib.Dec.{eqb, leb}
 use lib.ListN.{getD}
-use lib.Signed.{leZ}
-use Rattle.rules.specs.Kinds.{Sort, sortNumber, Field, unnamed, child, number, between, zeroLiteral, anyLiteral}
+use Rattle.rules.specs.Kinds.{sortNumber, Field, unnamed, child, number, between, zeroLiteral, anyLiteral}
 use Rattle.rules.specs.Kinds.{statementLiteral}
-use Rattle.rules.specs.Checker.{fieldFits, literalFits}
+use Rattle.rules.specs.Checker.{fieldFits}
 use Rattle.checker_forms.specs.Codes.{sortFrom, bounds, testFrom, fieldFrom, literalFrom}
 
 pub in-range : (low high x : ℕ) → low ≤ x → leb x high ≡ between low high x

@@ -1,7 +1,6 @@
 -- `checker::check_table` meets its contract. Assumes nothing.
-use Prim.Native.Nat.{ℕ, _<_, _≤_}
 use native.Mathlib.Omega.{arith}
-use mathlib.Core.Path.{_≡_, _∙_}
+use mathlib.Core.Path.{_∙_}
 use lib.ListN.{length}
 use Rattle.checker_forms.specs.Codes.{languageOf}
 use Rattle.checker.proofs.OrderLaws.{check-empty, check-uneven, check-many, check-rest, some-record}

@@ -2,7 +2,7 @@
 use borrow.Author.Needs.{needs}
 use borrow.Author.Tests.{not-true, not-false}
 use Prim.Native.Nat.{ℕ}
-use mathlib.Core.Bool.{Bool, true, false, cond}
+use mathlib.Core.Bool.{Bool, true, cond}
 use mathlib.Core.Path.{_≡_, sym, ap, subst, _∙_}
 use Rattle.rules.specs.Records.{kindOf, recordAt}
 use Rattle.rules.specs.Checker.{fieldsFit, childrenFit}

@@ -1,5 +1,4 @@
 -- `checker_forms::target_form` meets its contract. Assumes nothing.
-use borrow.Author.Needs.{needs}
 use Rattle.checker_forms.proofs.target_form.Statement.{statement}
 use Rattle.checker_forms.proofs.target_form.Tie as tie
 

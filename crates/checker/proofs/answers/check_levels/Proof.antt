@@ -1,7 +1,6 @@
 -- `checker::answers::check_levels` meets its contract. Assumes nothing.
-use Prim.Native.Nat.{ℕ}
 use native.Mathlib.Omega.{arith}
-use mathlib.Core.Bool.{Bool, false}
+use mathlib.Core.Bool.{Bool}
 use mathlib.Core.Path.{subst, _∙_}
 use Rattle.rules.specs.Records.{recordCount}
 use Rattle.rules.specs.Checker.{levelFault}

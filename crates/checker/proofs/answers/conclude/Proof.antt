@@ -1,7 +1,6 @@
 -- `checker::answers::conclude` meets its contract. Assumes nothing.
-use Prim.Native.Nat.{ℕ}
 use native.Mathlib.Omega.{arith}
-use mathlib.Core.Path.{_≡_, _∙_}
+use mathlib.Core.Path.{_∙_}
 use Rattle.rules.specs.Records.{recordCount}
 use Rattle.rules.specs.Checker.{lowestRecord, shapeFault, scopeFault, lastRule}
 use Rattle.checker_forms.specs.Codes.{languageOf}

@@ -6,7 +6,7 @@ use mathlib.Core.List.{List}
 use mathlib.Core.Path.{_≡_, sym, subst, _∙_}
 use lib.ListN.{length}
 use Rattle.rules.specs.Sizes.{targetLimit}
-use Rattle.rules.specs.Records.{kindOf, childA, childB, childC}
+use Rattle.rules.specs.Records.{kindOf}
 use Rattle.rules.specs.Checker.{recordFault}
 use Rattle.checker_forms.specs.Codes.{languageOf}
 use Rattle.checker_forms.proofs.CodeLaws.{codeOf, code-of}

@@ -1,9 +1,8 @@
 -- `checker::descent::third_child` meets its contract. Assumes nothing.
 use Prim.Native.Nat.{ℕ}
-use mathlib.Core.Bool.{Bool, cond, _||_}
+use mathlib.Core.Bool.{cond, _||_}
 use mathlib.Core.Path.{sym, ap}
-use borrow.Author.Tests.{eq-eqb, ne-eqb}
-use lib.Dec.{eqb}
+use borrow.Author.Tests.{ne-eqb}
 use Rattle.checker.specs.Searches.{thirdChild}
 use Rattle.checker.proofs.descent.third_child.Statement.{statement}
 use Rattle.checker.proofs.descent.third_child.Tie as tie

@@ -1,5 +1,4 @@
 -- `checker::levels::position_in` meets its contract. Assumes nothing.
-use Prim.Native.Nat.{_<_}
 use native.Mathlib.Omega.{arith}
 use Rattle.checker.proofs.LevelLaws.{at-first, at-second, at-third, at-none}
 use Rattle.checker.proofs.levels.position_in.Statement.{statement}

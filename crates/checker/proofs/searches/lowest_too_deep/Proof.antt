@@ -1,23 +1,17 @@
 -- `checker::searches::lowest_too_deep` meets its contract. Assumes nothing.
 use Prim.Native.Nat.{ℕ, _≤_, _<_}
-use borrow.Author.Needs.{needs}
 use native.Mathlib.Omega.{arith}
-use mathlib.Core.Bool.{Bool, _&&_, _||_}
 use mathlib.Core.List.{List}
-use mathlib.Core.Path.{_≡_, refl, sym, ap, subst, _∙_}
-use lib.ListN.{length, getD, set, replicate, length-set, length-replicate, getD-replicate}
-use lib.Dec.{eqb}
-use lib.Seq.{getD-set-same}
-use Rattle.rules.specs.Records.{fieldsOf, recordCount, kindOf, markOf, recordAt}
+use mathlib.Core.Path.{_≡_, refl, ap, _∙_}
+use lib.ListN.{length, getD, length-replicate}
+use Rattle.rules.specs.Records.{recordCount}
 use Rattle.rules.specs.Kinds.{source}
-use Rattle.rules.specs.Checker.{scopeFault, levelFault, recordFault, levelBelow, positionIn, levelOf}
-use Rattle.checker_forms.specs.Codes.{languageOf}
+use Rattle.rules.specs.Checker.{levelFault}
 use Rattle.checker.specs.Searches.{levelCount}
 use Rattle.checker.specs.Scopes.{tooDeep, childLevel, Kept}
-use Rattle.rules.proofs.acceptance.ParentLaws.{Passed, IsParent}
+use Rattle.rules.proofs.acceptance.ParentLaws.{Passed}
 use Rattle.checker.proofs.DescentLaws.{passed-of, Known, known-here, known-down, Fresh, fresh-down}
-use Rattle.checker.proofs.RightLaws.{Scoped, mark-used, mark-let, scoped-last, scoped-child, scoped-fault}
-use Rattle.checker.proofs.RightLaws.{Levelled, level-most, levelled-last, levelled-child, levelled-fault}
+use Rattle.checker.proofs.RightLaws.{Levelled, level-most, levelled-child, levelled-fault}
 use Rattle.checker.proofs.Starts.{levels-start, fresh-start}
 use Rattle.checker.proofs.Lowest.{Lowest, lowest-start, lowest-down, lowest-end}
 use Rattle.checker.proofs.searches.lowest_too_deep.Statement.{statement}

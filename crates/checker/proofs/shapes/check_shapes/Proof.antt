@@ -5,7 +5,7 @@ use mathlib.Core.Bool.{_&&_, _||_}
 use mathlib.Core.Path.{_≡_, refl, sym, subst, _∙_}
 use lib.Dec.{eqb}
 use lib.ListN.{length, getD, length-set}
-use Rattle.rules.specs.Records.{recordCount, kindOf, markOf}
+use Rattle.rules.specs.Records.{recordCount}
 use Rattle.rules.specs.Checker.{recordFault}
 use Rattle.checker_forms.specs.Codes.{languageOf}
 use Rattle.checker.specs.Scopes.{bit, outOfScope}
