@@ -41,7 +41,8 @@ tally-noted s (suc k) c v odd h =
 tally-even : (c v : ℕ) → Tally c v → eqb (v % 2) 0 ≡ not (eqb c 1)
 tally-even zero v h = ap (λ (n : ℕ). eqb (n % 2) 0) h
 tally-even (suc zero) v h = ap (λ (n : ℕ). eqb n 0) h
-tally-even (suc (suc c)) v h = ap (λ (n : ℕ). eqb (n % 2) 0) h ∙ sym (ap not (ne-eqb (suc (suc c)) 1 (λ e. omega arith)))
+tally-even (suc (suc c)) v h =
+    ap (λ (n : ℕ). eqb (n % 2) 0) h ∙ sym (ap not (ne-eqb (suc (suc c)) 1 (λ e. omega arith)))
 
 -- the notes tell the parents above n of each record but the last
 pub record Tallied (l : Language) (t : List ℕ) (n : ℕ) (notes : List ℕ) : Type 0 where
@@ -132,7 +133,8 @@ given-noted l t formed keeps n s notes notes' a b g h = record {
         ∙ sym (ap (λ (x : Bool). cond x s (getD notes j 0)) (le-ltb 0 (timesChildOf l t n j) (omega arith)))
     go j (yes q) =
         let below = child-below l t n j (no-fault l t formed n a b) q in
-        let once : timesChildOf l t n j ≡ 1 = child-single l t keeps n j (record { in-table = (a, b); has-child = q }) in
+        let once : timesChildOf l t n j ≡ 1 =
+        child-single l t keeps n j (record { in-table = (a, b); has-child = q }) in
         let all : timesChild l t (recordCount t) j ≡ 1 = child-once l t keeps j (below .0) (omega (arith, below)) in
         let least = times-least l t j n n a (omega arith) in
         let sum : recordCount t - n + n ≡ recordCount t = omega arith in

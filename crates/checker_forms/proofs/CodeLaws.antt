@@ -205,7 +205,11 @@ coded l k x e =
     let asks : formOf l k ≡ decoded k x = asks-of l k ∙ ap (decoded k) (sym e) in
     let right : rightSort k x ≡ true = ap (rightSort k) e ∙ each-code rightSort l (every-sort l) (λ i. refl) k in
     let children : ForChildren x = subst ForChildren (sym e) (digit-a l k, digit-b l k) in
-    record { asks = asks; sort = ap formSort asks ∙ decoded-sort k x ∙ eqb-true _ (x / 1048576) right; children = children }
+    record {
+      asks = asks;
+      sort = ap formSort asks ∙ decoded-sort k x ∙ eqb-true _ (x / 1048576) right;
+      children = children;
+    }
 
 pub coded-at : {x : ℕ} (l : Language) (k j : ℕ) → x ≡ getD (codes l) j 0 → k ≡ j → Coded l k x
 coded-at {x = x} l k j h e = coded l k x (h ∙ sym (ap (λ (i : ℕ). getD (codes l) i 0) e))

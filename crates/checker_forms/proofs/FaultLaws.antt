@@ -156,7 +156,8 @@ module _ (l : Language) (t : List ℕ) (n x : ℕ) (k : Coded l (kindOf t n) x) 
 pub kept-kind : (l : Language) (t : List ℕ) (n : ℕ) → recordFault l t n ≡ 0 → codeOf l (kindOf t n) ≡ 0 → ⊥
 kept-kind l t n h e = omega (arith, h, fault-none l t n (codeOf l (kindOf t n)) (code-of l (kindOf t n)) e)
 
-pub kept-sort : (l : Language) (t : List ℕ) (n : ℕ) → recordFault l t n ≡ 0 → sortOf l (kindOf t n) ≡ sortBy (kindOf t n)
+pub kept-sort : (l : Language) (t : List ℕ) (n : ℕ) → recordFault l t n ≡ 0
+    → sortOf l (kindOf t n) ≡ sortBy (kindOf t n)
 kept-sort l t n h = sort-by l (kindOf t n) (kept-kind l t n h)
 
 -- and its fields are those that the kind asks

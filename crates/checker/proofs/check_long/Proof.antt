@@ -15,7 +15,8 @@ slice-aggregate-check-shapes c = search needs
 check-shapes-requires : tie.Need-check-shapes-requires
 check-shapes-requires c κs =
     let s = c .before .before in
-    notes-start (languageOf (s .args .target)) (s .args .table .now) (suc targetLimit) (s .pre) (omega (arith, s .pre .sized .few, limit-most (s .args .target)))
+    notes-start (languageOf (s .args .target)) (s .args .table .now) (suc targetLimit) (s .pre)
+    (omega (arith, s .pre .sized .few, limit-most (s .args .target)))
 
 returns : tie.Need-returns
 returns c = search needs

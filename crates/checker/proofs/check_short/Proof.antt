@@ -14,7 +14,8 @@ slice-aggregate-check-shapes c = search needs
 check-shapes-requires : tie.Need-check-shapes-requires
 check-shapes-requires c κs =
     let s = c .before .before in
-    notes-start (languageOf (s .args .target)) (s .args .table .now) (suc sourceLimit) (s .pre .0) (omega (arith, s .pre .1))
+    notes-start (languageOf (s .args .target)) (s .args .table .now) (suc sourceLimit) (s .pre .0)
+    (omega (arith, s .pre .1))
 
 returns : tie.Need-returns
 returns c = search needs

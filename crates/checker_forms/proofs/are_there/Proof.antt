@@ -18,7 +18,8 @@ returns : tie.Need-returns
 returns c =
     let a = c .before .before .before .before .before .args in
     c .field-fits .ensures
-    ∙ third _ _ _ (sym (c .before .before .before .before .child-there .ensures) ∙ c .before .before .before .if1 .taken)
+    ∙ third _ _ _ (sym (c .before .before .before .before .child-there .ensures)
+    ∙ c .before .before .before .if1 .taken)
     (sym (c .before .before .child-there2 .ensures) ∙ c .before .if2 .taken)
     ∙ sym (there-as (a .form) (a .a) (a .b) (a .c))
 

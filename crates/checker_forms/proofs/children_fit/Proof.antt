@@ -23,7 +23,8 @@ child-fits-requires c κs =
       s .pre .0,
       s .pre .1,
       s .pre .2 .0,
-      subst (Fits (a .form / 4096 % 16)) (sym (c .child-a .ensures)) (there (a .form) (a .table .now) (a .n) (s .pre .3) .0),
+      subst (Fits (a .form / 4096 % 16)) (sym (c .child-a .ensures))
+          (there (a .form) (a .table .now) (a .n) (s .pre .3) .0),
     )
 
 child-b-requires : tie.Need-child-b-requires
@@ -36,7 +37,8 @@ child-fits-requires-2 c κs =
       s .pre .0,
       s .pre .1,
       s .pre .2 .1,
-      subst (Fits (a .form / 256 % 16)) (sym (c .child-b .ensures)) (there (a .form) (a .table .now) (a .n) (s .pre .3) .1),
+      subst (Fits (a .form / 256 % 16)) (sym (c .child-b .ensures))
+          (there (a .form) (a .table .now) (a .n) (s .pre .3) .1),
     )
 
 child-c-requires : tie.Need-child-c-requires
@@ -48,7 +50,8 @@ third-fits-requires c κs =
     let a = s .args in (
       s .pre .0,
       s .pre .1,
-      subst (Fits (a .form / 16 % 16)) (sym (c .child-c .ensures)) (there (a .form) (a .table .now) (a .n) (s .pre .3) .2),
+      subst (Fits (a .form / 16 % 16)) (sym (c .child-c .ensures))
+          (there (a .form) (a .table .now) (a .n) (s .pre .3) .2),
     )
 
 returns : tie.Need-returns
@@ -57,12 +60,15 @@ returns c =
     let l = languageOf (a .target) in
     let t = a .table .now in
     let first = c .before .before .before .before .before .before .child-fits .ensures
-    ∙ ap (childFits l t (a .n) (fieldFrom (a .form / 4096 % 16))) (c .before .before .before .before .before .before .before .child-a .ensures) in
+    ∙ ap (childFits l t (a .n) (fieldFrom (a .form / 4096 % 16)))
+    (c .before .before .before .before .before .before .before .child-a .ensures) in
     let second = c .before .before .before .child-fits2 .ensures
-    ∙ ap (childFits l t (a .n) (fieldFrom (a .form / 256 % 16))) (c .before .before .before .before .child-b .ensures) in
+    ∙ ap (childFits l t (a .n) (fieldFrom (a .form / 256 % 16)))
+    (c .before .before .before .before .child-b .ensures) in
     c .third-fits .ensures
     ∙ ap (childFits l t (a .n) (fieldFrom (a .form / 16 % 16))) (c .before .child-c .ensures)
-    ∙ third _ _ _ (sym first ∙ c .before .before .before .before .before .if1 .taken) (sym second ∙ c .before .before .if2 .taken)
+    ∙ third _ _ _ (sym first ∙ c .before .before .before .before .before .if1 .taken)
+    (sym second ∙ c .before .before .if2 .taken)
     ∙ sym (children-as l t (a .n) (a .form))
 
 returns-2 : tie.Need-returns-2
@@ -71,10 +77,13 @@ returns-2 c =
     let l = languageOf (a .target) in
     let t = a .table .now in
     let first = c .before .before .before .before .child-fits .ensures
-    ∙ ap (childFits l t (a .n) (fieldFrom (a .form / 4096 % 16))) (c .before .before .before .before .before .child-a .ensures) in
+    ∙ ap (childFits l t (a .n) (fieldFrom (a .form / 4096 % 16)))
+    (c .before .before .before .before .before .child-a .ensures) in
     let second = c .before .child-fits2 .ensures
-    ∙ ap (childFits l t (a .n) (fieldFrom (a .form / 256 % 16))) (c .before .before .child-b .ensures) in
-    second-fails _ _ _ (sym first ∙ c .before .before .before .if1 .taken) (sym second ∙ c .if2 .left)
+    ∙ ap (childFits l t (a .n) (fieldFrom (a .form / 256 % 16)))
+    (c .before .before .child-b .ensures) in
+    second-fails _ _ _ (sym first ∙ c .before .before .before .if1 .taken)
+    (sym second ∙ c .if2 .left)
     ∙ sym (children-as l t (a .n) (a .form))
 
 returns-3 : tie.Need-returns-3
@@ -83,7 +92,8 @@ returns-3 c =
     let l = languageOf (a .target) in
     let t = a .table .now in
     let first = c .before .child-fits .ensures
-    ∙ ap (childFits l t (a .n) (fieldFrom (a .form / 4096 % 16))) (c .before .before .child-a .ensures) in
+    ∙ ap (childFits l t (a .n) (fieldFrom (a .form / 4096 % 16)))
+    (c .before .before .child-a .ensures) in
     first-fails _ _ _ (sym first ∙ c .if1 .left) ∙ sym (children-as l t (a .n) (a .form))
 
 pub children-fit-spec : {M : Type 1} → statement M

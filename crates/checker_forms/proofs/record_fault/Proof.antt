@@ -24,7 +24,8 @@ returns c =
     let t = a .table .now in
     let x = c .before .form-of .result in
     let k : Coded l (kindOf t (a .n)) x =
-    subst (λ (k : ℕ). Coded l k x) (c .before .before .kind .ensures) (c .before .form-of .ensures) in
+    subst (λ (k : ℕ). Coded l k x) (c .before .before .kind .ensures)
+    (c .before .form-of .ensures) in
     fault-none l t (a .n) x k (c .if1 .taken)
 
 fields-fit-requires : tie.Need-fields-fit-requires
@@ -37,15 +38,20 @@ returns-2 c =
     let t = a .table .now in
     let x = c .before .before .before .form-of .result in
     let k : Coded l (kindOf t (a .n)) x =
-    subst (λ (k : ℕ). Coded l k x) (c .before .before .before .before .kind .ensures) (c .before .before .before .form-of .ensures) in
+    subst (λ (k : ℕ). Coded l k x) (c .before .before .before .before .kind .ensures)
+    (c .before .before .before .form-of .ensures) in
     sym (fault-some l t (a .n) x k (c .before .before .if1 .left)
     ∙ ap (λ (b : Bool). cond b (cond (childrenFit l t (a .n) (entry 0 x) (recordAt t (a .n))) 0 5) 4)
     (sym (c .before .fields-fit .ensures) ∙ not-true _ (c .if2 .taken)))
 
 children-fit-requires : tie.Need-children-fit-requires
 children-fit-requires c κs =
-    let s = c .before .before .before .before .before .before in
-    (s .pre .0, s .pre .1, c .before .before .before .form-of .ensures .children, sym (c .before .fields-fit .ensures) ∙ not-false _ (c .if2 .left))
+    let s = c .before .before .before .before .before .before in (
+      s .pre .0,
+      s .pre .1,
+      c .before .before .before .form-of .ensures .children,
+      sym (c .before .fields-fit .ensures) ∙ not-false _ (c .if2 .left),
+    )
 
 returns-3 : tie.Need-returns-3
 returns-3 c =
@@ -54,7 +60,8 @@ returns-3 c =
     let t = a .table .now in
     let x = c .before .before .before .before .before .form-of .result in
     let k : Coded l (kindOf t (a .n)) x =
-    subst (λ (k : ℕ). Coded l k x) (c .before .before .before .before .before .before .kind .ensures) (c .before .before .before .before .before .form-of .ensures) in
+    subst (λ (k : ℕ). Coded l k x) (c .before .before .before .before .before .before .kind .ensures)
+    (c .before .before .before .before .before .form-of .ensures) in
     let fit : fieldsFit (entry 0 x) (recordAt t (a .n)) ≡ true =
     sym (c .before .before .before .fields-fit .ensures) ∙ not-false _ (c .before .before .if2 .left) in
     sym (fault-some l t (a .n) x k (c .before .before .before .before .if1 .left)
@@ -67,7 +74,8 @@ returns-4 c =
     let t = a .table .now in
     let x = c .before .before .before .before .before .form-of .result in
     let k : Coded l (kindOf t (a .n)) x =
-    subst (λ (k : ℕ). Coded l k x) (c .before .before .before .before .before .before .kind .ensures) (c .before .before .before .before .before .form-of .ensures) in
+    subst (λ (k : ℕ). Coded l k x) (c .before .before .before .before .before .before .kind .ensures)
+    (c .before .before .before .before .before .form-of .ensures) in
     let fit : fieldsFit (entry 0 x) (recordAt t (a .n)) ≡ true =
     sym (c .before .before .before .fields-fit .ensures) ∙ not-false _ (c .before .before .if2 .left) in
     sym (fault-some l t (a .n) x k (c .before .before .before .before .if1 .left)

@@ -45,8 +45,10 @@ note-children-requires c κs =
     let few : a .n ≤ targetLimit = omega (arith, s .pre .0, s .pre .1 .sized .few, limit-most (a .target)) in
     let third = c .before .third-child .ensures
     ∙ (λ i. thirdChild (c .before .before .before .kind .ensures i) (c .before .before .child-c .ensures i)) in (
-      subst (λ (y : ℕ). Room y notes) (sym (c .before .before .before .before .before .child-a .ensures)) (room-a l t (a .n) keeps notes size few),
-      subst (λ (y : ℕ). Room y notes) (sym (c .before .before .before .before .child-b .ensures)) (room-b l t (a .n) keeps notes size few),
+      subst (λ (y : ℕ). Room y notes) (sym (c .before .before .before .before .before .child-a .ensures))
+          (room-a l t (a .n) keeps notes size few),
+      subst (λ (y : ℕ). Room y notes) (sym (c .before .before .before .before .child-b .ensures))
+          (room-b l t (a .n) keeps notes size few),
       subst (λ (y : ℕ). Room y notes) (sym third) (room-c l t (a .n) keeps notes size few),
     )
 
@@ -62,11 +64,13 @@ returns c =
     let notes = a .notes .now in
     let keeps : recordFault l t (a .n) ≡ 0 = no-fault l t (s .pre .1) (a .n) (s .pre .0 .0) (s .pre .0 .1) in
     let third = c .before .before .before .before .third-child .ensures
-    ∙ (λ i. thirdChild (c .before .before .before .before .before .before .kind .ensures i) (c .before .before .before .before .before .child-c .ensures i)) in
+    ∙ (λ i. thirdChild (c .before .before .before .before .before .before .kind .ensures i)
+    (c .before .before .before .before .before .child-c .ensures i)) in
     let code = codeOf l (kindOf t (a .n)) in
     subst (λ (m : List ℕ). Noted l t (a .n) (a .scope) notes m)
     (sym (c .before .before .note-children .ensures
-    ∙ (λ i. noteAt (a .scope) (third i) (noteAt (a .scope) (c .before .before .before .before .before .before .before .child-b .ensures i)
+    ∙ (λ i. noteAt (a .scope) (third i)
+    (noteAt (a .scope) (c .before .before .before .before .before .before .before .child-b .ensures i)
     (noteAt (a .scope) (c .before .before .before .before .before .before .before .before .child-a .ensures i) notes)))
     ∙ at-three l t (a .n) keeps notes (a .scope)))
     (noted-three l t (a .n) code (a .scope) notes (code-of l (kindOf t (a .n))))

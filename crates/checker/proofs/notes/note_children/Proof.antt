@@ -36,12 +36,12 @@ same-length c = search needs
 
 returns : tie.Need-returns
 returns c =
-    let a = c .before .before .before .before .before .before .before .before .before .before .before .before .before .args in
-    let first = c .before .before .before .before .before .before .before .before .before .before .note-child in
-    let second = c .before .before .before .before .before .before .note-child2 in
+    let second = c .before .before .before .before .before .before in
+    let first = second .before .before .before .before in
+    let a = first .before .before .before .args in
     c .before .before .note-child3 .ensures
-    ∙ ap (λ (l : List ℕ). noteAt (a .scope) (a .c) l) (second .ensures)
-    ∙ ap (λ (l : List ℕ). noteAt (a .scope) (a .c) (noteAt (a .scope) (a .b) l)) (first .ensures)
+    ∙ ap (λ (l : List ℕ). noteAt (a .scope) (a .c) l) (second .note-child2 .ensures)
+    ∙ ap (λ (l : List ℕ). noteAt (a .scope) (a .c) (noteAt (a .scope) (a .b) l)) (first .note-child .ensures)
 
 pub note-children-spec : {M : Type 1} → statement M
 note-children-spec =

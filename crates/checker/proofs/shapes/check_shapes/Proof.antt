@@ -100,32 +100,41 @@ scope-below-requires c κs =
 
 pass-scope-requires : tie.Need-pass-scope-requires Inv-loop μ-loop
 pass-scope-requires c κs =
-    let i = c .before .before .before .before .before .before .before .before .before .loop .inv .0 in
-    ((c .before .before .before .before .before .before .before .before .loop-test .taken, i .within), c .before .before .before .before .before .before .before .before .before .before .before .before .before .pre .formed, i .tallied .size)
+    let e = c .before .before .before .before .before .before .before .before in
+    let i = e .before .loop .inv .0 in
+    ((e .loop-test .taken, i .within), e .before .before .before .before .before .pre .formed, i .tallied .size)
 
 sub-n : tie.Need-sub-n Inv-loop μ-loop
-sub-n c = omega (arith, c .before .before .before .before .before .before .before .before .before .before .before .loop-test .taken)
+sub-n c =
+    let e = c .before .before .before .before .before .before in
+    omega (arith, e .before .before .before .before .before .loop-test .taken)
 
 loop-less : tie.Need-loop-less Inv-loop μ-loop
-loop-less c = omega (arith, c .before .before .before .before .before .before .before .before .before .before .before .loop-test .taken)
+loop-less c =
+    let e = c .before .before .before .before .before .before in
+    omega (arith, e .before .before .before .before .before .loop-test .taken)
 
 loop-again : tie.Need-loop-again Inv-loop μ-loop
 loop-again c =
-    let s = c .before .before .before .before .before .before .before .before .before .before .before .before .before .before .before .before in
+    let found = c .before .before .before .before .before .before .before in
+    let read = found .before .before in
+    let test = read .before .before in
+    let e = test .before .loop in
+    let s = test .before .before .before .before .before in
     let a = s .args in
     let l = languageOf (a .target) in
     let t = a .table .now in
-    let e = c .before .before .before .before .before .before .before .before .before .before .before .before .loop in
-    let ek = c .before .before .before .before .before .before .before .before .before .before .kind .ensures in
-    let em = c .before .before .before .before .before .before .before .before .before .mark .ensures in
+    let ek = read .before .kind .ensures in
+    let em = read .mark .ensures in
     let scope = getD (e .notes) (e .n) 0 in
     let out = c .before .before .before .before .before .before .is-out-of-scope in
+    let hides = c .before .before .before .before .before .lower2 in
     let below = c .before .before .before .before .scope-below in
     let given = c .before .before .pass-scope in (
       passing-down l t (s .pre .formed) (e .notes) (given .last .1 .1 .1 .1 .0) (e .misshapen)
-          (c .before .before .before .before .before .before .before .lower .result) (e .hidden) (c .before .before .before .before .before .lower2 .result) (e .n) (below .result) (out .result)
-          (c .before .before .before .before .before .before .before .before .before .before .before .loop-test .taken) (e .inv .0) (c .before .before .before .before .before .before .before .lower .ensures)
-          (out .ensures ∙ (λ i. outOfScope (ek i) (em i) scope)) (c .before .before .before .before .before .lower2 .ensures) (below .ensures .0)
+          (found .lower .result) (e .hidden) (hides .result) (e .n) (below .result) (out .result)
+          (test .loop-test .taken) (e .inv .0) (found .lower .ensures)
+          (out .ensures ∙ (λ i. outOfScope (ek i) (em i) scope)) (hides .ensures) (below .ensures .0)
           (λ h y. below .ensures .1 h y ∙ (λ i. (eqb (ek i) 47 && eqb (em i) y) || bit scope y)) (given .ensures),
       given .ensures .size ∙ e .inv .1,
     )

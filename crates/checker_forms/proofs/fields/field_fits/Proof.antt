@@ -19,7 +19,8 @@ returns-2 : tie.Need-returns-2
 returns-2 c =
     let a = c .before .before .args in
     c .number-fits .ensures
-    ∙ as-field (a .digit) (a .x) _ (field-number (a .digit) (λ e. omega (arith, c .before .if1 .left)) (c .before .if1 .left))
+    ∙ as-field (a .digit) (a .x) _
+    (field-number (a .digit) (λ e. omega (arith, c .before .if1 .left)) (c .before .if1 .left))
 
 pub field-fits-spec : {M : Type 1} → statement M
 field-fits-spec = tie.close (tie.spec child-there-requires returns number-fits-requires returns-2)
