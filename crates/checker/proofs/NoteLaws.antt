@@ -12,7 +12,7 @@ use lib.Seq.{set-out, getD-set-same, getD-set-other}
 use Rattle.rules.specs.Kinds.{Field, unnamed, child, number}
 use Rattle.rules.specs.Checker.{fieldFits, timesIn}
 use Rattle.checker_forms.specs.Codes.{sortFrom, testFrom, fieldFrom}
-use Rattle.checker.specs.Searches.{putIn, joined, noted, noteIn, noteThree, noteAt, Room}
+use Rattle.checker.specs.Searches.{putIn, joined, noted, noteAt, Room}
 use Rattle.checker_forms.proofs.FieldLaws.{field-none, field-child, field-number}
 
 -- ---- by the digit of the field
@@ -73,7 +73,15 @@ field-has (child s) y j h = go (eqb y j) refl h
     go true e g = eqb-true y j e
     go false e g = absurd (omega arith)
 
--- ---- one more parent
+-- ---- one more parent of what a field has for a child, and of A, B and C
+abbrev pub noteIn : ℕ → Field → ℕ → List ℕ → List ℕ
+noteIn s f x l = putIn f x (joined s (getD l x 0)) l
+
+abbrev pub noteThree : ℕ → ℕ → ℕ → ℕ → ℕ → List ℕ → List ℕ
+noteThree s form a b c l =
+    noteIn s (fieldFrom (form / 16 % 16)) c
+    (noteIn s (fieldFrom (form / 256 % 16)) b (noteIn s (fieldFrom (form / 4096 % 16)) a l))
+
 note-length : (s : ℕ) (f : Field) (x : ℕ) (l : List ℕ) → length (noteIn s f x l) ≡ length l
 note-length s f x l = put-length f x (joined s (getD l x 0)) l
 

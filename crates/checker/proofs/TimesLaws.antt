@@ -19,9 +19,9 @@ use Rattle.checker_forms.specs.Codes.{fieldFrom, entry, decoded, Coded}
 use Rattle.checker_forms.proofs.CodeLaws.{codeOf, code-of, digit-a, digit-b, digit-c, digit-query}
 use Rattle.checker_forms.proofs.FaultLaws.{field-asked, kept-kind, kept-there}
 use Rattle.checker_forms.proofs.FieldLaws.{field-none, field-child}
-use Rattle.checker.specs.Searches.{joined, noted, noteIn, noteThree, noteAt, thirdChild, Room}
+use Rattle.checker.specs.Searches.{joined, noted, noteAt, thirdChild, Room}
 use Rattle.checker.specs.Scopes.{Noted}
-use Rattle.checker.proofs.NoteLaws.{three-length, three-noted, note-digit, put-number}
+use Rattle.checker.proofs.NoteLaws.{noteIn, noteThree, three-length, three-noted, note-digit, put-number}
 
 abbrev inThree : ℕ → Record → ℕ → ℕ
 inThree x r j =

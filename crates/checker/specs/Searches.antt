@@ -39,15 +39,7 @@ abbrev pub noted : ℕ → ℕ → ℕ → ℕ
 noted s zero v = v
 noted s (suc k) v = joined s (noted s k v)
 
-abbrev pub noteIn : ℕ → Field → ℕ → List ℕ → List ℕ
-noteIn s f x l = putIn f x (joined s (getD l x 0)) l
-
-abbrev pub noteThree : ℕ → ℕ → ℕ → ℕ → ℕ → List ℕ → List ℕ
-noteThree s form a b c l =
-    noteIn s (fieldFrom (form / 16 % 16)) c
-    (noteIn s (fieldFrom (form / 256 % 16)) b (noteIn s (fieldFrom (form / 4096 % 16)) a l))
-
--- the same of a child that is there, 0 being none
+-- noted of a child that is there, 0 being none
 abbrev pub noteAt : ℕ → ℕ → List ℕ → List ℕ
 noteAt s x l = cond (eqb x 0) l (set l x (joined s (getD l x 0)))
 

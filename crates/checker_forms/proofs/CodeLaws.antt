@@ -1,20 +1,20 @@
 -- The tables of forms are those of the rules: one computation for each language.
-use Prim.Native.Nat.{ℕ, zero, suc, _+_, _-_, _/_, _%_, _<_, _≤_}
+use Prim.Native.Nat.{ℕ, zero, suc, _+_, _/_, _%_, _<_}
 use native.Mathlib.Omega.{arith}
 use mathlib.Core.Bool.{Bool, true, false, cond, _&&_, _||_}
-use mathlib.Core.List.{List, [], _∷_, _++_}
+use mathlib.Core.List.{List, [], _∷_}
 use mathlib.Core.Option.{Option, none, some}
 use mathlib.Core.Path.{_≡_, refl, sym, ap, subst, _∙_}
 use borrow.Author.Tests.{eq-eqb, ne-eqb, eqb-true, ltb-true}
 use native.Mathlib.Nat.{zero-add}
 use lib.Dec.{eqb, ltb}
-use lib.ListN.{length, getD, List·getD-append}
+use lib.ListN.{getD}
 use Rattle.rules.specs.Kinds.{Language, source, target, sortNumber, Form, forms, lookUp, formOf}
 use Rattle.rules.specs.Checker.{formSort, sortOf}
 use Rattle.rules.proofs.acceptance.ParentLaws.{two-pass, three-pass}
 use Rattle.checker_forms.specs.Codes.{sortFrom, testFrom, fieldFrom, literalFrom, entry, decoded}
 use Rattle.checker_forms.specs.Codes.{Coded, ForChildren, sortBy}
-use Rattle.checker_forms.proofs.MatchLaws.{Others, others-from, others-none}
+use Rattle.checker_forms.proofs.MatchLaws.{Others, others-none}
 
 abbrev sourceCodes : List ℕ
 sourceCodes =
@@ -24,23 +24,16 @@ sourceCodes =
     0x403000 ∷ 0x403000 ∷ 0x493300 ∷ 0x404000 ∷ 0x404400 ∷ 0x404400 ∷ 0x000000 ∷ 0x000000 ∷ 0x000000 ∷ 0x000000 ∷
     0x500000 ∷ 0x502100 ∷ 0x502100 ∷ 0x501000 ∷ 0x505500 ∷ 0x501550 ∷ 0x501500 ∷ 0x575000 ∷ 0x504000 ∷ []
 
--- of the kinds below 40, and from 40 on
-abbrev lowCodes : List ℕ
-lowCodes =
+abbrev targetCodes : List ℕ
+targetCodes =
     0x000000 ∷ 0x100001 ∷ 0x102000 ∷ 0x102000 ∷ 0x161100 ∷ 0x101100 ∷ 0x000000 ∷ 0x000000 ∷ 0x000000 ∷ 0x000000 ∷
     0x270000 ∷ 0x201000 ∷ 0x270000 ∷ 0x000000 ∷ 0x000000 ∷ 0x000000 ∷ 0x000000 ∷ 0x000000 ∷ 0x000000 ∷ 0x000000 ∷
     0x000000 ∷ 0x000000 ∷ 0x000000 ∷ 0x000000 ∷ 0x000000 ∷ 0x000000 ∷ 0x000000 ∷ 0x000000 ∷ 0x000000 ∷ 0x000000 ∷
-    0x000000 ∷ 0x000000 ∷ 0x000000 ∷ 0x000000 ∷ 0x000000 ∷ 0x000000 ∷ 0x000000 ∷ 0x000000 ∷ 0x000000 ∷ 0x000000 ∷ []
-
-abbrev highCodes : List ℕ
-highCodes =
+    0x000000 ∷ 0x000000 ∷ 0x000000 ∷ 0x000000 ∷ 0x000000 ∷ 0x000000 ∷ 0x000000 ∷ 0x000000 ∷ 0x000000 ∷ 0x000000 ∷
     0x500002 ∷ 0x502102 ∷ 0x502102 ∷ 0x501002 ∷ 0x505502 ∷ 0x501552 ∷ 0x501502 ∷ 0x575002 ∷ 0x000000 ∷ 0x000000 ∷
     0x000000 ∷ 0x000000 ∷ 0x000000 ∷ 0x000000 ∷ 0x000000 ∷ 0x000000 ∷ 0x000000 ∷ 0x000000 ∷ 0x000000 ∷ 0x000000 ∷
     0x572002 ∷ 0x571002 ∷ 0x000000 ∷ 0x5a00c2 ∷ 0x5b00d2 ∷ 0x5b0002 ∷ 0x570552 ∷ 0x570002 ∷ 0x5b0002 ∷ 0x570002 ∷
     0x570002 ∷ []
-
-abbrev targetCodes : List ℕ
-targetCodes = lowCodes ++ highCodes
 
 abbrev codes : Language → List ℕ
 codes source = sourceCodes
@@ -216,22 +209,6 @@ coded-at {x = x} l k j h e = coded l k x (h ∙ sym (ap (λ (i : ℕ). getD (cod
 
 pub coded-rest : (l : Language) (k : ℕ) → Others (Unit {0}) (codes l) 0 k → Coded l k 0
 coded-rest l k h = coded l k 0 (others-none (codes l) k h)
-
-pub coded-low : (k : ℕ) → k < 40 → Others (Unit {0}) lowCodes 0 k → Coded target k 0
-coded-low k p h = coded target k 0 (others-none lowCodes k h ∙ sym (List·getD-append lowCodes highCodes 0 k p))
-
-append-rest : (xs ys : List ℕ) (i : ℕ) → getD ys i 0 ≡ getD (xs ++ ys) (length xs + i) 0
-append-rest [] ys i = ap (λ (j : ℕ). getD ys j 0) (sym (zero-add i))
-append-rest (x ∷ xs) ys i =
-    let more : suc (length xs + i) ≡ suc (length xs) + i = omega arith in
-    append-rest xs ys i ∙ ap (λ (j : ℕ). getD (x ∷ (xs ++ ys)) j 0) more
-
-pub coded-high : (k : ℕ) → 40 ≤ k → Others (Unit {0}) highCodes 40 k → Coded target k 0
-coded-high k p h =
-    let place : 40 + (k - 40) ≡ k = omega arith in
-    coded target k 0
-    (others-from highCodes 40 (k - 40) k (sym place) h ∙ append-rest lowCodes highCodes (k - 40)
-    ∙ ap (λ (j : ℕ). getD targetCodes j 0) place)
 
 pub code-of : (l : Language) (k : ℕ) → Coded l k (codeOf l k)
 code-of l k = coded l k (codeOf l k) refl

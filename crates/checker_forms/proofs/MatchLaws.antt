@@ -40,8 +40,5 @@ none-from A (x ∷ xs) j zero k e h =
     none-here A x (eqb x 0) j k refl (omega arith) (others-base (With A (eqb x 0) j k) xs (suc j) k h)
 none-from A (x ∷ xs) j (suc i) k e h = none-from (With A (eqb x 0) j k) xs (suc j) i k (omega arith) h
 
-pub others-from : (xs : List ℕ) (j i k : ℕ) → k ≡ j + i → Others (Unit {0}) xs j k → 0 ≡ getD xs i 0
-others-from xs j i k e h = none-from (Unit {0}) xs j i k e h
-
 pub others-none : (xs : List ℕ) (k : ℕ) → Others (Unit {0}) xs 0 k → 0 ≡ getD xs k 0
-others-none xs k h = others-from xs 0 k k (omega arith) h
+others-none xs k h = none-from (Unit {0}) xs 0 k k (omega arith) h

@@ -5,7 +5,7 @@ mod fields;
 ghost use mathlib.Core.Path.{_≡_};
 ghost use mathlib.Core.Bool.{true};
 ghost use mathlib.Core.List.{[], _∷_};
-ghost use Prim.Native.Nat.{_<_, _≤_};
+ghost use Prim.Native.Nat.{_<_};
 ghost use Rattle.rules.specs.Records.{recordAt};
 ghost use Rattle.rules.specs.Kinds.{source, target};
 ghost use Rattle.rules.specs.Checker.{fieldFits, fieldsFit, childFits, childrenFit, recordFault};
@@ -13,7 +13,7 @@ ghost use Rattle.table.specs.Within.{Within};
 ghost use Rattle.checker_forms.specs.Codes.{languageOf, Coded, fieldFrom, fieldsThere, entry, sortBy, Before};
 ghost use Rattle.checker_forms.specs.Codes.{ForChildren};
 
-// What a kind asks of a source record. The compiler makes a match a table that is read, where it builds an array anew.
+// What a kind asks of a source record: a match, since the compiler would build an array anew at each call.
 fn source_form(kind: u8) -> usize
     ensures { λ r. ⌜ Coded source kind r ⌝ }
 {
@@ -49,10 +49,8 @@ fn source_form(kind: u8) -> usize
     }
 }
 
-// What a kind below 40 asks of a target record. In two, so that neither match has many holes: the compiler would
-// make it jumps, not a table.
-fn low_form(kind: u8) -> usize
-    requires { ⌜ kind < 40 ⌝ }
+// What a kind asks of a target record.
+fn target_form(kind: u8) -> usize
     ensures { λ r. ⌜ Coded target kind r ⌝ }
 {
     match kind {
@@ -64,15 +62,6 @@ fn low_form(kind: u8) -> usize
         10 => 0x270000,
         11 => 0x201000,
         12 => 0x270000,
-        _ => 0,
-    }
-}
-
-fn high_form(kind: u8) -> usize
-    requires { ⌜ 40 ≤ kind ⌝ }
-    ensures { λ r. ⌜ Coded target kind r ⌝ }
-{
-    match kind {
         40 => 0x500002,
         41 => 0x502102,
         42 => 0x502102,
@@ -93,15 +82,6 @@ fn high_form(kind: u8) -> usize
         70 => 0x570002,
         _ => 0,
     }
-}
-
-fn target_form(kind: u8) -> usize
-    ensures { λ r. ⌜ Coded target kind r ⌝ }
-{
-    if kind < 40 {
-        return low_form(kind);
-    }
-    high_form(kind)
 }
 
 // What a kind asks; 0 where the language has no such kind.
