@@ -3,7 +3,7 @@ use Prim.Native.Nat.{ℕ, suc}
 use mathlib.Core.List.{List}
 use mathlib.Core.Logic.{_≢_, inl, inr}
 use mathlib.Core.Path.{_≡_, refl, sym, ap, _∙_, subst}
-use Rattle.rules.specs.Observation.{Observation, Noted, refused, storeBlock, deleteBlock, initialise}
+use Rattle.rules.specs.Observation.{Observation, Noted, refused, storeBlock, deleteBlock}
 use Rattle.rules.specs.Watched.{Temporaries, heldIn, calledOn, calledOnTwo}
 use Rattle.observation_answers.specs.declared.Noting.{Noting}
 use Rattle.observation.specs.Calls.{Answers}
@@ -22,10 +22,9 @@ pub observes-call : {l l′ : List ℕ} {r : ℕ} {a : Noting} {x y : Noted} →
 observes-call e h f = observes-is e (record { number = f ∙ ap notingNumber (h .answer); memory = h .memory })
 
 -- ---- what is noted, by the kind
-pub note-last : {k : ℕ} → IsNote k → k ≢ 68 → k ≢ 69 → k ≡ 70
-note-last (inl e) a b = absurd (a e)
-note-last (inr (inl e)) a b = absurd (b e)
-note-last (inr (inr e)) a b = e
+pub note-last : {k : ℕ} → IsNote k → k ≢ 68 → k ≡ 69
+note-last (inl e) a = absurd (a e)
+note-last (inr e) a = e
 
 module _ (τ : Temporaries) (n : ℕ) (o : Observation) {k : ℕ} where
   pub note-record : k ≡ 68 → noteOf k τ n o ≡ calledOnTwo (heldIn τ n) (heldIn τ (suc n)) (storeBlock o)
@@ -33,6 +32,3 @@ module _ (τ : Temporaries) (n : ℕ) (o : Observation) {k : ℕ} where
 
   pub note-delete : k ≡ 69 → noteOf k τ n o ≡ calledOn (heldIn τ n) (deleteBlock o)
   note-delete e = ap (λ (j : ℕ). noteOf j τ n o) e
-
-  pub note-mark : k ≡ 70 → noteOf k τ n o ≡ calledOn (heldIn τ n) (initialise o)
-  note-mark e = ap (λ (j : ℕ). noteOf j τ n o) e

@@ -74,22 +74,8 @@ fn delete_block(
     }
 }
 
-// 70: the cell that temporary n points to is marked.
-fn mark_cell(temporaries: &Temporaries, obs: &mut ObservationMemory, n: usize) -> u32
-    requires { ⌜ n < temporaryCount ⌝ }
-    ensures { λ r. ⌜ Observes (now (obs .entry)) (now (obs .exit)) r
-        (calledOn (heldIn (temporariesOf (now (temporaries .entry))) n)
-        (initialise (observationOf (now (obs .entry))))) ⌝ }
-{
-    let cell = evaluation_temporaries::read_temporary(temporaries, n);
-    match cell {
-        Evaluated::Value(v) => number(observation::initialise(obs, v)),
-        Evaluated::Stopped(c) => c,
-    }
-}
-
-// 68 to 70: what record n says of its temporary is noted.
-pub fn note(
+// 68 and 69: what record n says of its temporary is noted.
+pub fn note_block(
     table: &Table,
     n: usize,
     temporaries: &Temporaries,
@@ -107,8 +93,22 @@ pub fn note(
     let first = table::mark(&table[..], n) as usize;
     match kind {
         68 => record_block(temporaries, obs, owners, first),
-        69 => delete_block(temporaries, obs, owners, first),
-        _ => mark_cell(temporaries, obs, first),
+        _ => delete_block(temporaries, obs, owners, first),
+    }
+}
+
+// 70: the cell that record n's temporary points to is marked. Its owner stays.
+pub fn mark_cell(table: &Table, n: usize, temporaries: &Temporaries, obs: &mut ObservationMemory) -> u32
+    requires { ⌜ HasSort target statement (now table) n × (kindOf (now table) n ≡ 70) ⌝ }
+    ensures { λ r. ⌜ Observes (now (obs .entry)) (now (obs .exit)) r
+        (calledOn (heldIn (temporariesOf (now (temporaries .entry))) (markOf (now (table .entry)) n))
+        (initialise (observationOf (now (obs .entry))))) ⌝ }
+{
+    let first = table::mark(&table[..], n) as usize;
+    let cell = evaluation_temporaries::read_temporary(temporaries, first);
+    match cell {
+        Evaluated::Value(v) => number(observation::initialise(obs, v)),
+        Evaluated::Stopped(c) => c,
     }
 }
 

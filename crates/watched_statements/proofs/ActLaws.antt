@@ -32,7 +32,7 @@ use Rattle.run_changes.proofs.ChangeLaws.{becomes-same}
 use Rattle.watched_steps.specs.Steps.{Takes, IsTake, takenOf}
 use Rattle.watched_steps.proofs.StepLaws.{take-operation-is, take-query-is, take-not-is}
 use Rattle.watched_noting.specs.Calls.{Observes, IsNote, noteOf}
-use Rattle.watched_noting.proofs.CallLaws.{note-record, note-delete, note-mark}
+use Rattle.watched_noting.proofs.CallLaws.{note-record, note-delete}
 use Rattle.watched_statements.specs.Watching.{lent, stateOf, watchFrom, IsAct, Ran}
 use Rattle.watched_statements.proofs.Laws.{observation-same, ran-is, ends-above}
 
@@ -168,10 +168,8 @@ module _ (t : List ℕ) (n : ℕ) (h : HasSort target statement t n) (ρ : Varia
   unfolding calls
   watch-note (inl e) =
       watch-store-block t n h ρ x f e ∙ ap calls (sym (note-record (x .temporaries) (markOf t n) (x .observation) e))
-  watch-note (inr (inl e)) =
+  watch-note (inr e) =
       watch-delete-block t n h ρ x f e ∙ ap calls (sym (note-delete (x .temporaries) (markOf t n) (x .observation) e))
-  watch-note (inr (inr e)) =
-      watch-initialise t n h ρ x f e ∙ ap calls (sym (note-mark (x .temporaries) (markOf t n) (x .observation) e))
 
 -- the kinds from 63 to 65 are those that take
 pub take-between : (k : ℕ) → 63 ≤ k → k < 66 → IsTake k
@@ -185,7 +183,7 @@ take-between k a b = go (ℕ-discrete k 63) (ℕ-discrete k 64)
 -- the last of these kinds are what is left
 pub last-act : {X : Type 0} (t : List ℕ) (n : ℕ) → HasSort target statement t n → IsAct (kindOf t n) → {k : ℕ}
     → k ≡ kindOf t n
-    → (((((((X × (k ≢ 40)) × (k ≢ 41)) × (k ≢ 42)) × (k ≢ 43)) × (k ≢ 60)) × (k ≢ 61)) × (k ≢ 67))
+    → ((((((((X × (k ≢ 40)) × (k ≢ 41)) × (k ≢ 42)) × (k ≢ 43)) × (k ≢ 60)) × (k ≢ 61)) × (k ≢ 67)) × (k ≢ 70))
     → ((k < 63) ⊎ (66 ≤ k))
     → IsNote (kindOf t n)
 last-act t n h a {k} e r b = go (ℕ-discrete (kindOf t n) 68) (ℕ-discrete (kindOf t n) 69)
@@ -196,15 +194,14 @@ last-act t n h a {k} e r b = go (ℕ-discrete (kindOf t n) 68) (ℕ-discrete (ki
 
     go : Dec (kindOf t n ≡ 68) → Dec (kindOf t n ≡ 69) → IsNote (kindOf t n)
     go (yes p) q = inl p
-    go (no p) (yes q) = inr (inl q)
+    go (no p) (yes q) = inr q
     go (no p) (no q) =
-        inr
-        (inr
-        (statement-kinds t n h
-        (λ d. r .0 .0 .0 .0 .0 .0 .1 (e ∙ d)) (λ d. r .0 .0 .0 .0 .0 .1 (e ∙ d))
-        (λ d. r .0 .0 .0 .0 .1 (e ∙ d)) (λ d. r .0 .0 .0 .1 (e ∙ d))
+        absurd
+        (r .1 (e ∙ statement-kinds t n h
+        (λ d. r .0 .0 .0 .0 .0 .0 .0 .1 (e ∙ d)) (λ d. r .0 .0 .0 .0 .0 .0 .1 (e ∙ d))
+        (λ d. r .0 .0 .0 .0 .0 .1 (e ∙ d)) (λ d. r .0 .0 .0 .0 .1 (e ∙ d))
         (a .0) (a .1) (a .2) (a .3)
-        (λ d. r .0 .0 .1 (e ∙ d)) (λ d. r .0 .1 (e ∙ d))
+        (λ d. r .0 .0 .0 .1 (e ∙ d)) (λ d. r .0 .0 .1 (e ∙ d))
         (λ d. outside b 63 (omega arith) (omega arith) (e ∙ d)) (λ d. outside b 64 (omega arith) (omega arith) (e ∙ d))
         (λ d. outside b 65 (omega arith) (omega arith) (e ∙ d))
-        (a .4) (λ d. r .1 (e ∙ d)) p q))
+        (a .4) (λ d. r .0 .1 (e ∙ d)) p q))

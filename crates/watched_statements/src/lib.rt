@@ -165,7 +165,8 @@ fn act(
         61 => take_value(table, n, variables, temporaries, &*mem),
         63..=65 => watched_steps::take(table, n, temporaries, &*obs),
         67 => assert(table, n, &*temporaries),
-        _ => watched_noting::note(table, n, &*temporaries, obs, owners),
+        70 => watched_noting::mark_cell(table, n, &*temporaries, obs),
+        _ => watched_noting::note_block(table, n, &*temporaries, obs, owners),
     }
 }
 

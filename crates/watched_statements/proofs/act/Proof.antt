@@ -1,13 +1,14 @@
 use Prim.Native.Nat.{_<_, _≤_}
 use mathlib.Core.Logic.{_⊎_, inl, inr, ⊎-elim}
-use mathlib.Core.Path.{sym, ap, _∙_}
+use mathlib.Core.Path.{refl, sym, ap, _∙_}
 use Rattle.rules.specs.Records.{markOf, childA, childB}
 use Rattle.rules.specs.Evaluation.{condition}
 use Rattle.rules.specs.Watched.{heldIn}
 use Rattle.rules.specs.Flow.{ending}
 use Rattle.rules.specs.Nodes.{targetStatementAt, numberAt}
 use Rattle.rules.proofs.runs.TargetArms.{watch-skip, watch-assign, watch-new, watch-free, watch-address, watch-value}
-use Rattle.rules.proofs.runs.TargetArms.{watch-assert-on}
+use Rattle.rules.proofs.runs.TargetArms.{watch-initialise, watch-assert-on}
+use Rattle.rules.proofs.memory.MarkOwners.{owned-is, initialise-owned}
 use Rattle.evaluation.specs.State.{variablesOf}
 use Rattle.evaluation_temporaries.specs.Bytes.{temporariesOf}
 use Rattle.run_children.specs.Children.{foundIn, valueIn}
@@ -64,6 +65,11 @@ assert-requires c κs =
     let after-kind = c .before .before in
     (after-kind .before .before .pre .0 .is, sym (after-kind .kind .ensures) ∙ c .before .match .keys7)
 
+mark-cell-requires : tie.Need-mark-cell-requires
+mark-cell-requires c κs =
+    let after-kind = c .before .before .before in
+    (after-kind .before .before .pre .0 .is, sym (after-kind .kind .ensures) ∙ c .before .before .match .keys8)
+
 take-requires : tie.Need-take-requires
 take-requires c κs =
     let after-if2 = c .before .before in
@@ -74,8 +80,8 @@ take-requires c κs =
           (take-between _ (after-if1 .if1 .left) (after-if2 .if2 .taken)),
     )
 
-note-requires : tie.Need-note-requires
-note-requires c κs =
+note-block-requires : tie.Need-note-block-requires
+note-block-requires c κs =
     let after-if1 = c .before .before .before in
     let after-match = after-if1 .before in
     let after-kind = after-match .before in
@@ -220,6 +226,29 @@ returns-7 c =
 
 returns-8 : tie.Need-returns-8
 returns-8 c =
+    let after-match = c .before .before .before in
+    let after-kind = after-match .before in
+    let s = after-kind .before .before in
+    let T = s .args .table .now in
+    let n = s .args .n in
+    let ρ = variablesOf (s .args .variables .now) in
+    let l = s .args .mem .now in
+    let o = s .args .obs .now in
+    let τ = s .args .temporaries .now in
+    let h = s .pre .0 .is in
+    let q = sym (after-kind .kind .ensures) ∙ after-match .match .keys8 in (
+      acts-observed (targetStatementAt T n) ρ l o τ (numberAt T n) (c .mark-cell .result) _ _
+          (λ f. watch-initialise T n h ρ (stateOf (lent l o τ)) f q) (c .mark-cell .ensures),
+      record {
+        counted = s .pre .2 .counted;
+        owned =
+            owned-is (c .mark-cell .ensures .memory .view) refl
+            (initialise-owned (s .pre .2 .owned) (heldIn (temporariesOf τ) (markOf T n)));
+      },
+    )
+
+returns-9 : tie.Need-returns-9
+returns-9 c =
     let after-if2 = c .before .before .before in
     let after-if1 = after-if2 .before in
     let after-kind = after-if1 .before .before in
@@ -237,8 +266,8 @@ returns-8 c =
       s .pre .2,
     )
 
-returns-9 : tie.Need-returns-9
-returns-9 c =
+returns-10 : tie.Need-returns-10
+returns-10 c =
     let after-if1 = c .before .before .before .before in
     let after-match = after-if1 .before in
     let after-kind = after-match .before in
@@ -253,9 +282,9 @@ returns-9 c =
     let k = after-kind .kind .result in
     let out : (k < 63) ⊎ (66 ≤ k) = ⊎-elim (λ w. inl (w .taken)) (λ w. inr (w .1 .left)) (after-if1 .if1 .came) in
     let q = last-act T n h (s .pre .1) (after-kind .kind .ensures) (after-match .match .rest) out in (
-      acts-observed (targetStatementAt T n) ρ l o τ (numberAt T n) (c .note .result) _ _
-          (λ f. watch-note T n h ρ (stateOf (lent l o τ)) f q) (c .note .ensures .0),
-      record { counted = s .pre .2 .counted; owned = c .note .ensures .1 },
+      acts-observed (targetStatementAt T n) ρ l o τ (numberAt T n) (c .note-block .result) _ _
+          (λ f. watch-note T n h ρ (stateOf (lent l o τ)) f q) (c .note-block .ensures .0),
+      record { counted = s .pre .2 .counted; owned = c .note-block .ensures .1 },
     )
 
 pub act-spec : {M : Type 1} → statement M
@@ -269,8 +298,9 @@ act-spec =
     take-address-requires
     take-value-requires
     assert-requires
+    mark-cell-requires
     take-requires
-    note-requires
+    note-block-requires
     returns
     returns-2
     returns-3
@@ -279,4 +309,5 @@ act-spec =
     returns-6
     returns-7
     returns-8
-    returns-9)
+    returns-9
+    returns-10)
