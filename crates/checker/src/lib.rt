@@ -21,8 +21,10 @@ use rules::Checked;
 use rules::SOURCE_LIMIT;
 use rules::TARGET_LIMIT;
 
-// Few records: the least notes to clear.
+// How many records have their notes in a shorter array, which is sooner cleared.
 const SMALL_LIMIT: usize = 64;
+
+const MIDDLE_LIMIT: usize = 1024;
 
 // Rules 6 to 8, with notes for a small table.
 fn check_small(target: bool, table: &[u8]) -> Checked
@@ -39,6 +41,15 @@ fn check_short(target: bool, table: &[u8]) -> Checked
     ensures { λ r. ⌜ r ≡ fromShapes (languageOf target) (now (table .entry)) ⌝ }
 {
     let mut notes = [0u64; SOURCE_LIMIT + 1];
+    shapes::check_shapes(target, table, &mut notes[..])
+}
+
+// With notes for most target tables.
+fn check_middle(target: bool, table: &[u8]) -> Checked
+    requires { ⌜ Formed (languageOf target) (now table) × (recordCount (now table) ≤ 1024) ⌝ }
+    ensures { λ r. ⌜ r ≡ fromShapes (languageOf target) (now (table .entry)) ⌝ }
+{
+    let mut notes = [0u64; MIDDLE_LIMIT + 1];
     shapes::check_shapes(target, table, &mut notes[..])
 }
 
@@ -61,6 +72,9 @@ fn check_formed(target: bool, table: &[u8]) -> Checked
     }
     if table.len() / 16 <= SOURCE_LIMIT {
         return check_short(target, table);
+    }
+    if table.len() / 16 <= MIDDLE_LIMIT {
+        return check_middle(target, table);
     }
     check_long(target, table)
 }
