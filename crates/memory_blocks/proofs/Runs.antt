@@ -1,17 +1,17 @@
 -- Facts about the next name, the lowest run of free cells, and the block that has a cell.
-use Prim.Native.Nat.{ℕ, zero, suc, _+_, _-_, _*_, _<_, _≤_}
+use Prim.Native.Nat.{ℕ, zero, suc, _+_, _-_, _<_, _≤_}
 use native.Mathlib.Omega.{arith}
 use mathlib.Core.Path.{_≡_, refl, sym, ap, _∙_, subst}
-use mathlib.Core.Bool.{Bool, true, false, true≢false}
+use mathlib.Core.Bool.{true, false, true≢false}
 use mathlib.Core.List.{List}
 use lib.IntN.{ℤ}
 use lib.ListN.{getD}
 use Rattle.rules.specs.Sizes.{nameCount, cellCount}
 use Rattle.rules.specs.Words.{wordAt, integerAt}
-use Rattle.rules.specs.Memory.{Memory, recordedOf, named, blockOf, cellOf, isFree, isUnused, allFree, lowestRun, freeRun}
-use Rattle.rules.specs.Memory.{nextName}
+use Rattle.rules.specs.Memory.{Memory, recordedOf, named, blockOf, cellOf, isFree, isUnused, allFree, lowestRun}
+use Rattle.rules.specs.Memory.{freeRun, nextName}
 use Rattle.rules.specs.Observation.{covers}
-use Rattle.rules.specs.Layout.{memoryOf, blockPlace, cellPlace, blockFrom, blockAt, cellFrom, cellAt}
+use Rattle.rules.specs.Layout.{memoryOf, blockPlace, cellPlace, blockAt, cellFrom, cellAt}
 use Rattle.rules.specs.declared.{Search.Search, Recorded.Recorded, Block.Block, Cell.Cell}
 use Rattle.rules.proofs.lists.RunLaws.{Held, lowest-at}
 use Rattle.rules.proofs.lists.SearchLaws.{Outcome, lowest-outcome}
@@ -79,7 +79,8 @@ module _ (l : List ℕ) (i : ℕ) (v : Invariant (memoryOf l)) (h : i < cellCoun
       live : recordedOf (blockOf (memoryOf l) owner) ≡ Recorded.Live first n
       live =
           ap recordedOf (sym is)
-          ∙ block-covers first n i (getD l (blockPlace (owner - 1)) 0) (ap (λ b. covers (recordedOf b) i) is ∙ owner-covers)
+          ∙ block-covers first n i (getD l (blockPlace (owner - 1)) 0)
+          (ap (λ b. covers (recordedOf b) i) is ∙ owner-covers)
 
       busy : (c : Cell) → 1 ≤ occupied c → isFree c ≡ false
       busy Cell.Free a = absurd (omega arith)

@@ -125,8 +125,8 @@ start-held inputs zero b = refl
 start-held inputs (suc j) b = go inputs j b
   where
     go : (zs : List ℤ) (j : ℕ) → suc j ≤ length zs
-        → isFree (getD (map (λ z. Cell.Holds 2 (Value.Integer z)) zs ++ replicate (cellCount - 1 - length inputs) Cell.Free)
-        j Cell.Free) ≡ false
+        → isFree (getD (map (λ z. Cell.Holds 2 (Value.Integer z)) zs
+        ++ replicate (cellCount - 1 - length inputs) Cell.Free) j Cell.Free) ≡ false
     go [] j b = absurd (omega arith)
     go (z ∷ zs) zero b = refl
     go (z ∷ zs) (suc j) b = go zs j (omega arith)

@@ -1,5 +1,4 @@
 // Delete block, a change of the observation memory.
-ghost use mathlib.Core.Path.{_≡_};
 ghost use Rattle.rules.specs.Observation.{deleteBlock};
 ghost use Rattle.rules.specs.Layout.{observationOf};
 ghost use Rattle.rules.proofs.memory.MarkOwners.{MarksOwned};

@@ -29,8 +29,9 @@ module _ (l owners : List ℕ) (i : ℕ) (h : MarksOwned (observationOf l) owner
 
   pub owner-named : (1 ≤ owner) × (owner ≤ nameCount)
   owner-named =
-      let r = named-in (observationOf l .blocks) owner Recorded.Dead (λ q. true≢false (sym has ∙ ap (λ x. covers x i) q))
-      in (r .0, omega (arith, r .1, record-count l))
+      let r = named-in (observationOf l .blocks) owner Recorded.Dead
+      (λ q. true≢false (sym has ∙ ap (λ x. covers x i) q)) in
+      (r .0, omega (arith, r .1, record-count l))
 
   -- every mark from there to the end of that block has an owner
   pub owner-end : Held (λ j. eqb (getD owners j 0) 0) i (endAt l owner)

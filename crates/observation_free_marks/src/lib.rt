@@ -23,8 +23,8 @@ fn end_of(obs: &ObservationMemory, owners: &MarkOwners, i: usize) -> usize
     block_places::end(&obs[..], owners[i] as usize)
 }
 
-// The lowest run of n marks that lie in no live block, looked for from a mark below which each has an owner. A mark that
-// has one is left by the end of its block.
+// The lowest run of n marks that lie in no live block, looked for from a mark below which each has an owner. A mark
+// that has one is left by the end of its block.
 pub fn find_marks(obs: &ObservationMemory, owners: &MarkOwners, n: usize) -> Search
     requires { ⌜ (0 < n) × MarksOwned (observationOf (now obs)) (now owners) ⌝ }
     ensures { λ r. ⌜ r ≡ markRun (observationOf (now (obs .entry))) n ⌝ }

@@ -23,7 +23,8 @@ fn own(owners: &mut MarkOwners, owner: u16, first: u16, n: u16)
 
 // A block has taken n marks from first on.
 pub fn take(owners: &mut MarkOwners, name: u16, first: u16, n: u16)
-    requires { ⌜ (length (now owners) ≡ suc cellCount) × (first + n ≤ cellCount) × (lowestOf (now owners) ≤ cellCount) ⌝ }
+    requires { ⌜ (length (now owners) ≡ suc cellCount) × (first + n ≤ cellCount)
+        × (lowestOf (now owners) ≤ cellCount) ⌝ }
     ensures { λ _. ⌜ now (owners .exit) ≡ ownersTaken (now (owners .entry)) name first n ⌝ }
 {
     let lowest_before = owners[CELL_COUNT] as usize;
@@ -34,7 +35,8 @@ pub fn take(owners: &mut MarkOwners, name: u16, first: u16, n: u16)
 
 // A block has given back n marks from first on.
 pub fn give_back(owners: &mut MarkOwners, first: u16, n: u16)
-    requires { ⌜ (length (now owners) ≡ suc cellCount) × (first + n ≤ cellCount) × (lowestOf (now owners) ≤ cellCount) ⌝ }
+    requires { ⌜ (length (now owners) ≡ suc cellCount) × (first + n ≤ cellCount)
+        × (lowestOf (now owners) ≤ cellCount) ⌝ }
     ensures { λ _. ⌜ now (owners .exit) ≡ ownersGiven (now (owners .entry)) first n ⌝ }
 {
     let lowest_before = owners[CELL_COUNT] as usize;

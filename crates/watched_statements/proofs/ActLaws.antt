@@ -11,12 +11,11 @@ use Rattle.rules.specs.Kinds.{statement, target}
 use Rattle.rules.specs.Records.{kindOf, markOf, childC}
 use Rattle.rules.specs.Memory.{Memory, Change, changed, stopped, changeIn}
 use Rattle.rules.specs.Evaluation.{Variables}
-use Rattle.rules.specs.Observation.{Observation, Noted, noted, refused}
+use Rattle.rules.specs.Observation.{Noted, noted, refused}
 use Rattle.rules.specs.TargetTrees.{TargetStatement}
 use Rattle.rules.specs.Flow.{Outcome, ending, after}
 use Rattle.rules.specs.Plain.{asserted}
 use Rattle.rules.specs.Watched.{WatchedState, withMemory, taken, observed, watch}
-use Rattle.rules.specs.Layout.{memoryOf, observationOf}
 use Rattle.rules.specs.declared.{Evaluated.Evaluated, Test.Test}
 use Rattle.rules.specs.Answers.{watchedEndings}
 use Rattle.rules.specs.Nodes.{HasSort, targetStatementAt, numberAt}
@@ -24,8 +23,6 @@ use Rattle.rules.proofs.lists.Among.{Among}
 use Rattle.rules.proofs.runs.Endings.{EndsAmong, watch-endings}
 use Rattle.rules.proofs.runs.TargetFields.{statement-kinds}
 use Rattle.rules.proofs.runs.TargetArms.{watch-operation, watch-query, watch-not, watch-store-block, watch-delete-block}
-use Rattle.rules.proofs.runs.TargetArms.{watch-initialise}
-use Rattle.evaluation_temporaries.specs.Bytes.{temporariesOf}
 use Rattle.run_endings.specs.Ending.{result, concluded, assertNumber}
 use Rattle.run_changes.specs.Changing.{Does}
 use Rattle.run_changes.proofs.ChangeLaws.{becomes-same}

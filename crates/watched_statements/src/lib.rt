@@ -6,7 +6,7 @@ ghost use Rattle.rules.specs.Memory.{assigned, allocated, freed};
 ghost use Rattle.rules.specs.Evaluation.{addressOf, condition};
 ghost use Rattle.rules.specs.Watched.{heldIn};
 ghost use Rattle.rules.specs.Layout.{memoryOf};
-ghost use Rattle.rules.specs.Nodes.{HasSort, numberAt};
+ghost use Rattle.rules.specs.Nodes.{HasSort};
 ghost use Rattle.memory_counts.specs.Counted.{Counted};
 ghost use Rattle.memory_cells.specs.Changes.{EvaluatedFits};
 ghost use Rattle.evaluation.specs.State.{variablesOf};

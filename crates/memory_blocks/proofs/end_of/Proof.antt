@@ -1,7 +1,7 @@
 -- `memory_blocks::end_of` meets its contract. Assumes nothing.
-use Prim.Native.Nat.{_+_, _*_, _≤_}
+use Prim.Native.Nat.{_+_, _≤_}
 use native.Mathlib.Omega.{arith}
-use mathlib.Core.Path.{_≡_, sym, subst}
+use mathlib.Core.Path.{sym, subst}
 use lib.ListN.{getD}
 use Rattle.rules.specs.Sizes.{nameCount}
 use Rattle.rules.specs.Memory.{isFree, cellOf}

@@ -1,5 +1,4 @@
 -- `memory_blocks::free_run` meets its contract. Assumes nothing.
-use mathlib.Core.Path.{_≡_, refl, sym, ap, _∙_, subst}
 use native.Mathlib.Omega.{arith}
 use Rattle.rules.specs.Layout.{memoryOf}
 use Rattle.memory_blocks.proofs.Runs.{run-of-none}

@@ -45,7 +45,8 @@ name c =
     let s = c .before .before .before .before in
     s .pre .next ∙ sym (c .before .before .next-name .ensures) ∙ c .k .given .1
 
-run : (c : Fitting) → let s = c .before .before .before .before .before .before .before .before .before .before .before .before in
+run : (c : Fitting)
+    → let s = c .before .before .before .before .before .before .before .before .before .before .before .before in
     freeRun (memoryOf (now (s .args .mem))) (s .args .n) ≡ Search.At (c .before .before .first .given .0 .0)
 run c = sym (c .before .before .before .before .free-run .ensures) ∙ c .before .before .first .given .1
 
@@ -53,8 +54,8 @@ makes : (c : Fitting) → let after-k = c .before .before .before .before .befor
     let s = after-k .before .before .before .before in
     let k = after-k .k .given .0 .0 in
     makeBlock (memoryOf (now (s .args .mem))) (useOf (s .args .freeable)) (s .args .n)
-    ≡ made k (withBlock (memoryOf (now (s .args .mem))) (useOf (s .args .freeable)) k (c .before .before .first .given .0 .0)
-    (s .args .n))
+    ≡ made k (withBlock (memoryOf (now (s .args .mem))) (useOf (s .args .freeable)) k
+    (c .before .before .first .given .0 .0) (s .args .n))
 makes c = rw (name (c .before .before .before .before .before .before .before .before), run c) refl
 
 next-name-requires : tie.Need-next-name-requires

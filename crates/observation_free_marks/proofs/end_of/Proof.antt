@@ -1,7 +1,7 @@
 -- `observation_free_marks::end_of` meets its contract. Assumes nothing.
 use native.Mathlib.Omega.{arith}
 use Prim.Native.Nat.{_≤_}
-use mathlib.Core.Path.{_≡_, sym, subst}
+use mathlib.Core.Path.{sym, subst}
 use denote.Ref.{now}
 use lib.Dec.{eqb}
 use lib.ListN.{getD}

@@ -60,7 +60,8 @@ returns c =
     let placed = c .before .before .place-block in
     let l = now (s .args .obs) in (
       answers-noted l (placed .last .0)
-          (ap (storeAt (observationOf l) (s .args .name) (s .args .n) Recorded.Unused) (run-is found)) (placed .ensures),
+          (ap (storeAt (observationOf l) (s .args .name) (s .args .n) Recorded.Unused) (run-is found))
+          (placed .ensures),
       owned-is (placed .ensures .view) (c .take .ensures)
           (store-owned (s .pre .0) (s .args .name) (found .first .given .0 .0) (s .args .n) (s .pre .1) (run-is found)),
     )

@@ -68,7 +68,8 @@ returns-4 c =
     let f : SFits w64 (s .args .p .offset) = search needs in (
       answers-same l (c .store-named .last .0) (c .store-named .result)
           (sized-fits o (s .args .p .name) (s .args .p .offset) (s .args .z) f
-          (c .before .before .before .before .before .if1 .left) (rw e at (c .before .before .before .before .if2 .left)))
+          (c .before .before .before .before .before .if1 .left)
+          (rw e at (c .before .before .before .before .if2 .left)))
           (rw e at (c .store-named .ensures .0)),
       c .store-named .ensures .1,
     )

@@ -24,7 +24,8 @@ abbrev Observing : (Observation → Type 0) → WatchedState → Type 0
 Observing O x = O (x .observation)
 
 -- a call that is refused leaves the memory as it is
-pub kept-keeps : (O : Observation → Type 0) (o : Observation) (x : Noted) → O o → NotedKeeps O AnyNumber x → O (kept o x)
+pub kept-keeps : (O : Observation → Type 0) (o : Observation) (x : Noted) → O o → NotedKeeps O AnyNumber x
+    → O (kept o x)
 kept-keeps O o (noted o₁) h k = k
 kept-keeps O o (refused c) h k = h
 

@@ -7,6 +7,7 @@ mod divisions;
 mod grow;
 mod lend;
 pub mod order;
+mod placing;
 mod predicates;
 pub mod random;
 mod statements;

@@ -23,7 +23,8 @@ Inv-loop table n variables temporaries₀ mem₀ obs₀ owners₀ counts₀ fuel
     × Beside mem obs counts owners
 
 abbrev μ-loop : repeat-lts.MeasureT-loop
-μ-loop table n variables temporaries₀ mem₀ obs₀ owners₀ counts₀ fuel b left₀ temporaries mem obs owners counts left = left
+μ-loop table n variables temporaries₀ mem₀ obs₀ owners₀ counts₀ fuel b left₀ temporaries mem obs owners counts left =
+    left
 
 module _ (t : ℕ) where
   child-b-requires : repeat-lts.Need-child-b-requires (repeat-claims t) (repeat-at t) repeat.Post Inv-loop μ-loop
@@ -58,7 +59,8 @@ module _ (t : ℕ) where
 
   -- a turn whose condition is true, where its child ran
   turn : (c : repeat-lts.After-run (repeat-claims t) (repeat-at t) repeat.Post Inv-loop μ-loop)
-      → let after-loop = c .before .before .before .before .before .before .before .before .before .before .before .before in
+      → let after-loop =
+          c .before .before .before .before .before .before .before .before .before .before .before .before in
       let loop = after-loop .loop in
       let s = after-loop .before .before .before in
       let n = s .args .n in

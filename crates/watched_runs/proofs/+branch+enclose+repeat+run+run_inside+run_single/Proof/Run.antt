@@ -14,13 +14,15 @@ use Rattle.watched_runs.proofs.+branch+enclose+repeat+run+run_inside+ru
 use Rattle.watched_runs.proofs.+branch+enclose+repeat+run+run_inside+run_single.Proof.Cycle.{run-at, run-claims}
 
 abbrev Inv-loop : run-lts.InvT-loop
-Inv-loop table n variables temporaries₀ mem₀ obs₀ owners₀ counts₀ fuel at₀ left₀ temporaries mem obs owners counts at left =
+Inv-loop table n variables temporaries₀ mem₀ obs₀ owners₀ counts₀ fuel at₀ left₀
+    temporaries mem obs owners counts at left =
     let y = lent mem obs temporaries in
     Remaining table n (variablesOf variables) (lent mem₀ obs₀ temporaries₀) fuel at y left
     × Ready table at (variablesOf variables) y × (at ≤ n) × Beside mem obs counts owners
 
 abbrev μ-loop : run-lts.MeasureT-loop
-μ-loop table n variables temporaries₀ mem₀ obs₀ owners₀ counts₀ fuel at₀ left₀ temporaries mem obs owners counts at left = at
+μ-loop table n variables temporaries₀ mem₀ obs₀ owners₀ counts₀ fuel at₀ left₀
+    temporaries mem obs owners counts at left = at
 
 module _ (t : ℕ) where
   loop-holds : run-lts.Need-loop-holds (run-claims t) (run-at t) run.Post Inv-loop μ-loop
@@ -84,7 +86,8 @@ module _ (t : ℕ) where
 
   loop-less : run-lts.Need-loop-less (run-claims t) (run-at t) run.Post Inv-loop μ-loop
   loop-less c =
-      let after-if1 = c .before .before .before .before .before .before .before .before .before .before .before .before in
+      let after-if1 =
+          c .before .before .before .before .before .before .before .before .before .before .before .before in
       let after-kind = after-if1 .before in
       let q = sym (after-kind .kind .ensures) ∙ after-if1 .if1 .taken in
       omega (arith, c .child-b .ensures, sequence-parts (after-kind .before .before .loop .inv .1) q .1 .1)

@@ -40,7 +40,8 @@ module _ (t : ℕ) where
 
   -- the child ran
   child : (c : run-inside-lts.After-run (run-inside-claims t) (run-inside-at t) run-inside.Post)
-      → let s = c .before .before .before .before .before .before .before .before .before .before .before .before .before in
+      → let s =
+          c .before .before .before .before .before .before .before .before .before .before .before .before .before in
       let T = s .args .table .now in
       let n = s .args .n in
       let last = c .run .last .1 .1 .1 in
@@ -57,7 +58,8 @@ module _ (t : ℕ) where
   returns : run-inside-lts.Need-returns (run-inside-claims t) (run-inside-at t) run-inside.Post
   returns c =
       let after-run = c .before .before .before .before .before in
-      let s = after-run .before .before .before .before .before .before .before .before .before .before .before .before .before in (
+      let s =
+          after-run .before .before .before .before .before .before .before .before .before .before .before .before .before in (
         inside-ends (s .pre .1 .0) (s .args .fuel) (child after-run) (c .before .before .before .if1 .taken)
             (c .end .ensures .0),
         record { counted = c .end .ensures .1; owned = after-run .run .ensures .1 .owned },
@@ -66,7 +68,8 @@ module _ (t : ℕ) where
   returns-2 : run-inside-lts.Need-returns-2 (run-inside-claims t) (run-inside-at t) run-inside.Post
   returns-2 c =
       let after-run = c .before .before in
-      let s = after-run .before .before .before .before .before .before .before .before .before .before .before .before .before in
+      let s =
+          after-run .before .before .before .before .before .before .before .before .before .before .before .before .before in
       (inside-stays (s .pre .1 .0) (s .args .fuel) (child after-run) (c .if1 .left), after-run .run .ensures .1)
 
   pub closed : {M : Type 1} → run-inside-lts.Closed (run-inside-claims t) (run-inside-at t) run-inside.Post M
