@@ -27,7 +27,7 @@ module _ (l : List ℕ) (n : ℕ) (h : n < 64) where
   kind = getD l (temporaryPlace n) 0
 
   abbrev name : ℕ
-  name = wordAt 2 l (temporaryPlace n + 2)
+  name = wordAt 2 l (temporaryPlace n + 4)
 
   abbrev number : ℤ
   number = integerAt l (temporaryPlace n + 8)

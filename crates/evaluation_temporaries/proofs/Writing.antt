@@ -20,9 +20,9 @@ use Rattle.evaluation_temporaries.specs.Bytes.{temporaryIn, temporaryPla
 use Rattle.evaluation_temporaries.specs.Bytes.{temporariesOf}
 use Rattle.memory_cells.proofs.Apart.{rows-apart}
 
--- a kind in byte 0 and a name in bytes 2 and 3, as one word
+-- a kind in byte 0 and a name in bytes 4 and 5, as one word
 abbrev pub head : ℕ → ℕ → ℕ
-head k w = k + w * 65536
+head k w = k + w * 4294967296
 
 abbrev bytes : ℕ → ℕ → ℤ → List ℕ
 bytes k w z = digits 8 (head k w) ++ integerBytes z
@@ -36,12 +36,12 @@ first-byte : (k w : ℕ) (z : ℤ) → k < 256 → w < 65536 → getD (bytes k w
 unfolding digits
 first-byte k w z a b = omega arith
 
-name-bytes : (k w : ℕ) (z : ℤ) → k < 256 → w < 65536 → little (part 2 (bytes k w z) 2) ≡ w
+name-bytes : (k w : ℕ) (z : ℤ) → k < 256 → w < 65536 → little (part 2 (bytes k w z) 4) ≡ w
 unfolding digits little
 name-bytes k w z a b =
     let h : ℕ = head k w in
-    let x : h / 256 ≡ w * 256 = omega arith in
-    let y : h / 256 / 256 ≡ w = omega arith in
+    let x : h / 256 / 256 ≡ w * 65536 = omega arith in
+    let y : h / 256 / 256 / 256 / 256 ≡ w = omega arith in
     rw y (omega arith)
 
 number-bytes : (k w : ℕ) (z : ℤ) → SFits w64 z → toZ w64 (little (part 8 (bytes k w z) 8)) ≡ z
@@ -62,8 +62,8 @@ module _ (l : List ℕ) (n k w : ℕ) (z : ℤ) (room : length l ≡ temporaries
       let c : getD written at 0 ≡ k =
       ap (λ (i : ℕ). getD written i 0) (sym (add-zero at))
       ∙ getD-put-in l (bytes k w z) at all-room 0 (omega (arith, length-bytes k w z)) ∙ first-byte k w z a b in
-      let d : little (part 2 written (at + 2)) ≡ w =
-      ap little (part-put-in l (bytes k w z) at all-room 2 2 (omega (arith, length-bytes k w z)))
+      let d : little (part 2 written (at + 4)) ≡ w =
+      ap little (part-put-in l (bytes k w z) at all-room 2 4 (omega (arith, length-bytes k w z)))
       ∙ name-bytes k w z a b in
       let e : toZ w64 (little (part 8 written (at + 8))) ≡ z =
       ap (λ (t : List ℕ). toZ w64 (little t))
@@ -80,7 +80,7 @@ module _ (l : List ℕ) (n k w : ℕ) (z : ℤ) (room : length l ≡ temporaries
       let x : getD written (temporaryPlace j) 0 ≡ getD l (temporaryPlace j) 0 =
       rw (add-zero (temporaryPlace j)) at
       (getD-put-apart l (bytes k w z) at all-room (temporaryPlace j) 16 0 b (omega arith)) in
-      let y = word-put-apart l (bytes k w z) at all-room (temporaryPlace j) 16 2 2 b (omega arith) in
+      let y = word-put-apart l (bytes k w z) at all-room (temporaryPlace j) 16 4 2 b (omega arith) in
       let v = word-put-apart l (bytes k w z) at all-room (temporaryPlace j) 16 8 8 b (omega arith) in
       λ i. temporaryIn (cellFrom (x i) 0 (y i) (toZ w64 (v i)))
 

@@ -13,7 +13,7 @@ abbrev pub temporaryIn : Cell → Temporary
 temporaryIn Cell.Free = Temporary.Empty
 temporaryIn (Cell.Holds o v) = Temporary.Holds v
 
--- 64 cells of 16 bytes, laid out as the memory's, the pointed-to name in two bytes
+-- 64 cells of 16 bytes, laid out as the memory's
 abbrev pub temporaryPlace : ℕ → ℕ
 temporaryPlace n = n * 16
 
@@ -23,7 +23,7 @@ temporariesLength = temporaryPlace temporaryCount
 unfoldable pub temporaryAt : List ℕ → ℕ → Temporary
 temporaryAt l n =
     temporaryIn
-    (cellFrom (getD l (temporaryPlace n) 0) 0 (wordAt 2 l (temporaryPlace n + 2))
+    (cellFrom (getD l (temporaryPlace n) 0) 0 (wordAt 2 l (temporaryPlace n + 4))
     (integerAt l (temporaryPlace n + 8)))
 
 unfoldable pub temporariesOf : List ℕ → Temporaries

@@ -23,7 +23,7 @@ pub fn read_temporary(temporaries: &Temporaries, n: usize) -> Evaluated
         1 => Evaluated::Value(Value::Undefined),
         2 => Evaluated::Value(Value::Integer(byte_words::read_i64(&temporaries[..], at + 8))),
         _ => {
-            let name = byte_words::read_word(&temporaries[..], at + 2, 2) as u16;
+            let name = byte_words::read_word(&temporaries[..], at + 4, 2) as u16;
             let offset = byte_words::read_i64(&temporaries[..], at + 8);
             Evaluated::Value(Value::Pointer(Pointer { name, offset }))
         }
@@ -40,7 +40,7 @@ fn write_temporary(temporaries: &mut Temporaries, n: usize, kind: u8, name: u16,
         &mut temporaries[..],
         at,
         8,
-        kind as u64 + name as u64 * 65536,
+        kind as u64 + name as u64 * 4294967296,
     );
     byte_words::write_i64(&mut temporaries[..], at + 8, z);
 }

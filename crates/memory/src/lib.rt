@@ -2,7 +2,7 @@
 ghost use mathlib.Core.Path.{_≡_};
 ghost use Rattle.rules.specs.Memory.{defined, readCell, storeCell};
 ghost use Rattle.rules.specs.Layout.{memoryOf};
-ghost use Rattle.memory_cells.specs.Changes.{Becomes, changeNumber, changeMemory, NamesFit, EvaluatedFits, CellFits};
+ghost use Rattle.memory_cells.specs.Changes.{Becomes, changeNumber, changeMemory};
 use rules::Cell;
 use rules::Evaluated;
 use rules::ExecutionMemory;
@@ -12,9 +12,7 @@ use rules::Value;
 
 // What a cell gives to a reader: 41 where it is undefined.
 fn define(c: Cell) -> Evaluated
-    requires { ⌜ CellFits c ⌝ }
-    ensures value { λ r. ⌜ r ≡ defined c ⌝ }
-    ensures names { λ r. ⌜ EvaluatedFits r ⌝ }
+    ensures { λ r. ⌜ r ≡ defined c ⌝ }
 {
     match c {
         Cell::Free => Evaluated::Stopped(41),
@@ -27,8 +25,7 @@ fn define(c: Cell) -> Evaluated
 }
 
 pub fn read(mem: &ExecutionMemory, p: Pointer) -> Evaluated
-    ensures value { λ r. ⌜ r ≡ readCell (memoryOf (now (mem .entry))) p ⌝ }
-    ensures names { λ r. ⌜ EvaluatedFits r ⌝ }
+    ensures { λ r. ⌜ r ≡ readCell (memoryOf (now (mem .entry))) p ⌝ }
 {
     match memory_pointers::locate(mem, p) {
         Located::At(i) => define(memory_cells::cell(mem, i)),
@@ -39,7 +36,6 @@ pub fn read(mem: &ExecutionMemory, p: Pointer) -> Evaluated
 
 // The cell that a pointer leads to takes a value; 42 where its block is dead, 50 where its offset is outside.
 pub fn store(mem: &mut ExecutionMemory, p: Pointer, v: Value) -> u32
-    requires { ⌜ NamesFit v ⌝ }
     ensures number { λ r. ⌜ r ≡ changeNumber (storeCell (memoryOf (now (mem .entry))) p v) ⌝ }
     ensures memory { λ _. ⌜ Becomes (now (mem .entry)) (now (mem .exit))
         (changeMemory (storeCell (memoryOf (now (mem .entry))) p v)) ⌝ }

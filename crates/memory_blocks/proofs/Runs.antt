@@ -44,12 +44,12 @@ held-owner b i (suc (suc (suc k))) o n z f w = w
 module _ (l : List ℕ) (i : ℕ) (v : Invariant (memoryOf l)) (h : i < cellCount)
     (f : isFree (cellOf (memoryOf l) i) ≡ false) where
   abbrev owner : ℕ
-  owner = getD l (cellPlace i + 1) 0
+  owner = wordAt 2 l (cellPlace i + 2)
 
   owner-covers : covers (recordedOf (blockOf (memoryOf l) owner)) i ≡ true
   unfolding cellAt
   owner-covers =
-      held-owner (memoryOf l .blocks) i (getD l (cellPlace i) 0) owner (getD l (cellPlace i + 2) 0)
+      held-owner (memoryOf l .blocks) i (getD l (cellPlace i) 0) owner (wordAt 2 l (cellPlace i + 4))
       (integerAt l (cellPlace i + 8)) (ap isFree (cell-in l i h) ∙ f)
       (subst (Owned (memoryOf l .blocks) i) (sym (cell-in l i h)) (v .owned i))
 

@@ -4,7 +4,7 @@ ghost use mathlib.Core.Bool.{false};
 ghost use Prim.Native.Nat.{_≤_, _<_};
 ghost use Rattle.rules.specs.Sizes.{cellCount};
 ghost use Rattle.rules.specs.Memory.{cellOf, isFree, freeRun, makeBlock, withBlock, blockFor};
-ghost use Rattle.rules.specs.Layout.{memoryOf, nameLimit};
+ghost use Rattle.rules.specs.Layout.{memoryOf};
 ghost use Rattle.rules.proofs.lists.RunLaws.{NoneBelow, Held};
 ghost use Rattle.rules.proofs.memory.Invariant.{Invariant};
 ghost use Rattle.memory_counts.specs.Counted.{Counted};
@@ -38,7 +38,7 @@ fn end_of(mem: &ExecutionMemory, i: usize) -> usize
         × (isFree (cellOf (memoryOf (now mem)) i) ≡ false) ⌝ }
     ensures { λ r. ⌜ Held (λ j. isFree (cellOf (memoryOf (now (mem .entry))) j)) i r ⌝ }
 {
-    let owner = mem[BLOCKS_LENGTH + i * 16 + 1];
+    let owner = byte_words::read_word(&mem[..], BLOCKS_LENGTH + i * 16 + 2, 2);
     block_places::end(&mem[..], owner as usize)
 }
 
@@ -89,7 +89,6 @@ fn live(freeable: bool, first: u16, n: u16) -> Block
 
 // Block k has the n cells from first on, undefined.
 fn place(mem: &mut ExecutionMemory, freeable: bool, k: u16, first: u16, n: u16)
-    requires { ⌜ k < nameLimit ⌝ }
     ensures { λ _. ⌜ Becomes (now (mem .entry)) (now (mem .exit))
         (withBlock (memoryOf (now (mem .entry))) (useOf freeable) k first n) ⌝ }
 {

@@ -13,16 +13,15 @@ use mir.Val.{toZ}
 use Rattle.rules.specs.Sizes.{nameCount, cellCount, memoryLength}
 use Rattle.rules.specs.Words.{little, digits, part, put, wordAt, integerAt}
 use Rattle.rules.specs.Memory.{Memory, setCell, setNamed}
-use Rattle.rules.specs.Layout.{memoryOf, memoryImage, blockRecord, blockBytes, cellBytes, blockPlace, cellPlace}
-use Rattle.rules.specs.Layout.{blockAt, cellAt, blockFrom, cellFrom}
-use Rattle.rules.proofs.lists.WordLaws.{digits-value, integer-value, part-put-in, getD-put-in, getD-put-apart}
+use Rattle.rules.specs.Layout.{memoryOf, memoryImage, blockBytes, cellBytes, blockPlace, cellPlace, blockAt, cellAt}
+use Rattle.rules.proofs.lists.WordLaws.{part-put-in, getD-put-in, getD-put-apart}
 use Rattle.rules.proofs.lists.WordLaws.{word-put-apart, fits-range}
 use Rattle.rules.proofs.lists.Rows.{tabulate-same, tabulate-set}
 use Rattle.rules.specs.Fits.{FitsBlock, FitsCell}
-use Rattle.rules.proofs.layout.LayoutLaws.{length-blockBytes, length-cellBytes}
+use Rattle.rules.proofs.layout.LayoutLaws.{length-blockBytes, length-cellBytes, block-back, cell-back}
 use Rattle.rules.proofs.layout.ImagePuts.{image-put-block, image-put-cell}
 use Rattle.rules.specs.declared.{Value.Value, Block.Block, Cell.Cell}
-use Rattle.memory_cells.specs.Changes.{Exact, Becomes, setBlock, CellFits, CellHeld, BlockHeld}
+use Rattle.memory_cells.specs.Changes.{Exact, Becomes, setBlock, CellHeld, BlockHeld}
 use Rattle.memory_cells.proofs.Reading.{count-blocks, count-cells}
 use Rattle.memory_cells.proofs.Apart.{rows-apart}
 
@@ -38,8 +37,8 @@ module _ (l bs : List ℕ) (at : ℕ) (room : at + length bs ≤ length l)
   unfolding cellAt
   cell-apart j e f =
       let z = byte-apart (omega arith) in
-      let x = getD-put-apart l bs at room a n 1 r (omega arith) in
-      let y = getD-put-apart l bs at room a n 2 r (omega arith) in
+      let x = word-put-apart l bs at room a n 2 2 r (omega arith) in
+      let y = word-put-apart l bs at room a n 4 2 r (omega arith) in
       let w = word-put-apart l bs at room a n 8 8 r (omega arith) in
       rw (← e, z, x, y, w) refl
 
@@ -60,35 +59,6 @@ module _ (l bs : List ℕ) (at : ℕ) (room : at + length bs ≤ length l) where
   unfolding wordAt
   word-put-in m k h = ap little (part-put-in l bs at room m k h)
 
-first-back : (s first n : ℕ) → first < 65536 → wordAt 2 (blockRecord s first n) 2 ≡ first
-unfolding wordAt digits
-first-back s first n h = digits-value 2 first h
-
-length-back : (s first n : ℕ) → n < 65536 → wordAt 2 (blockRecord s first n) 4 ≡ n
-unfolding wordAt digits
-length-back s first n h = digits-value 2 n h
-
-block-back : (b : Block) → FitsBlock b
-    → blockFrom (getD (blockBytes b) 0 0) (wordAt 2 (blockBytes b) 2) (wordAt 2 (blockBytes b) 4) ≡ b
-unfolding blockBytes
-block-back Block.Unused h = refl
-block-back (Block.Fixed first n) h =
-    ap₂ Block.Fixed (first-back 1 first n (h .0)) (length-back 1 first n (h .1))
-block-back (Block.Freeable first n) h =
-    ap₂ Block.Freeable (first-back 2 first n (h .0)) (length-back 2 first n (h .1))
-block-back Block.Dead h = refl
-
-cell-back : (c : Cell) → FitsCell c
-    → cellFrom (getD (cellBytes c) 0 0) (getD (cellBytes c) 1 0) (getD (cellBytes c) 2 0)
-    (integerAt (cellBytes c) 8) ≡ c
-unfolding cellBytes wordAt digits
-cell-back Cell.Free h = refl
-cell-back (Cell.Holds o Value.Undefined) h = refl
-cell-back (Cell.Holds o (Value.Integer z)) h = ap (λ (x : ℤ). Cell.Holds o (Value.Integer x)) (integer-value z (h .1))
-cell-back (Cell.Holds o (Value.Pointer p)) h =
-    ap (λ (x : ℤ). Cell.Holds o (Value.Pointer (record { name = p .name; offset = x })))
-    (integer-value (p .offset) (h .1 .1))
-
 -- ---- what the bytes stand for then
 module _ (l : List ℕ) (e : length l ≡ memoryLength) (i : ℕ) (c : Cell) (h : i < cellCount) where
   cell-room : cellPlace i + length (cellBytes c) ≤ length l
@@ -99,8 +69,8 @@ module _ (l : List ℕ) (e : length l ≡ memoryLength) (i : ℕ) (c : Cell) (h 
   cell-put-same f =
       let n = length-cellBytes c in
       let z = byte-put-first l (cellBytes c) (cellPlace i) cell-room (omega (arith, n)) in
-      let x = getD-put-in l (cellBytes c) (cellPlace i) cell-room 1 (omega (arith, n)) in
-      let y = getD-put-in l (cellBytes c) (cellPlace i) cell-room 2 (omega (arith, n)) in
+      let x = word-put-in l (cellBytes c) (cellPlace i) cell-room 2 2 (omega (arith, n)) in
+      let y = word-put-in l (cellBytes c) (cellPlace i) cell-room 2 4 (omega (arith, n)) in
       let w = word-put-in l (cellBytes c) (cellPlace i) cell-room 8 8 (omega (arith, n)) in
       rw (z, x, y, w) (cell-back c f)
 
@@ -167,11 +137,11 @@ module _ (l : List ℕ) (e : length l ≡ memoryLength) (k : ℕ) (b : Block) (h
 pub unchanged : (l : List ℕ) (m : Memory) → memoryOf l ≡ m → Becomes l l m
 unchanged l m e = record { view = e; exact = λ x. x }
 
-fits-cell : (c : Cell) → CellFits c → CellHeld c → FitsCell c
-fits-cell Cell.Free n h = tt
-fits-cell (Cell.Holds o Value.Undefined) n h = n
-fits-cell (Cell.Holds o (Value.Integer z)) n h = (n .0, fits-range z h)
-fits-cell (Cell.Holds o (Value.Pointer p)) n h = (n .0, (n .1, fits-range (p .offset) h))
+fits-cell : (c : Cell) → CellHeld c → FitsCell c
+fits-cell Cell.Free h = tt
+fits-cell (Cell.Holds o Value.Undefined) h = h
+fits-cell (Cell.Holds o (Value.Integer z)) h = (h .0, fits-range z (h .1))
+fits-cell (Cell.Holds o (Value.Pointer p)) h = (h .0, (h .1 .0, fits-range (p .offset) (h .1 .1)))
 
 fits-block : (b : Block) → BlockHeld b → FitsBlock b
 fits-block Block.Unused h = tt
@@ -179,11 +149,11 @@ fits-block (Block.Fixed first n) h = h
 fits-block (Block.Freeable first n) h = h
 fits-block Block.Dead h = tt
 
-pub becomes-cell : (l : List ℕ) (i : ℕ) (c : Cell) → length l ≡ memoryLength → i < cellCount → CellFits c → CellHeld c
+pub becomes-cell : (l : List ℕ) (i : ℕ) (c : Cell) → length l ≡ memoryLength → i < cellCount → CellHeld c
     → Becomes l (put l (cellPlace i) (cellBytes c)) (setCell (memoryOf l) i c)
-becomes-cell l i c e h n s =
+becomes-cell l i c e h s =
     let v : memoryOf (put l (cellPlace i) (cellBytes c)) ≡ setCell (memoryOf l) i c =
-    view-cell l e i c h (fits-cell c n s) in
+    view-cell l e i c h (fits-cell c s) in
     let inside : i < length (memoryOf l .cells) = omega (arith, count-cells l) in
     record {
       view = v;

@@ -4,29 +4,29 @@ ghost use Prim.Native.Nat.{_+_, _*_, _<_};
 ghost use lib.ListN.{length, replicate};
 ghost use Rattle.rules.specs.Sizes.{cellCount, memoryLength};
 ghost use Rattle.rules.specs.Memory.{setCell};
-ghost use Rattle.rules.specs.Layout.{memoryOf, memoryImage, cellPlace, cellRecord, cellBytes, nameLimit};
+ghost use Rattle.rules.specs.Layout.{memoryOf, memoryImage, cellPlace, cellRecord, cellBytes};
 ghost use Rattle.rules.specs.Words.{put};
-ghost use Rattle.memory_cells.specs.Changes.{Becomes, emptyMemory, CellFits, CellHeld};
+ghost use Rattle.memory_cells.specs.Changes.{Becomes, emptyMemory, CellHeld};
 use rules::BLOCKS_LENGTH;
 use rules::CELL_COUNT;
 use rules::Cell;
 use rules::ExecutionMemory;
 use rules::Value;
 
-// Sixteen bytes of cell i: a kind, an owner, a name, five zeros, a number.
+// Sixteen bytes of cell i: a kind, an owner and a name of two bytes each, a number.
 fn write_parts(mem: &mut ExecutionMemory, i: usize, kind: u8, owner: u16, name: u16, z: i64)
-    requires { ⌜ (i < cellCount) × (owner < nameLimit) × (name < nameLimit) ⌝ }
+    requires { ⌜ i < cellCount ⌝ }
     ensures bytes { λ _. ⌜ now (mem .exit) ≡ put (now (mem .entry)) (cellPlace i) (cellRecord kind owner name z) ⌝ }
     ensures length { λ _. ⌜ length (now (mem .entry)) ≡ memoryLength ⌝ }
 {
     let at = BLOCKS_LENGTH + i * 16;
-    let head = kind as u64 + owner as u64 * 256 + name as u64 * 65536;
+    let head = kind as u64 + owner as u64 * 65536 + name as u64 * 4294967296;
     byte_words::write_word(&mut mem[..], at, 8, head);
     byte_words::write_i64(&mut mem[..], at + 8, z);
 }
 
 fn write_cell(mem: &mut ExecutionMemory, i: usize, c: Cell)
-    requires { ⌜ (i < cellCount) × CellFits c ⌝ }
+    requires { ⌜ i < cellCount ⌝ }
     ensures bytes { λ _. ⌜ now (mem .exit) ≡ put (now (mem .entry)) (cellPlace i) (cellBytes c) ⌝ }
     ensures held { λ _. ⌜ CellHeld c ⌝ }
     ensures length { λ _. ⌜ length (now (mem .entry)) ≡ memoryLength ⌝ }
@@ -43,7 +43,6 @@ fn write_cell(mem: &mut ExecutionMemory, i: usize, c: Cell)
 
 // Cell i, where there is one, becomes c.
 pub fn put_cell(mem: &mut ExecutionMemory, i: usize, c: Cell)
-    requires { ⌜ CellFits c ⌝ }
     ensures { λ _. ⌜ Becomes (now (mem .entry)) (now (mem .exit)) (setCell (memoryOf (now (mem .entry))) i c) ⌝ }
 {
     if i < CELL_COUNT {

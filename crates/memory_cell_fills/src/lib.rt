@@ -1,13 +1,12 @@
 // Cells of the execution memory, one behind the other, filled with one content.
 ghost use Rattle.rules.specs.Layout.{memoryOf};
-ghost use Rattle.memory_cells.specs.Changes.{Becomes, CellFits};
+ghost use Rattle.memory_cells.specs.Changes.{Becomes};
 ghost use Rattle.memory_cell_fills.specs.Filling.{fillCells};
 use rules::Cell;
 use rules::ExecutionMemory;
 
 // The n cells from first on, as far as there are such cells, become c.
 pub fn fill(mem: &mut ExecutionMemory, first: u16, n: u16, c: Cell)
-    requires { ⌜ CellFits c ⌝ }
     ensures { λ _. ⌜ Becomes (now (mem .entry)) (now (mem .exit))
         (fillCells (memoryOf (now (mem .entry))) first n c) ⌝ }
 {

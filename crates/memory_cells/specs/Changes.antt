@@ -8,7 +8,7 @@ use mir.Val.{SFits}
 use Rattle.rules.specs.Sizes.{nameCount, cellCount}
 use Rattle.rules.specs.Memory.{Memory, Change, changed, stopped, setNamed}
 use Rattle.rules.specs.Layout.{memoryOf, memoryImage, nameLimit}
-use Rattle.rules.specs.declared.{Value.Value, Evaluated.Evaluated, Block.Block, Cell.Cell}
+use Rattle.rules.specs.declared.{Value.Value, Block.Block, Cell.Cell}
 
 -- bytes that are exactly those of what they stand for
 abbrev pub Exact : List ℕ → Type 0
@@ -35,29 +35,15 @@ setBlock m k b = record { blocks = setNamed (m .blocks) k b; cells = m .cells }
 abbrev pub emptyMemory : Memory
 emptyMemory = record { blocks = replicate nameCount Block.Unused; cells = replicate cellCount Cell.Free }
 
--- names that a cell holds
-abbrev pub NamesFit : Value → Type 0
-NamesFit Value.Undefined = Unit {0}
-NamesFit (Value.Integer z) = Unit {0}
-NamesFit (Value.Pointer p) = p .name < nameLimit
-
-abbrev pub EvaluatedFits : Evaluated → Type 0
-EvaluatedFits (Evaluated.Value v) = NamesFit v
-EvaluatedFits (Evaluated.Stopped k) = Unit {0}
-
-abbrev pub CellFits : Cell → Type 0
-CellFits Cell.Free = Unit {0}
-CellFits (Cell.Holds o v) = (o < nameLimit) × NamesFit v
-
 -- numbers that the code's types hold
-abbrev pub NumberHeld : Value → Type 0
-NumberHeld Value.Undefined = Unit {0}
-NumberHeld (Value.Integer z) = SFits w64 z
-NumberHeld (Value.Pointer p) = SFits w64 (p .offset)
+abbrev pub ValueHeld : Value → Type 0
+ValueHeld Value.Undefined = Unit {0}
+ValueHeld (Value.Integer z) = SFits w64 z
+ValueHeld (Value.Pointer p) = (p .name < nameLimit) × SFits w64 (p .offset)
 
 abbrev pub CellHeld : Cell → Type 0
 CellHeld Cell.Free = Unit {0}
-CellHeld (Cell.Holds o v) = NumberHeld v
+CellHeld (Cell.Holds o v) = (o < nameLimit) × ValueHeld v
 
 abbrev pub BlockHeld : Block → Type 0
 BlockHeld Block.Unused = Unit {0}

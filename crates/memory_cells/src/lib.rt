@@ -4,7 +4,6 @@ ghost use Prim.Native.Nat.{_+_, _*_, _<_};
 ghost use Rattle.rules.specs.Sizes.{nameCount, cellCount};
 ghost use Rattle.rules.specs.Memory.{blockOf, cellOf};
 ghost use Rattle.rules.specs.Layout.{memoryOf, blockAt, cellAt};
-ghost use Rattle.memory_cells.specs.Changes.{CellFits};
 use rules::BLOCKS_LENGTH;
 use rules::Block;
 use rules::CELL_COUNT;
@@ -13,13 +12,6 @@ use rules::ExecutionMemory;
 use rules::LAST_NAME;
 use rules::Pointer;
 use rules::Value;
-
-fn wide(b: u8) -> u16
-    ensures value { λ r. ⌜ r ≡ b ⌝ }
-    ensures bound { λ r. ⌜ r < 256 ⌝ }
-{
-    b as u16
-}
 
 // Block record k, counted from 0.
 fn read_block(mem: &ExecutionMemory, k: usize) -> Block
@@ -52,11 +44,10 @@ pub fn block(mem: &ExecutionMemory, name: u16) -> Block
 
 fn read_cell(mem: &ExecutionMemory, i: usize) -> Cell
     requires { ⌜ i < cellCount ⌝ }
-    ensures value { λ r. ⌜ r ≡ cellAt (now (mem .entry)) i ⌝ }
-    ensures names { λ r. ⌜ CellFits r ⌝ }
+    ensures { λ r. ⌜ r ≡ cellAt (now (mem .entry)) i ⌝ }
 {
     let at = BLOCKS_LENGTH + i * 16;
-    let owner = wide(mem[at + 1]);
+    let owner = byte_words::read_word(&mem[..], at + 2, 2) as u16;
     match mem[at] {
         0 => Cell::Free,
         1 => Cell::Holds(owner, Value::Undefined),
@@ -65,7 +56,7 @@ fn read_cell(mem: &ExecutionMemory, i: usize) -> Cell
             Value::Integer(byte_words::read_i64(&mem[..], at + 8)),
         ),
         _ => {
-            let name = wide(mem[at + 2]);
+            let name = byte_words::read_word(&mem[..], at + 4, 2) as u16;
             let offset = byte_words::read_i64(&mem[..], at + 8);
             Cell::Holds(owner, Value::Pointer(Pointer { name, offset }))
         }
@@ -73,8 +64,7 @@ fn read_cell(mem: &ExecutionMemory, i: usize) -> Cell
 }
 
 pub fn cell(mem: &ExecutionMemory, i: usize) -> Cell
-    ensures value { λ r. ⌜ r ≡ cellOf (memoryOf (now (mem .entry))) i ⌝ }
-    ensures names { λ r. ⌜ CellFits r ⌝ }
+    ensures { λ r. ⌜ r ≡ cellOf (memoryOf (now (mem .entry))) i ⌝ }
 {
     if i < CELL_COUNT {
         read_cell(mem, i)

@@ -1,3 +1,2 @@
 -- Facts about live blocks and about the queries by their numbers.
-pub mod Names
 pub mod Queries

@@ -1,15 +1,14 @@
 -- The queries by their numbers.
 use Prim.Native.Nat.{ℕ, zero, suc}
-use mathlib.Core.Path.{_≡_, refl, sym, subst}
-use mathlib.Core.Bool.{Bool, true, false}
+use mathlib.Core.Path.{_≡_, refl}
+use mathlib.Core.Bool.{Bool}
 use lib.IntN.{pos}
 use Rattle.rules.specs.Trees.{valid, initialised}
 use Rattle.rules.specs.Memory.{Memory, recordedOf, blockOf, locate}
 use Rattle.rules.specs.Numbers.{truthValue}
 use Rattle.rules.specs.Evaluation.{isValid, initialisedAt, ofLive, queried}
 use Rattle.rules.specs.Nodes.{queryOf}
-use Rattle.rules.specs.declared.{Pointer.Pointer, Value.Value, Evaluated.Evaluated, Recorded.Recorded}
-use Rattle.memory_cells.specs.Changes.{EvaluatedFits}
+use Rattle.rules.specs.declared.{Pointer.Pointer, Value.Value, Recorded.Recorded}
 use Rattle.memory_queries.specs.Queries.{description}
 
 pub valid-law : (m : Memory) (f : ℕ → Bool) (p : Pointer)
@@ -40,8 +39,3 @@ other-description (suc (suc zero)) p n x y = refl
 other-description (suc (suc (suc zero))) p n x y = absurd (x refl)
 other-description (suc (suc (suc (suc zero)))) p n x y = absurd (y refl)
 other-description (suc (suc (suc (suc (suc q))))) p n x y = refl
-
--- a truth value is an integer
-pub truth-fits : (b : Bool) (e : Evaluated) → e ≡ truthValue b → EvaluatedFits e
-truth-fits true e p = subst EvaluatedFits (sym p) tt
-truth-fits false e p = subst EvaluatedFits (sym p) tt

@@ -1,12 +1,10 @@
 // The queries of a pointer into the execution memory, and whether a block there is live.
 ghost use mathlib.Core.Path.{_≡_};
-ghost use Prim.Native.Nat.{_<_};
 ghost use Rattle.rules.specs.Memory.{recordedOf, blockOf, liveBlock, cellOf};
 ghost use Rattle.rules.specs.Evaluation.{isInitialised, isValid, initialisedAt, ofLive, queried};
 ghost use Rattle.rules.specs.Nodes.{queryOf};
-ghost use Rattle.rules.specs.Layout.{memoryOf, nameLimit};
+ghost use Rattle.rules.specs.Layout.{memoryOf};
 ghost use Rattle.rules.specs.declared.{Evaluated.Evaluated};
-ghost use Rattle.memory_cells.specs.Changes.{EvaluatedFits};
 ghost use Rattle.memory_queries.specs.Queries.{description};
 use rules::Block;
 use rules::Cell;
@@ -63,9 +61,7 @@ pub fn is_live(mem: &ExecutionMemory, name: u16) -> bool
 
 // Base, offset or length, of a block of n cells.
 fn describe(q: u8, p: Pointer, n: u16) -> Evaluated
-    requires { ⌜ p .name < nameLimit ⌝ }
-    ensures value { λ r. ⌜ r ≡ Evaluated.Value (description q p n) ⌝ }
-    ensures names { λ r. ⌜ EvaluatedFits r ⌝ }
+    ensures { λ r. ⌜ r ≡ Evaluated.Value (description q p n) ⌝ }
 {
     match q {
         3 => Evaluated::Value(Value::Pointer(Pointer {
@@ -79,9 +75,8 @@ fn describe(q: u8, p: Pointer, n: u16) -> Evaluated
 
 // Base, offset or length: 47 where the block is not live.
 fn query_block(mem: &ExecutionMemory, q: u8, p: Pointer) -> Evaluated
-    ensures value { λ r. ⌜ r ≡ ofLive (recordedOf (blockOf (memoryOf (now (mem .entry))) (p .name)))
+    ensures { λ r. ⌜ r ≡ ofLive (recordedOf (blockOf (memoryOf (now (mem .entry))) (p .name)))
         (description q p) ⌝ }
-    ensures names { λ r. ⌜ EvaluatedFits r ⌝ }
 {
     match memory_cells::block(mem, p.name) {
         Block::Unused => Evaluated::Stopped(47),
@@ -93,9 +88,8 @@ fn query_block(mem: &ExecutionMemory, q: u8, p: Pointer) -> Evaluated
 
 // The five queries of a pointer, by their numbers.
 pub fn query(mem: &ExecutionMemory, q: u8, p: Pointer) -> Evaluated
-    ensures value { λ r. ⌜ r ≡ queried (queryOf q) (recordedOf (blockOf (memoryOf (now (mem .entry))) (p .name)))
+    ensures { λ r. ⌜ r ≡ queried (queryOf q) (recordedOf (blockOf (memoryOf (now (mem .entry))) (p .name)))
         (λ i. isInitialised (cellOf (memoryOf (now (mem .entry))) i)) p ⌝ }
-    ensures names { λ r. ⌜ EvaluatedFits r ⌝ }
 {
     match q {
         1 => value::truth(is_valid(memory_pointers::locate(mem, p))),

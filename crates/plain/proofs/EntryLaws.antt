@@ -23,7 +23,6 @@ use Rattle.rules.proofs.acceptance.Sound.{startScope}
 use Rattle.rules.proofs.acceptance.AcceptedPrograms.{accepted-program, padded-program}
 use Rattle.rules.specs.Fits.{FitsMemory}
 use Rattle.rules.proofs.layout.LayoutLaws.{memory-back}
-use Rattle.rules.proofs.layout.Reachable.{startVariables-fit}
 use Rattle.rules.proofs.layout.ReachableRoundTrip.{start-inside, plain-round-trip}
 use Rattle.rules.proofs.acceptance.Padding.{node-padded}
 use Rattle.run_endings.specs.declared.Ended.{Ended}
@@ -40,16 +39,10 @@ module _ (t l : List ℕ) (h : check source t ≡ Checked.Accepted) where
   same-program =
       ap sourceStatement (node-padded t (drop (0 + length t) l) source (recordCount t) (le-refl (recordCount t)))
 
-  pub ready-start : (m : Memory) → FitsMemory m → Ready (put l 0 t) (recordCount t) startVariables m
-  ready-start m f =
+  pub ready-start : Ready (put l 0 t) (recordCount t)
+  ready-start =
       let p = padded-program source t (drop (0 + length t) l) h in
-      record {
-        is = p .is;
-        scope = startScope;
-        sound = p .sound;
-        names = startVariables-fit;
-        fits = f;
-      }
+      record { is = p .is; scope = startScope; sound = p .sound }
 
 -- ---- the end
 module _ (i : List ℕ) (e : inputsFault i ≡ false) (l : List ℕ) (s : l ≡ memoryImage (startMemory (inputsOf i))) where
@@ -58,9 +51,6 @@ module _ (i : List ℕ) (e : inputsFault i ≡ false) (l : List ℕ) (s : l ≡ 
 
   start-view : memoryOf l ≡ startMemory (inputsOf i)
   start-view = ap memoryOf s ∙ memory-back (startMemory (inputsOf i)) start-fits
-
-  pub start-ready : FitsMemory (memoryOf l)
-  start-ready = subst FitsMemory (sym start-view) start-fits
 
   -- what a run leaves has its length
   pub exit-length : (t : List ℕ) (f : ℕ) (r : Ended) (l₁ : List ℕ) → check source t ≡ Checked.Accepted

@@ -5,7 +5,6 @@ ghost use Rattle.rules.specs.Checker.{check, inputsFault, memoryFault};
 ghost use Rattle.rules.specs.Nodes.{sourceProgram, statementAt};
 ghost use Rattle.rules.specs.Answers.{plainEnded, plainOutcome, plainBy, runPlain};
 ghost use Rattle.rules.specs.declared.{Checked.Checked};
-ghost use Rattle.rules.specs.Fits.{FitsMemory};
 ghost use Rattle.rules.specs.Kinds.{source};
 ghost use Rattle.rules.specs.Flow.{ending};
 ghost use Rattle.rules.specs.Plain.{run, startVariables};
@@ -31,8 +30,7 @@ fn run_from_start(
     counts: &mut Counts,
     fuel: u32,
 ) -> Ended
-    requires { ⌜ Ready (now table) n startVariables (memoryOf (now mem))
-        × Counted (memoryOf (now mem)) (now counts) ⌝ }
+    requires { ⌜ Ready (now table) n × Counted (memoryOf (now mem)) (now counts) ⌝ }
     ensures outcome { λ r. ⌜ Ran (run (statementAt (now (table .entry)) n) startVariables (memoryOf (now (mem .entry))) fuel) r
         (now (mem .entry)) (now (mem .exit)) ⌝ }
     ensures counts { λ _. ⌜ Counted (memoryOf (now (mem .exit))) (now (counts .exit)) ⌝ }
@@ -44,7 +42,7 @@ fn run_from_start(
 
 // Runs an accepted table from a memory that holds the inputs.
 fn run_table(table: &[u8], mem: &mut ExecutionMemory, counts: &mut Counts, fuel: u32) -> Ended
-    requires { ⌜ (check source (now table) ≡ Checked.Accepted) × FitsMemory (memoryOf (now mem))
+    requires { ⌜ (check source (now table) ≡ Checked.Accepted)
         × Counted (memoryOf (now mem)) (now counts) ⌝ }
     ensures outcome { λ r. ⌜ Ran (run (sourceProgram (now (table .entry))) startVariables (memoryOf (now (mem .entry))) fuel) r
         (now (mem .entry)) (now (mem .exit)) ⌝ }

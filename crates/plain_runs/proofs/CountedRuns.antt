@@ -28,7 +28,7 @@ asserted-state m Test.Yes = refl
 asserted-state m Test.No = refl
 asserted-state m (Test.Stopped c) = refl
 
-module _ {t : List ℕ} {n : ℕ} {ρ : Variables} (l : List ℕ) (f : ℕ) (h : Ready t n ρ (memoryOf l)) where
+module _ {t : List ℕ} {n : ℕ} (ρ : Variables) (l : List ℕ) (f : ℕ) (h : Ready t n) where
   -- the memory that one change leaves
   changes : (x : Change Memory) → run (statementAt t n) ρ (memoryOf l) f ≡ after n ρ f x
       → ending (run (statementAt t n) ρ (memoryOf l) f) .state ≡ changeMemory x

@@ -3,8 +3,7 @@ use Prim.Native.Nat.{ℕ, suc, _-_, _<_, _≤_}
 use native.Mathlib.Omega.{arith}
 use mathlib.Core.List.{List}
 use mathlib.Core.Logic.{_≢_}
-use mathlib.Core.Path.{_≡_, refl, sym, ap, _∙_, subst}
-use Rattle.rules.specs.Kinds.{source}
+use mathlib.Core.Path.{_≡_, refl, sym, ap, _∙_}
 use Rattle.rules.specs.Records.{kindOf, markOf, childA, childB, childC}
 use Rattle.rules.specs.Memory.{Memory, fixed, Made, made, makeBlock, endBlock}
 use Rattle.rules.specs.Trees.{Statement}
@@ -13,11 +12,9 @@ use Rattle.rules.specs.Flow.{Outcome, finished, ended, Ending, ending, into, ne
 use Rattle.rules.specs.Plain.{plainMeaning, run}
 use Rattle.rules.specs.Layout.{memoryOf}
 use Rattle.rules.specs.declared.{Test.Test}
-use Rattle.rules.specs.Fits.{FitsMemory}
 use Rattle.rules.specs.Nodes.{expressionAt, statementAt}
 use Rattle.rules.proofs.runs.Fuel.{run-fuel}
 use Rattle.rules.proofs.runs.Outcomes.{into-ending, next-ending, decide-ending}
-use Rattle.rules.proofs.runs.StatementArms.{let-child, sound-let}
 use Rattle.rules.proofs.runs.PlainArms.{run-sequence, run-branch, run-while-zero}
 use Rattle.rules.proofs.runs.PlainArms.{run-while-suc, run-let}
 use Rattle.memory_cells.specs.Changes.{Becomes}
@@ -25,10 +22,9 @@ use Rattle.memory_blocks.specs.Blocks.{makingOf, madeMemory}
 use Rattle.memory_blocks.specs.declared.Making.the-variants as making
 use Rattle.run_endings.specs.declared.Ended.{Ended}
 use Rattle.run_endings.specs.Ending.{result}
-use Rattle.plain_runs.specs.Running.{Ready, Inside, enclosed, EndsSo, Ran}
-use Rattle.run_changes.proofs.ChangeLaws.{becomes-same, becomes-is, becomes-then, made-by, unmade-by, name-fits}
+use Rattle.plain_runs.specs.Running.{Ready, enclosed, EndsSo, Ran}
+use Rattle.run_changes.proofs.ChangeLaws.{becomes-same, becomes-is, becomes-then, made-by, unmade-by}
 use Rattle.plain_runs.proofs.Laws.{ran-is, run-finished, next-goes, next-stays}
-use Rattle.plain_runs.proofs.ReadyLaws.{ready-within, ready-inside, run-kept, made-kept}
 
 -- what came before counts for the bytes alone
 pub ran-from : {e : Ending Memory} {r : Ended} {m : Memory} {a b c : List ℕ} → Becomes a b m → EndsSo e r b c
@@ -43,21 +39,21 @@ pub ran-ended : (l : List ℕ) (c s f : ℕ)
     → EndsSo (record { number = c; statement = s; state = memoryOf l; fuel = f }) (result c s f) l l
 ran-ended l c s f = record { answer = refl; memory = becomes-same refl }
 
-module _ {t : List ℕ} {n : ℕ} {ρ : Variables} {m : Memory} (h : Ready t n ρ m) where
+module _ {t : List ℕ} {n : ℕ} (ρ : Variables) (h : Ready t n) where
   abbrev conditionIn : Memory → Test
   conditionIn m₁ = condition (evaluateSource (expressionAt t (childA t n)) ρ m₁)
 
   -- a branch
-  abbrev deciding : Test → ℕ → Outcome Memory
-  deciding x f = decide n ρ x m f (run (statementAt t (childB t n)) ρ m f) (run (statementAt t (childC t n)) ρ m f)
+  abbrev deciding : Memory → Test → ℕ → Outcome Memory
+  deciding m x f = decide n ρ x m f (run (statementAt t (childB t n)) ρ m f) (run (statementAt t (childC t n)) ρ m f)
 
-  pub branch-by : kindOf t n ≡ 45 → (f : ℕ) (x : Test) → conditionIn m ≡ x
-      → ending (run (statementAt t n) ρ m f) ≡ ending (deciding x f)
-  branch-by q f x e =
+  pub branch-by : kindOf t n ≡ 45 → (m : Memory) (f : ℕ) (x : Test) → conditionIn m ≡ x
+      → ending (run (statementAt t n) ρ m f) ≡ ending (deciding m x f)
+  branch-by q m f x e =
       ap ending (run-branch t n (h .is) ρ m f q)
       ∙ decide-ending n ρ (conditionIn m) m f _ _ _ _ (into-ending 1 (run (statementAt t (childB t n)) ρ m f))
       (into-ending 2 (run (statementAt t (childC t n)) ρ m f))
-      ∙ ap (λ (y : Test). ending (deciding y f)) e
+      ∙ ap (λ (y : Test). ending (deciding m y f)) e
 
   -- a turn of a while, in memory m₁
   abbrev turning : Memory → Test → ℕ → Outcome Memory
@@ -91,7 +87,7 @@ module _ {t : List ℕ} {n : ℕ} {ρ : Variables} {m : Memory} (h : Ready t n �
       (λ m₂ f₁. into-ending 1 (run (statementAt t (childB t n)) ρ m₂ f₁))
 
 -- a let, and its block, made in memory l
-module _ {t : List ℕ} {n : ℕ} {ρ : Variables} {l l₁ : List ℕ} (h : Ready t n ρ (memoryOf l)) (q : kindOf t n ≡ 47)
+module _ {t : List ℕ} {n : ℕ} (ρ : Variables) {l l₁ : List ℕ} (h : Ready t n) (q : kindOf t n ≡ 47)
     (w : Becomes l l₁ (madeMemory (memoryOf l) (makeBlock (memoryOf l) fixed 1))) where
   abbrev block : Made Memory
   block = makeBlock (memoryOf l) fixed 1
@@ -119,24 +115,11 @@ module _ {t : List ℕ} {n : ℕ} {ρ : Variables} {l l₁ : List ℕ} (h : Read
       let u = unmade-by block c e in
       ran-is (enclosing f _ u) (record { answer = refl; memory = becomes-is (ap (madeMemory (memoryOf l)) u) w })
 
-  -- its child may run there
-  pub ready-made : {k : ℕ} → making.Name k ≡ makingOf block → Inside t n ρ (memoryOf l₁) k
-  ready-made {k} e =
-      record {
-        within = ready-within h;
-        smaller = let-child source t n (h .is) q .1;
-        mark = sound-let source t n (h .is) (h .scope) (h .sound) q .0;
-        body =
-            ready-inside h q k (name-fits (memoryOf l) fixed 1 k e)
-            (subst FitsMemory (sym (w .view)) (made-kept h fixed 1 k _ (made-by block k (memoryOf l) e)));
-      }
-
 -- what ran so far of statement n: statement m is left to run
 pub record Remaining (t : List ℕ) (n : ℕ) (ρ : Variables) (entry : List ℕ) (fuel m : ℕ) (l : List ℕ) (left : ℕ)
     : Type 0 where
   pub rest : ending (run (statementAt t n) ρ (memoryOf entry) fuel) ≡ ending (run (statementAt t m) ρ (memoryOf l) left)
   pub bytes : Becomes entry l (memoryOf l)
-  pub fits : FitsMemory (memoryOf l)
 
 -- statement x, which runs first in m, ran; statement k is to follow
 pub record Part (t : List ℕ) (n : ℕ) (ρ : Variables) (entry : List ℕ) (fuel m : ℕ) (l : List ℕ) (left x k f : ℕ)
@@ -159,12 +142,11 @@ module _ {t : List ℕ} {n : ℕ} {ρ : Variables} {entry : List ℕ} {fuel m : 
       ran-is (p .earlier .rest ∙ p .leads)
       (ran-from (p .earlier .bytes) (next-stays (statementAt t x) ρ f following r l l₁ (p .ran) d))
 
-  pub part-finishes : r .number ≡ 0 → Ready t x ρ (memoryOf l) → Remaining t n ρ entry fuel k l₁ (r .fuel)
-  part-finishes d h =
+  pub part-finishes : r .number ≡ 0 → Remaining t n ρ entry fuel k l₁ (r .fuel)
+  part-finishes d =
       record {
         rest = p .earlier .rest ∙ p .leads ∙ ap (λ (o : Outcome Memory). ending (next o following)) (finish d);
         bytes = becomes-is (sym (p .ran .memory .view)) (becomes-then (p .earlier .bytes) (p .ran .memory));
-        fits = subst FitsMemory (sym (p .ran .memory .view)) (run-kept h f);
       }
 
   pub part-spends : r .number ≡ 0 → f < left → r .fuel < left
@@ -177,8 +159,8 @@ module _ {t : List ℕ} {n : ℕ} {ρ : Variables} {entry : List ℕ} {fuel m : 
       )
 
 -- a let's child ran: where it finished, the block ends
-module _ {t : List ℕ} {n : ℕ} {ρ : Variables} {k : ℕ} {r : Ended} {a b : List ℕ} (i : Inside t n ρ (memoryOf a) k)
-    (f : ℕ) (w : Ran (run (statementAt t (childA t n)) (extend ρ (markOf t n) k) (memoryOf a) f) r a b) where
+module _ (t : List ℕ) (n : ℕ) (ρ : Variables) (k : ℕ) {r : Ended} {a b : List ℕ} (f : ℕ)
+    (w : Ran (run (statementAt t (childA t n)) (extend ρ (markOf t n) k) (memoryOf a) f) r a b) where
   abbrev closing : Memory → ℕ → Outcome Memory
   closing m₁ f₁ = finished (endBlock m₁ k) f₁
 

@@ -9,27 +9,24 @@ use Rattle.rules.specs.Evaluation.{Variables, extend}
 use Rattle.rules.specs.Flow.{Outcome, finished, Ending, ending, next}
 use Rattle.rules.specs.Plain.{run}
 use Rattle.rules.proofs.acceptance.Sound.{Scope, SoundStatement}
-use Rattle.rules.specs.Fits.{FitsMemory, VariablesFit}
 use Rattle.rules.specs.Nodes.{HasSort, statementAt}
 use Rattle.table.specs.Within.{Within}
 use Rattle.memory_cells.specs.Changes.{Becomes}
 use Rattle.run_endings.specs.declared.Ended.{Ended}
 use Rattle.run_endings.specs.Ending.{result}
 
--- statement n may run: its numbers and names fit, and so do those that it finds
-pub record Ready (t : List ℕ) (n : ℕ) (ρ : Variables) (m : Memory) : Type 0 where
+-- statement n may run: it is a sound statement, its variables being in a scope
+pub record Ready (t : List ℕ) (n : ℕ) : Type 0 where
   pub is : HasSort source statement t n
   pub scope : Scope
   pub sound : SoundStatement (statementAt t n) scope
-  pub names : VariablesFit ρ
-  pub fits : FitsMemory m
 
--- child A of let n may run, its variable being block k
-pub record Inside (t : List ℕ) (n : ℕ) (ρ : Variables) (m : Memory) (k : ℕ) : Type 0 where
+-- child A of let n may run
+pub record Inside (t : List ℕ) (n : ℕ) : Type 0 where
   pub within : Within t n
   pub smaller : childA t n < n
   pub mark : markOf t n < 64
-  pub body : Ready t (childA t n) (extend ρ (markOf t n) k) m
+  pub body : Ready t (childA t n)
 
 -- a let from where its block is made
 abbrev pub enclosed : List ℕ → ℕ → Variables → Memory → ℕ → ℕ → Outcome Memory

@@ -60,7 +60,7 @@ fn assign(
     mem: &mut ExecutionMemory,
     fuel: u32,
 ) -> Ended
-    requires { ⌜ Ready (now table) n (variablesOf (now variables)) (memoryOf (now mem))
+    requires { ⌜ Ready (now table) n
         × (kindOf (now table) n ≡ 41) ⌝ }
     ensures { λ r. ⌜ Ran (run (statementAt (now (table .entry)) n) (variablesOf (now (variables .entry)))
         (memoryOf (now (mem .entry))) fuel) r (now (mem .entry)) (now (mem .exit)) ⌝ }
@@ -80,7 +80,7 @@ fn allocate(
     counts: &mut Counts,
     fuel: u32,
 ) -> Ended
-    requires { ⌜ Ready (now table) n (variablesOf (now variables)) (memoryOf (now mem))
+    requires { ⌜ Ready (now table) n
         × (kindOf (now table) n ≡ 42)
         × Counted (memoryOf (now mem)) (now counts) ⌝ }
     ensures outcome { λ r. ⌜ Ran (run (statementAt (now (table .entry)) n) (variablesOf (now (variables .entry)))
@@ -102,7 +102,7 @@ fn release(
     counts: &mut Counts,
     fuel: u32,
 ) -> Ended
-    requires { ⌜ Ready (now table) n (variablesOf (now variables)) (memoryOf (now mem))
+    requires { ⌜ Ready (now table) n
         × (kindOf (now table) n ≡ 43)
         × Counted (memoryOf (now mem)) (now counts) ⌝ }
     ensures outcome { λ r. ⌜ Ran (run (statementAt (now (table .entry)) n) (variablesOf (now (variables .entry)))
@@ -122,7 +122,7 @@ fn assert(
     mem: &mut ExecutionMemory,
     fuel: u32,
 ) -> Ended
-    requires { ⌜ Ready (now table) n (variablesOf (now variables)) (memoryOf (now mem))
+    requires { ⌜ Ready (now table) n
         × (kindOf (now table) n ≡ 48) ⌝ }
     ensures { λ r. ⌜ Ran (run (statementAt (now (table .entry)) n) (variablesOf (now (variables .entry)))
         (memoryOf (now (mem .entry))) fuel) r (now (mem .entry)) (now (mem .exit)) ⌝ }
@@ -141,7 +141,7 @@ pub fn run(
     counts: &mut Counts,
     fuel: u32,
 ) -> Ended
-    requires { ⌜ Ready (now table) n (variablesOf (now variables)) (memoryOf (now mem))
+    requires { ⌜ Ready (now table) n
         × Counted (memoryOf (now mem)) (now counts) ⌝ }
     ensures outcome { λ r. ⌜ Ran (run (statementAt (now (table .entry)) n) (variablesOf (now (variables .entry)))
         (memoryOf (now (mem .entry))) fuel) r (now (mem .entry)) (now (mem .exit)) ⌝ }
@@ -171,7 +171,7 @@ fn run_single(
     counts: &mut Counts,
     fuel: u32,
 ) -> Ended
-    requires { ⌜ Ready (now table) n (variablesOf (now variables)) (memoryOf (now mem))
+    requires { ⌜ Ready (now table) n
         × (kindOf (now table) n ≢ 44)
         × Counted (memoryOf (now mem)) (now counts) ⌝ }
     ensures outcome { λ r. ⌜ Ran (run (statementAt (now (table .entry)) n) (variablesOf (now (variables .entry)))
@@ -204,7 +204,7 @@ fn branch(
     counts: &mut Counts,
     fuel: u32,
 ) -> Ended
-    requires { ⌜ Ready (now table) n (variablesOf (now variables)) (memoryOf (now mem))
+    requires { ⌜ Ready (now table) n
         × (kindOf (now table) n ≡ 45)
         × Counted (memoryOf (now mem)) (now counts) ⌝ }
     ensures outcome { λ r. ⌜ Ran (run (statementAt (now (table .entry)) n) (variablesOf (now (variables .entry)))
@@ -248,7 +248,7 @@ fn repeat(
     counts: &mut Counts,
     fuel: u32,
 ) -> Ended
-    requires { ⌜ Ready (now table) n (variablesOf (now variables)) (memoryOf (now mem))
+    requires { ⌜ Ready (now table) n
         × (kindOf (now table) n ≡ 46)
         × Counted (memoryOf (now mem)) (now counts) ⌝ }
     ensures outcome { λ r. ⌜ Ran (run (statementAt (now (table .entry)) n) (variablesOf (now (variables .entry)))
@@ -300,7 +300,7 @@ fn enclose(
     counts: &mut Counts,
     fuel: u32,
 ) -> Ended
-    requires { ⌜ Ready (now table) n (variablesOf (now variables)) (memoryOf (now mem))
+    requires { ⌜ Ready (now table) n
         × (kindOf (now table) n ≡ 47)
         × Counted (memoryOf (now mem)) (now counts) ⌝ }
     ensures outcome { λ r. ⌜ Ran (run (statementAt (now (table .entry)) n) (variablesOf (now (variables .entry)))
@@ -328,7 +328,7 @@ fn run_inside(
     fuel: u32,
     k: u16,
 ) -> Ended
-    requires { ⌜ Inside (now table) n (variablesOf (now variables)) (memoryOf (now mem)) k
+    requires { ⌜ Inside (now table) n
         × Counted (memoryOf (now mem)) (now counts) ⌝ }
     ensures outcome { λ r. ⌜ Ran (enclosed (now (table .entry)) n (variablesOf (now (variables .entry)))
         (memoryOf (now (mem .entry))) fuel k) r (now (mem .entry)) (now (mem .exit)) ⌝ }

@@ -61,7 +61,7 @@ assertion o x y z =
     literal x ∷ of 20 1 0 ∷ literal y ∷ of 20 3 0 ∷ ofAll 24 o 2 4 0 (pos 0)
     ∷ literal z ∷ of 20 6 0 ∷ ofAll 32 7 5 7 0 (pos 0) ∷ of 48 8 0 ∷ []
 
--- variable 0's cell in an execution memory: kind, owner, pointed-to name and five zeros, then its integer or offset
+-- variable 0's cell in an execution memory: eight bytes with kind, owner and pointed-to name, then its integer or offset
 abbrev pub variableCell : List ℕ → List ℤ
 variableCell memory = map pos (part 8 memory (cellPlace 0)) ++ (integerAt memory (cellPlace 0 + 8) ∷ [])
 
@@ -148,15 +148,15 @@ listingOnPaper =
 abbrev pub quotient : ℤ → List ℤ
 quotient z =
     map pos (0 ∷ 0 ∷ 0 ∷ 0 ∷ 0 ∷ 0 ∷ 0 ∷ 0 ∷ [])
-    ++ map pos (2 ∷ 1 ∷ 0 ∷ 0 ∷ 0 ∷ 0 ∷ 0 ∷ 0 ∷ []) ++ (z ∷ [])
-    ++ map pos (2 ∷ 1 ∷ 0 ∷ 0 ∷ 0 ∷ 0 ∷ 0 ∷ 0 ∷ []) ++ (z ∷ [])
+    ++ map pos (2 ∷ 0 ∷ 1 ∷ 0 ∷ 0 ∷ 0 ∷ 0 ∷ 0 ∷ []) ++ (z ∷ [])
+    ++ map pos (2 ∷ 0 ∷ 1 ∷ 0 ∷ 0 ∷ 0 ∷ 0 ∷ 0 ∷ []) ++ (z ∷ [])
 
 -- P4: the division ends at its 41, record 5, the assertion at its 48, record 9; the cell still points to block 2
 abbrev pub noQuotient : ℕ → List ℤ
 noQuotient k =
     map pos (k ∷ 5 ∷ k ∷ 5 ∷ k ∷ 9 ∷ k ∷ 9 ∷ [])
-    ++ map pos (3 ∷ 1 ∷ 2 ∷ 0 ∷ 0 ∷ 0 ∷ 0 ∷ 0 ∷ 0 ∷ [])
-    ++ map pos (3 ∷ 1 ∷ 2 ∷ 0 ∷ 0 ∷ 0 ∷ 0 ∷ 0 ∷ 0 ∷ [])
+    ++ map pos (3 ∷ 0 ∷ 1 ∷ 0 ∷ 2 ∷ 0 ∷ 0 ∷ 0 ∷ 0 ∷ [])
+    ++ map pos (3 ∷ 0 ∷ 1 ∷ 0 ∷ 2 ∷ 0 ∷ 0 ∷ 0 ∷ 0 ∷ [])
 
 -- numbers and statements; in P9 block 4 of 6 cells from cell 4 on, then dead, and block 5 in its place
 unfoldable pub onPaper : List (List ℤ)

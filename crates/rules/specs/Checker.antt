@@ -217,7 +217,7 @@ check l t =
 abbrev pub inputsFault : List ℕ → Bool
 inputsFault i = not (eqb (length i % 8) 0) || eqb (length i) 0 || ltb inputLimit (length i / 8)
 
--- "20 output shorter than the translation; 21 execution memory not 18,424 bytes; 22 observation memory not 3,064"
+-- "20 output shorter than the translation". 02 §5: "21 tests for 49,144 bytes and 22 for 33,784"
 abbrev pub outputFault : List ℕ → List ℕ → Bool
 outputFault bytes out = ltb (length out) (length bytes)
 

@@ -11,7 +11,7 @@ use Rattle.rules.specs.Memory.{Memory, one}
 use Rattle.rules.specs.Observation.{Observation}
 use Rattle.rules.specs.Types.{Value, Block, Recorded, Cell}
 
--- "255 block records of 8 bytes (state ..; 0; first cell in two bytes; length in two; 0, 0)"
+-- "block records of 8 bytes (state ..; 0; first cell in two bytes; length in two; 0, 0)"
 abbrev pub blockRecord : ℕ → ℕ → ℕ → List ℕ
 blockRecord state first n = state ∷ 0 ∷ digits 2 first ++ digits 2 n ++ 0 ∷ 0 ∷ []
 
@@ -22,13 +22,14 @@ blockBytes (Block.Fixed first n) = blockRecord 1 first n
 blockBytes (Block.Freeable first n) = blockRecord 2 first n
 blockBytes Block.Dead = blockRecord 3 0 0
 
--- "then 1,024 cells of 16 (kind ..; owner; pointed-to name; five zeros; integer or offset in 8)"
+-- "then 1,024 cells of 16 (kind ..; integer or offset in 8)". 02 §5: "the owner takes bytes 2–3 and the pointed-to name
+-- bytes 4–5; bytes 1, 6 and 7 are zero"
 abbrev pub cellRecord : ℕ → ℕ → ℕ → ℤ → List ℕ
-cellRecord kind owner name z = kind ∷ owner ∷ name ∷ 0 ∷ 0 ∷ 0 ∷ 0 ∷ 0 ∷ integerBytes z
+cellRecord kind owner name z = kind ∷ 0 ∷ digits 2 owner ++ digits 2 name ++ 0 ∷ 0 ∷ integerBytes z
 
--- an owner and a pointed-to name have one byte each
+-- an owner and a pointed-to name have two bytes each
 abbrev pub nameLimit : ℕ
-nameLimit = 256
+nameLimit = 65536
 
 -- "0 free, 1 undefined, 2 integer, 3 pointer"; "a free cell is all zero, and so is any part that a cell's kind has no
 -- use for"
@@ -41,7 +42,7 @@ cellBytes (Cell.Holds o (Value.Pointer p)) = cellRecord 3 o (p .name) (p .offset
 unfoldable pub memoryImage : Memory → List ℕ
 memoryImage m = flat blockBytes (m .blocks) ++ flat cellBytes (m .cells)
 
--- "255 block records (state 0 unused, 1 live, 2 dead; rest alike, first counting marks)"
+-- "block records (state 0 unused, 1 live, 2 dead; rest alike, first counting marks)"
 unfoldable pub recordedBytes : Recorded → List ℕ
 recordedBytes Recorded.Unused = blockRecord 0 0 0
 recordedBytes (Recorded.Live first n) = blockRecord 1 first n
@@ -83,7 +84,7 @@ cellFrom (suc (suc (suc k))) o n z = Cell.Holds o (Value.Pointer (record { name 
 
 unfoldable pub cellAt : List ℕ → ℕ → Cell
 cellAt l i =
-    cellFrom (getD l (cellPlace i) 0) (getD l (cellPlace i + 1) 0) (getD l (cellPlace i + 2) 0)
+    cellFrom (getD l (cellPlace i) 0) (wordAt 2 l (cellPlace i + 2)) (wordAt 2 l (cellPlace i + 4))
     (integerAt l (cellPlace i + 8))
 
 unfoldable pub memoryOf : List ℕ → Memory

@@ -105,7 +105,7 @@ isFree (Cell.Holds o v) = false
 abbrev pub freeRun : Memory → ℕ → Search
 freeRun m n = lowestRun (λ i. isFree (cellOf m i)) n
 
--- "Block names 1–255 are given in rising order and never again."
+-- "Block names .. are given in rising order and never again." 02 §5: "Names run from 1 to 4,095."
 abbrev pub isUnused : Block → Bool
 isUnused Block.Unused = true
 isUnused (Block.Fixed first n) = false

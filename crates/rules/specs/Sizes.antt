@@ -1,9 +1,9 @@
--- The numbers that document 01 fixes.
+-- The numbers that document 01 fixes, and 02 §5.
 use Prim.Native.Nat.{ℕ, _+_, _*_}
 
--- "Block names 1–255"
+-- 02 §5: "Names run from 1 to 4,095."
 abbrev pub nameCount : ℕ
-nameCount = 255
+nameCount = 4095
 
 -- "There are 1,024 cells."
 abbrev pub cellCount : ℕ
@@ -24,14 +24,14 @@ targetLimit = 4096
 abbrev pub inputLimit : ℕ
 inputLimit = 256
 
--- "255 block records of 8 bytes", in front of cells and marks: 2,040 bytes
+-- 02 §5: "Each memory has 4,095 block records", of 8 bytes, in front of cells and marks: 32,760 bytes
 abbrev pub blocksLength : ℕ
 blocksLength = nameCount * 8
 
--- ".. then 1,024 cells of 16": 18,424 bytes
+-- "then 1,024 cells of 16": 02 §5, "49,144 bytes"
 abbrev pub memoryLength : ℕ
 memoryLength = blocksLength + cellCount * 16
 
--- ".. then 1,024 marks of one byte": 3,064 bytes
+-- "then 1,024 marks of one byte": 02 §5, "33,784"
 abbrev pub observationLength : ℕ
 observationLength = blocksLength + cellCount

@@ -1,7 +1,7 @@
 // The types that code and definitions share. Document 01 is quoted where it names them.
 
 // The numbers of `specs/Sizes.antt`, by the same names.
-pub const NAME_COUNT: usize = 255;
+pub const NAME_COUNT: usize = 4095;
 
 pub const CELL_COUNT: usize = 1024;
 

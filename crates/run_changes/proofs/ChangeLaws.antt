@@ -1,5 +1,5 @@
 -- What a change answers, by the parts of the statement that makes it.
-use Prim.Native.Nat.{ℕ, zero, suc, _<_}
+use Prim.Native.Nat.{ℕ, zero, suc}
 use native.Mathlib.Omega.{arith}
 use mathlib.Core.Bool.{Bool, true, false, false≢true}
 use mathlib.Core.List.{List}
@@ -8,15 +8,11 @@ use borrow.Author.Tests.{leb-true}
 use lib.Dec.{T}
 use lib.IntN.{ℤ, pos, negsuc, natAbs}
 use lib.Signed.{ltZ, nonNeg}
-use Rattle.rules.specs.Memory.{Memory, Change, stopped, Made, made, unmade, Use, freeable, makeBlock, nextName}
-use Rattle.rules.specs.Memory.{freeRun, storeCell, storeNew, newOfSize}
-use Rattle.rules.specs.Layout.{memoryOf, nameLimit}
-use Rattle.rules.specs.declared.{Pointer.Pointer, Value.Value, Evaluated.Evaluated}
-use Rattle.rules.proofs.runs.Keeping.{AnyNumber, AnyValue, AnyPlace, AnyState, MadeKeeps, makeAt-keeps}
-use Rattle.rules.specs.Fits.{FitsName}
-use Rattle.rules.proofs.layout.FitsLaws.{nextName-fits}
-use Rattle.rules.proofs.layout.FittingValues as ranged
-use Rattle.memory_cells.specs.Changes.{Becomes, EvaluatedFits}
+use Rattle.rules.specs.Memory.{Memory, Change, stopped, Made, made, unmade, freeable, makeBlock}
+use Rattle.rules.specs.Memory.{storeCell, storeNew, newOfSize}
+use Rattle.rules.specs.Layout.{memoryOf}
+use Rattle.rules.specs.declared.{Pointer.Pointer, Value.Value}
+use Rattle.memory_cells.specs.Changes.{Becomes}
 use Rattle.memory_blocks.specs.Blocks.{makingOf, madeMemory}
 use Rattle.memory_blocks.specs.declared.Making.{Making}
 use Rattle.memory_blocks.specs.declared.Making.the-variants as making
@@ -42,13 +38,6 @@ does-then p h = record { number = h .number; memory = becomes-then p (h .memory)
 pub does-stop : (k : ℕ) (l : List ℕ) → Does (stopped k (memoryOf l)) k l l
 does-stop k l = record { number = refl; memory = becomes-same refl }
 
--- values whose numbers fit have names that fit
-pub names-fit : (e : Evaluated) → ranged.FitsEvaluated e → EvaluatedFits e
-names-fit (Evaluated.Value Value.Undefined) h = tt
-names-fit (Evaluated.Value (Value.Integer z)) h = tt
-names-fit (Evaluated.Value (Value.Pointer p)) h = h .0
-names-fit (Evaluated.Stopped k) h = tt
-
 -- ---- a new block
 abbrev pointerTo : ℕ → Value
 pointerTo k = Value.Pointer (record { name = k; offset = pos 0 })
@@ -71,15 +60,6 @@ pub unmade-by : (x : Made Memory) (c : ℕ) → making.Stopped c ≡ makingOf x 
 unfolding nameOf isName
 unmade-by (made j m₁) c e = absurd (false≢true (ap isName e))
 unmade-by (unmade d) c e = ap unmade (sym (ap nameOf e))
-
-pub made-name : (m : Memory) (u : Use) (n : ℕ) → MadeKeeps (λ k m₁. FitsName k) AnyNumber (makeBlock m u n)
-made-name m u n =
-    makeAt-keeps AnyState AnyNumber AnyNumber (λ c x. tt) (λ c x. tt) AnyValue AnyPlace (λ k m₁. FitsName k) m u n
-    (nextName m) (freeRun m n) (λ k first a b. nextName-fits m k a)
-
-pub name-fits : (m : Memory) (u : Use) (n k : ℕ) → making.Name k ≡ makingOf (makeBlock m u n) → k < nameLimit
-name-fits m u n k e =
-    subst (MadeKeeps (λ k m₁. FitsName k) AnyNumber) (made-by (makeBlock m u n) k m e) (made-name m u n)
 
 module _ (p : Pointer) (x : Made Memory) (l l₁ : List ℕ) (w : Becomes l l₁ (madeMemory (memoryOf l) x)) where
   pub does-new : (k r : ℕ) (l₂ : List ℕ) → making.Name k ≡ makingOf x

@@ -2,7 +2,6 @@
 ghost use Rattle.rules.specs.Memory.{assigned, freed};
 ghost use Rattle.rules.specs.Layout.{memoryOf};
 ghost use Rattle.memory_counts.specs.Counted.{Counted};
-ghost use Rattle.memory_cells.specs.Changes.{EvaluatedFits};
 ghost use Rattle.run_changes.specs.Changing.{Does};
 use rules::Counts;
 use rules::Evaluated;
@@ -12,7 +11,6 @@ use rules::Value;
 
 // A place takes a value.
 pub fn store_at(mem: &mut ExecutionMemory, f: Found, e: Evaluated) -> u32
-    requires { ⌜ EvaluatedFits e ⌝ }
     ensures { λ r. ⌜ Does (assigned (memoryOf (now (mem .entry))) f e) r (now (mem .entry)) (now (mem .exit)) ⌝ }
 {
     match f {

@@ -28,10 +28,9 @@ use Rattle.rules.specs.declared.{Temporary.Temporary, Checked.Checked, Answer.A
 use Rattle.rules.proofs.lists.Rows.{tabulate-all, getD-zero}
 use Rattle.rules.proofs.acceptance.Sound.{startScope}
 use Rattle.rules.proofs.acceptance.AcceptedPrograms.{accepted-program, padded-program}
-use Rattle.rules.specs.Fits.{FitsTemporary, FitsMemory, FitsObservation, All}
+use Rattle.rules.specs.Fits.{FitsMemory}
 use Rattle.rules.proofs.layout.KeptPredicates.{startObservation-fits}
 use Rattle.rules.proofs.layout.LayoutLaws.{memory-back, observation-back}
-use Rattle.rules.proofs.layout.Reachable.{startVariables-fit, startTemporaries-fit}
 use Rattle.rules.proofs.layout.ReachableRoundTrip.{start-inside, watched-round-trip}
 use Rattle.rules.proofs.acceptance.Padding.{node-padded}
 use Rattle.rules.proofs.claim.Inputs.{inputs-length}
@@ -47,7 +46,7 @@ temporaries-start = tabulate-all temporaryCount 0 (temporaryAt (replicate tempor
   where
     empty : (n : ℕ) → temporaryAt (replicate temporariesLength 0) n ≡ Temporary.Empty
     empty n =
-        ap (λ (k : ℕ). temporaryIn (cellFrom k 0 (wordAt 2 (replicate temporariesLength 0) (temporaryPlace n + 2))
+        ap (λ (k : ℕ). temporaryIn (cellFrom k 0 (wordAt 2 (replicate temporariesLength 0) (temporaryPlace n + 4))
         (integerAt (replicate temporariesLength 0) (temporaryPlace n + 8))))
         (getD-zero temporariesLength (temporaryPlace n))
 
@@ -73,22 +72,10 @@ module _ (t l : List ℕ) (h : check target t ≡ Checked.Accepted) where
   same-program =
       ap targetStatement (node-padded t (drop (0 + length t) l) target (recordCount t) (le-refl (recordCount t)))
 
-  pub ready-start : (m o : List ℕ) → FitsMemory (memoryOf m) → FitsObservation (observationOf o)
-      → Ready (put l 0 t) (recordCount t) startVariables (lent m o (replicate temporariesLength 0))
-  ready-start m o f g =
+  pub ready-start : Ready (put l 0 t) (recordCount t)
+  ready-start =
       let p = padded-program target t (drop (0 + length t) l) h in
-      record {
-        is = p .is;
-        scope = startScope;
-        sound = p .sound;
-        names = startVariables-fit;
-        fits =
-            record {
-              memory = f;
-              observation = g;
-              temporaries = subst (All FitsTemporary) (sym temporaries-start) startTemporaries-fit;
-            };
-      }
+      record { is = p .is; scope = startScope; sound = p .sound }
 
 -- ---- the end
 module _ (i : List ℕ) (e : inputsFault i ≡ false) (l o : List ℕ) (s : l ≡ memoryImage (startMemory (inputsOf i)))
@@ -106,12 +93,6 @@ module _ (i : List ℕ) (e : inputsFault i ≡ false) (l o : List ℕ) (s : l �
   observation-view =
       ap observationOf observation-start
       ∙ observation-back (startObservation (length (inputsOf i))) (startObservation-fits (length (inputsOf i)))
-
-  pub start-ready : FitsMemory (memoryOf l) × FitsObservation (observationOf o)
-  start-ready = (
-    subst FitsMemory (sym start-view) start-fits,
-    subst FitsObservation (sym observation-view) (startObservation-fits (length (inputsOf i))),
-  )
 
   -- what a run leaves is exact
   pub entry-ends : (t : List ℕ) (f : ℕ) (r : Ended) (l₁ o₁ : List ℕ) (k : ℕ)

@@ -1,7 +1,6 @@
 // The watched run of an accepted target table.
 ghost use mathlib.Core.Path.{_≡_};
 ghost use mathlib.Core.Bool.{false};
-ghost use lib.ListN.{replicate};
 ghost use Rattle.rules.specs.Kinds.{target};
 ghost use Rattle.rules.specs.Checker.{check, inputsFault, memoryFault, observationFault};
 ghost use Rattle.rules.specs.Nodes.{targetProgram, targetStatementAt};
@@ -11,10 +10,8 @@ ghost use Rattle.rules.specs.Watched.{watching, watch, startTemporaries};
 ghost use Rattle.rules.specs.Layout.{memoryOf, observationOf};
 ghost use Rattle.rules.specs.Answers.{watchedEnded, watchedOutcome, watchedBy, runWatched};
 ghost use Rattle.rules.specs.declared.{Checked.Checked};
-ghost use Rattle.rules.specs.Fits.{FitsMemory, FitsObservation};
 ghost use Rattle.memory_counts.specs.Counted.{Counted};
-ghost use Rattle.evaluation_temporaries.specs.Bytes.{temporariesLength};
-ghost use Rattle.watched_statements.specs.Watching.{lent, Beside, Ready, Leaves, AnsweredBy};
+ghost use Rattle.watched_statements.specs.Watching.{Beside, Ready, Leaves, AnsweredBy};
 use rules::Answer;
 use rules::Checked;
 use rules::Counts;
@@ -39,8 +36,7 @@ fn run_from_start(
     counts: &mut Counts,
     fuel: u32,
 ) -> Ended
-    requires { ⌜ Ready (now table) n startVariables (lent (now mem) (now obs) (replicate temporariesLength 0))
-        × Beside (now mem) (now obs) (now counts) (now owners) ⌝ }
+    requires { ⌜ Ready (now table) n × Beside (now mem) (now obs) (now counts) (now owners) ⌝ }
     ensures outcome { λ r. ⌜ Leaves (watch (targetStatementAt (now (table .entry)) n) startVariables
         (watching (memoryOf (now (mem .entry))) (observationOf (now (obs .entry))) startTemporaries) fuel) r
         (now (mem .entry)) (now (mem .exit)) (now (obs .entry)) (now (obs .exit)) ⌝ }
@@ -70,8 +66,8 @@ fn run_table(
     counts: &mut Counts,
     fuel: u32,
 ) -> Ended
-    requires { ⌜ (check target (now table) ≡ Checked.Accepted) × FitsMemory (memoryOf (now mem))
-        × FitsObservation (observationOf (now obs)) × Beside (now mem) (now obs) (now counts) (now owners) ⌝ }
+    requires { ⌜ (check target (now table) ≡ Checked.Accepted)
+        × Beside (now mem) (now obs) (now counts) (now owners) ⌝ }
     ensures outcome { λ r. ⌜ Leaves (watch (targetProgram (now (table .entry))) startVariables
         (watching (memoryOf (now (mem .entry))) (observationOf (now (obs .entry))) startTemporaries) fuel) r
         (now (mem .entry)) (now (mem .exit)) (now (obs .entry)) (now (obs .exit)) ⌝ }

@@ -4,21 +4,18 @@ use native.Mathlib.Omega.{arith}
 use mathlib.Core.List.{List}
 use mathlib.Core.Logic.{_≢_, inl, inr}
 use mathlib.Core.Path.{_≡_, refl, sym, ap, _∙_}
-use Rattle.rules.specs.Kinds.{target, expression, statement}
 use Rattle.rules.specs.Records.{kindOf, markOf, childA, childB, childC}
 use Rattle.rules.specs.Memory.{Memory, fixed, Made, made, unmade, madeIn, makeBlock, endBlock}
 use Rattle.rules.specs.Flow.{Outcome, finished, ended, Ending, ending, into, next, decide, inLet}
 use Rattle.rules.specs.TargetTrees.{TargetStatement}
 use Rattle.rules.specs.Evaluation.{Variables, condition, extend}
-use Rattle.rules.specs.Watched.{Temporaries, WatchedState, withMemory, valueIn, holding, watch}
+use Rattle.rules.specs.Watched.{WatchedState, withMemory, valueIn, holding, watch}
 use Rattle.rules.specs.Layout.{memoryOf}
 use Rattle.rules.specs.Nodes.{targetExpressionAt, targetStatementAt, numberAt}
 use Rattle.rules.specs.declared.{Test.Test}
 use Rattle.rules.proofs.runs.Fuel.{watch-fuel}
 use Rattle.rules.proofs.runs.Outcomes.{into-ending, next-ending, decide-ending}
 use Rattle.rules.proofs.runs.TargetRuns.{closing}
-use Rattle.rules.proofs.runs.StatementArms.{sequence-children, while-children}
-use Rattle.rules.proofs.runs.TargetFields.{Under}
 use Rattle.rules.proofs.runs.TargetArms.{watch-sequence, watch-branch, watch-branch-on, watch-while-zero}
 use Rattle.rules.proofs.runs.TargetArms.{watch-while-suc}
 use Rattle.rules.proofs.runs.TargetArms.{watch-let}
@@ -29,58 +26,49 @@ use Rattle.evaluation_temporaries.specs.Bytes.{temporariesOf}
 use Rattle.run_endings.specs.declared.Ended.{Ended}
 use Rattle.run_endings.specs.Ending.{result}
 use Rattle.run_changes.proofs.ChangeLaws.{becomes-is, made-by, unmade-by}
-use Rattle.watched_statements.specs.Watching.{Lent, lent, stateOf, watchFrom, LentFits, Ready, Inside, enclosed}
+use Rattle.watched_statements.specs.Watching.{Lent, lent, stateOf, watchFrom, Ready, enclosed}
 use Rattle.watched_statements.specs.Watching.{Ran}
 use Rattle.watched_choices.specs.Branches.{IsBranch, choice}
 use Rattle.watched_choices.proofs.Choices.{choice-on, choice-of}
 use Rattle.watched_statements.proofs.Laws.{observation-same, Kept, kept-then, ran-kept, ran-is, ran-from}
 use Rattle.watched_statements.proofs.Laws.{watch-finished, next-goes, next-stays}
-use Rattle.watched_statements.proofs.ReadyLaws.{run-kept}
 
-module _ {t : List ℕ} {n : ℕ} {ρ : Variables} {x : Lent} (h : Ready t n ρ x) where
-  abbrev memory : Memory
-  memory = memoryOf (x .memory)
-
-  abbrev temporaries : Temporaries
-  temporaries = temporariesOf (x .temporaries)
-
-  -- the parts of a sequence and of a while
-  pub sequence-parts : kindOf t n ≡ 44 → Under statement t n (childA t n) × Under statement t n (childB t n)
-  sequence-parts = sequence-children target t n (h .is)
-
-  pub while-parts : kindOf t n ≡ 46 → Under expression t n (childA t n) × Under statement t n (childB t n)
-  while-parts = while-children target t n (h .is)
-
+module _ {t : List ℕ} {n : ℕ} (ρ : Variables) (h : Ready t n) where
   -- a branch, by a condition or by a temporary
   abbrev part : ℕ → WatchedState → ℕ → Outcome WatchedState
   part k y g = watch (targetStatementAt t k) ρ y g
 
-  abbrev deciding : Test → ℕ → Outcome WatchedState
-  deciding y f =
+  abbrev deciding : Lent → Test → ℕ → Outcome WatchedState
+  deciding x y f =
       decide (numberAt t n) ρ y (stateOf x) f (part (childB t n) (stateOf x) f) (part (childC t n) (stateOf x) f)
 
-  decided : (y : Test) (f : ℕ)
+  decided : (x : Lent) (y : Test) (f : ℕ)
       → ending (decide (numberAt t n) ρ y (stateOf x) f (into 1 (part (childB t n) (stateOf x) f))
       (into 2 (part (childC t n) (stateOf x) f)))
-      ≡ ending (deciding y f)
-  decided y f =
+      ≡ ending (deciding x y f)
+  decided x y f =
       decide-ending (numberAt t n) ρ y (stateOf x) f _ _ _ _ (into-ending 1 (part (childB t n) (stateOf x) f))
       (into-ending 2 (part (childC t n) (stateOf x) f))
 
-  chosen : IsBranch (kindOf t n) → (f : ℕ)
-      → ending (watchFrom (targetStatementAt t n) ρ x f) ≡ ending (deciding (choice t n temporaries ρ memory) f)
-  chosen (inl e) f =
-      ap ending (watch-branch t n (h .is) ρ (stateOf x) f e)
-      ∙ decided (condition (valueIn (targetExpressionAt t (childA t n)) ρ (stateOf x))) f
-      ∙ ap (λ (y : Test). ending (deciding y f)) (choice-of t n temporaries ρ memory (λ d. omega (arith, e, d)))
-  chosen (inr e) f =
-      ap ending (watch-branch-on t n (h .is) ρ (stateOf x) f e)
-      ∙ decided (condition (holding (stateOf x) (markOf t n))) f
-      ∙ ap (λ (y : Test). ending (deciding y f)) (choice-on t n temporaries ρ memory e)
+  abbrev chosenIn : Lent → Test
+  chosenIn x = choice t n (temporariesOf (x .temporaries)) ρ (memoryOf (x .memory))
 
-  pub branch-by : IsBranch (kindOf t n) → (f : ℕ) (y : Test) → choice t n temporaries ρ memory ≡ y
-      → ending (watchFrom (targetStatementAt t n) ρ x f) ≡ ending (deciding y f)
-  branch-by q f y e = chosen q f ∙ ap (λ (z : Test). ending (deciding z f)) e
+  chosen : IsBranch (kindOf t n) → (x : Lent) (f : ℕ)
+      → ending (watchFrom (targetStatementAt t n) ρ x f) ≡ ending (deciding x (chosenIn x) f)
+  chosen (inl e) x f =
+      ap ending (watch-branch t n (h .is) ρ (stateOf x) f e)
+      ∙ decided x (condition (valueIn (targetExpressionAt t (childA t n)) ρ (stateOf x))) f
+      ∙ ap (λ (y : Test). ending (deciding x y f))
+      (choice-of t n (temporariesOf (x .temporaries)) ρ (memoryOf (x .memory)) (λ d. omega (arith, e, d)))
+  chosen (inr e) x f =
+      ap ending (watch-branch-on t n (h .is) ρ (stateOf x) f e)
+      ∙ decided x (condition (holding (stateOf x) (markOf t n))) f
+      ∙ ap (λ (y : Test). ending (deciding x y f))
+      (choice-on t n (temporariesOf (x .temporaries)) ρ (memoryOf (x .memory)) e)
+
+  pub branch-by : IsBranch (kindOf t n) → (x : Lent) (f : ℕ) (y : Test) → chosenIn x ≡ y
+      → ending (watchFrom (targetStatementAt t n) ρ x f) ≡ ending (deciding x y f)
+  branch-by q x f y e = chosen q x f ∙ ap (λ (z : Test). ending (deciding x z f)) e
 
   -- a turn of a while, from the bytes y
   abbrev conditionIn : Lent → Test
@@ -118,8 +106,11 @@ module _ {t : List ℕ} {n : ℕ} {ρ : Variables} {x : Lent} (h : Ready t n ρ 
       ∙ next-ending 0 (part (childA t n) (stateOf y) f) _ _ (λ w g. into-ending 1 (part (childB t n) w g))
 
   -- a let, and its block, made in memory
-  module _ (q : kindOf t n ≡ 47) {l : List ℕ}
-      (w : Becomes (x .memory) l (madeMemory memory (makeBlock memory fixed 1))) where
+  module _ (x : Lent) (q : kindOf t n ≡ 47) {l : List ℕ}
+      (w : Becomes (x .memory) l (madeMemory (memoryOf (x .memory)) (makeBlock (memoryOf (x .memory)) fixed 1))) where
+    abbrev memory : Memory
+    memory = memoryOf (x .memory)
+
     abbrev block : Made Memory
     block = makeBlock memory fixed 1
 
@@ -164,7 +155,6 @@ pub record Remaining (t : List ℕ) (n : ℕ) (ρ : Variables) (entry : Lent) (f
   pub rest : ending (watchFrom (targetStatementAt t n) ρ entry fuel)
       ≡ ending (watchFrom (targetStatementAt t m) ρ x left)
   pub bytes : Kept entry x
-  pub fits : LentFits x
 
 -- statement b, which runs first in m, ran; statement k is to follow
 pub record Part (t : List ℕ) (n : ℕ) (ρ : Variables) (entry : Lent) (fuel m : ℕ) (x : Lent) (left b k f : ℕ)
@@ -187,11 +177,10 @@ module _ {t : List ℕ} {n : ℕ} {ρ : Variables} {entry : Lent} {fuel m : ℕ}
       ran-is (p .earlier .rest ∙ p .leads)
       (ran-from (p .earlier .bytes) (next-stays (targetStatementAt t b) ρ f following r x y (p .ran) d))
 
-  pub part-finishes : r .number ≡ 0 → Ready t b ρ x → Remaining t n ρ entry fuel k y (r .fuel)
-  part-finishes d h = record {
+  pub part-finishes : r .number ≡ 0 → Remaining t n ρ entry fuel k y (r .fuel)
+  part-finishes d = record {
     rest = p .earlier .rest ∙ p .leads ∙ ap (λ (u : Outcome WatchedState). ending (next u following)) (finish d);
     bytes = kept-then (p .earlier .bytes) (ran-kept (p .ran));
-    fits = run-kept t b ρ x h f r y (p .ran);
   }
 
   pub part-spends : r .number ≡ 0 → f < left → r .fuel < left
@@ -203,7 +192,7 @@ module _ {t : List ℕ} {n : ℕ} {ρ : Variables} {entry : Lent} {fuel m : ℕ}
       )
 
 -- a let's child ran: where it finished, the block ends
-module _ {t : List ℕ} {n : ℕ} {ρ : Variables} {k : ℕ} {r : Ended} {x y : Lent} (i : Inside t n ρ x k) (f : ℕ)
+module _ (t : List ℕ) (n : ℕ) (ρ : Variables) (k : ℕ) {r : Ended} {x y : Lent} (f : ℕ)
     (w : Ran (watchFrom (targetStatementAt t (childA t n)) (extend ρ (markOf t n) k) x f) r x y) where
   abbrev ended-block : WatchedState → ℕ → Outcome WatchedState
   ended-block w g = finished (closing w k) g

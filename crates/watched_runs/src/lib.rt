@@ -28,7 +28,7 @@ pub fn run(
     counts: &mut Counts,
     fuel: u32,
 ) -> Ended
-    requires { ⌜ Ready (now table) n (variablesOf (now variables)) (lent (now mem) (now obs) (now temporaries))
+    requires { ⌜ Ready (now table) n
         × Beside (now mem) (now obs) (now counts) (now owners) ⌝ }
     ensures outcome { λ r. ⌜ Runs (now (table .entry)) n (variablesOf (now (variables .entry))) fuel r
         (lent (now (mem .entry)) (now (obs .entry)) (now (temporaries .entry)))
@@ -81,7 +81,7 @@ fn run_single(
     counts: &mut Counts,
     fuel: u32,
 ) -> Ended
-    requires { ⌜ Ready (now table) n (variablesOf (now variables)) (lent (now mem) (now obs) (now temporaries))
+    requires { ⌜ Ready (now table) n
         × (kindOf (now table) n ≢ 44)
         × Beside (now mem) (now obs) (now counts) (now owners) ⌝ }
     ensures outcome { λ r. ⌜ Runs (now (table .entry)) n (variablesOf (now (variables .entry))) fuel r
@@ -149,7 +149,7 @@ fn branch(
     counts: &mut Counts,
     fuel: u32,
 ) -> Ended
-    requires { ⌜ Ready (now table) n (variablesOf (now variables)) (lent (now mem) (now obs) (now temporaries))
+    requires { ⌜ Ready (now table) n
         × IsBranch (kindOf (now table) n)
         × Beside (now mem) (now obs) (now counts) (now owners) ⌝ }
     ensures outcome { λ r. ⌜ Runs (now (table .entry)) n (variablesOf (now (variables .entry))) fuel r
@@ -202,7 +202,7 @@ fn repeat(
     counts: &mut Counts,
     fuel: u32,
 ) -> Ended
-    requires { ⌜ Ready (now table) n (variablesOf (now variables)) (lent (now mem) (now obs) (now temporaries))
+    requires { ⌜ Ready (now table) n
         × (kindOf (now table) n ≡ 46)
         × Beside (now mem) (now obs) (now counts) (now owners) ⌝ }
     ensures outcome { λ r. ⌜ Runs (now (table .entry)) n (variablesOf (now (variables .entry))) fuel r
@@ -267,7 +267,7 @@ fn enclose(
     counts: &mut Counts,
     fuel: u32,
 ) -> Ended
-    requires { ⌜ Ready (now table) n (variablesOf (now variables)) (lent (now mem) (now obs) (now temporaries))
+    requires { ⌜ Ready (now table) n
         × (kindOf (now table) n ≡ 47)
         × Beside (now mem) (now obs) (now counts) (now owners) ⌝ }
     ensures outcome { λ r. ⌜ Runs (now (table .entry)) n (variablesOf (now (variables .entry))) fuel r
@@ -309,7 +309,7 @@ fn run_inside(
     fuel: u32,
     k: u16,
 ) -> Ended
-    requires { ⌜ Inside (now table) n (variablesOf (now variables)) (lent (now mem) (now obs) (now temporaries)) k
+    requires { ⌜ Inside (now table) n
         × Beside (now mem) (now obs) (now counts) (now owners) ⌝ }
     ensures outcome { λ r. ⌜ Ran (enclosed (now (table .entry)) n (variablesOf (now (variables .entry)))
         (lent (now (mem .entry)) (now (obs .entry)) (now (temporaries .entry))) fuel k) r

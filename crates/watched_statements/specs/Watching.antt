@@ -14,7 +14,6 @@ use Rattle.rules.specs.Layout.{memoryOf, observationOf}
 use Rattle.rules.specs.Answers.{WatchedRun}
 use Rattle.rules.specs.declared.{Answer.Answer}
 use Rattle.rules.proofs.acceptance.Sound.{Scope, SoundTarget}
-use Rattle.rules.specs.Fits.{FitsTemporary, FitsMemory, FitsObservation, All, VariablesFit}
 use Rattle.rules.specs.Nodes.{HasSort, targetStatementAt, numberAt}
 use Rattle.rules.proofs.memory.MarkOwners.{MarksOwned}
 use Rattle.table.specs.Within.{Within}
@@ -41,31 +40,23 @@ stateOf x = watching (memoryOf (x .memory)) (observationOf (x .observation)) (te
 abbrev pub watchFrom : TargetStatement → Variables → Lent → ℕ → Outcome WatchedState
 watchFrom s ρ x f = watch s ρ (stateOf x) f
 
--- what the bytes stand for has numbers and names that fit
-pub record LentFits (x : Lent) : Type 0 where
-  pub memory : FitsMemory (memoryOf (x .memory))
-  pub observation : FitsObservation (observationOf (x .observation))
-  pub temporaries : All FitsTemporary (temporariesOf (x .temporaries))
-
 -- what a run keeps beside the memories is right: the counts of the one, and the owners of the other's marks
 pub record Beside (memory observation counts owners : List ℕ) : Type 0 where
   pub counted : Counted (memoryOf memory) counts
   pub owned : MarksOwned (observationOf observation) owners
 
--- statement n may run: its numbers and names fit, and so do those that it finds
-pub record Ready (t : List ℕ) (n : ℕ) (ρ : Variables) (x : Lent) : Type 0 where
+-- statement n may run: it is a sound statement, its variables being in a scope
+pub record Ready (t : List ℕ) (n : ℕ) : Type 0 where
   pub is : HasSort target statement t n
   pub scope : Scope
   pub sound : SoundTarget (targetStatementAt t n) scope
-  pub names : VariablesFit ρ
-  pub fits : LentFits x
 
--- child A of let n may run, its variable being block k
-pub record Inside (t : List ℕ) (n : ℕ) (ρ : Variables) (x : Lent) (k : ℕ) : Type 0 where
+-- child A of let n may run
+pub record Inside (t : List ℕ) (n : ℕ) : Type 0 where
   pub within : Within t n
   pub smaller : childA t n < n
   pub mark : markOf t n < 64
-  pub body : Ready t (childA t n) (extend ρ (markOf t n) k) x
+  pub body : Ready t (childA t n)
 
 -- a let from where its block is made
 abbrev pub enclosed : List ℕ → ℕ → Variables → Lent → ℕ → ℕ → Outcome WatchedState

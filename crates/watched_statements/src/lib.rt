@@ -8,7 +8,6 @@ ghost use Rattle.rules.specs.Watched.{heldIn};
 ghost use Rattle.rules.specs.Layout.{memoryOf};
 ghost use Rattle.rules.specs.Nodes.{HasSort};
 ghost use Rattle.memory_counts.specs.Counted.{Counted};
-ghost use Rattle.memory_cells.specs.Changes.{EvaluatedFits};
 ghost use Rattle.evaluation.specs.State.{variablesOf};
 ghost use Rattle.evaluation_temporaries.specs.Bytes.{temporariesOf};
 ghost use Rattle.run_children.specs.Children.{foundIn, valueIn};
@@ -33,8 +32,7 @@ fn assign(
     temporaries: &Temporaries,
     mem: &mut ExecutionMemory,
 ) -> u32
-    requires { ⌜ HasSort target statement (now table) n × (kindOf (now table) n ≡ 41)
-        × EvaluatedFits (valueIn (now table) (childB (now table) n) (now variables) (now temporaries) (now mem)) ⌝ }
+    requires { ⌜ HasSort target statement (now table) n × (kindOf (now table) n ≡ 41) ⌝ }
     ensures { λ r. ⌜ Does (assigned (memoryOf (now (mem .entry)))
         (foundIn (now (table .entry)) (childA (now (table .entry)) n) (now (variables .entry))
         (now (temporaries .entry)) (now (mem .entry)))
@@ -148,7 +146,7 @@ fn act(
     owners: &mut MarkOwners,
     counts: &mut Counts,
 ) -> u32
-    requires { ⌜ Ready (now table) n (variablesOf (now variables)) (lent (now mem) (now obs) (now temporaries))
+    requires { ⌜ Ready (now table) n
         × IsAct (kindOf (now table) n)
         × Beside (now mem) (now obs) (now counts) (now owners) ⌝ }
     ensures outcome { λ r. ⌜ Acts (now (table .entry)) n (variablesOf (now (variables .entry))) r
@@ -182,7 +180,7 @@ pub fn step(
     counts: &mut Counts,
     fuel: u32,
 ) -> Ended
-    requires { ⌜ Ready (now table) n (variablesOf (now variables)) (lent (now mem) (now obs) (now temporaries))
+    requires { ⌜ Ready (now table) n
         × IsAct (kindOf (now table) n)
         × Beside (now mem) (now obs) (now counts) (now owners) ⌝ }
     ensures outcome { λ r. ⌜ Runs (now (table .entry)) n (variablesOf (now (variables .entry))) fuel r

@@ -21,7 +21,7 @@ returns : tie.Need-returns
 returns c =
     let f = c .before .before in
     let m = memoryOf (now (f .before .before .args .mem)) in
-    c .read .ensures .0 ∙ sym (ap (λ (f : Found). onPlace f Evaluated.Stopped (readCell m)) (f .f .given .1))
+    c .read .ensures ∙ sym (ap (λ (f : Found). onPlace f Evaluated.Stopped (readCell m)) (f .f .given .1))
 
 returns-2 : tie.Need-returns-2
 returns-2 c =

@@ -45,7 +45,7 @@ returns c =
     let k = i .before in
     let s = k .before .before in
     let m = memoryOf (now (s .args .mem)) in
-    λ τ. c .read .ensures .0
+    λ τ. c .read .ensures
     ∙ ap (λ (f : Found). onPlace f Evaluated.Stopped (readCell m))
     (variable-arm (now (s .args .table)) τ (variablesOf (now (s .args .variables))) m (s .args .n) (s .pre)
     (sym (k .kind .ensures) ∙ i .if1 .taken) (v .mark .ensures))

@@ -40,7 +40,7 @@ returns-3 c =
     let e = v .before .before .before in
     let s = e .before .before in
     let q = queryMemory (queryOf (s .args .q)) (memoryOf (now (s .args .mem))) in
-    c .query .ensures .0
+    c .query .ensures
     ∙ sym (ap (λ (x : Evaluated). onValue x Evaluated.Stopped q) (e .e .given .1) ∙ ap q (v .v .given .1))
 
 returns-4 : tie.Need-returns-4

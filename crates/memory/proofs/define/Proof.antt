@@ -4,7 +4,6 @@ use mir.Val.{SFits}
 use mir.Facts.{toZ-ofZ}
 use Rattle.rules.specs.Memory.{defined}
 use Rattle.rules.specs.declared.{Value.Value, Evaluated.Evaluated, Cell.Cell}
-use Rattle.memory_cells.specs.Changes.{CellFits}
 use mathlib.Core.Path.{_≡_, refl, sym, ap, _∙_, subst}
 use borrow.Author.Needs.{needs}
 use Rattle.memory.proofs.define.Statement.{statement}
@@ -40,7 +39,7 @@ returns-3 c =
     let k = c .before .v .given in
     let e : s .args .c ≡ Cell.Holds (o .0 .0) (Value.Integer (k .0 .0)) = o .1 ∙ ap (Cell.Holds (o .0 .0)) (k .1) in
     let f : SFits w64 (k .0 .0) = record { sfits = c .known-told2 .given .0 .1 } in
-    (ap (λ (z : ℤ). Evaluated.Value (Value.Integer z)) (toZ-ofZ f) ∙ sym (ap defined e), tt)
+    ap (λ (z : ℤ). Evaluated.Value (Value.Integer z)) (toZ-ofZ f) ∙ sym (ap defined e)
 
 returns-4 : tie.Need-returns-4
 returns-4 c =
@@ -48,7 +47,7 @@ returns-4 c =
     let o = c .before .before .before .before .c .given in
     let k = c .before .v2 .given in
     let e : s .args .c ≡ Cell.Holds (o .0 .0) (Value.Pointer (k .0 .0)) = o .1 ∙ ap (Cell.Holds (o .0 .0)) (k .1) in
-    (sym (ap defined e), subst CellFits e (s .pre) .1)
+    sym (ap defined e)
 
 pub define-spec : {M : Type 1} → statement M
 define-spec =

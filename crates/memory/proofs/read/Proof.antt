@@ -36,21 +36,21 @@ returns c =
     let i = c .before .before .before .i .given in
     let e : locate m (s .args .p) ≡ Located.At (i .0 .0) =
     sym (c .before .before .before .before .before .locate .ensures) ∙ i .1 in
-    (rw e (c .define .ensures .0 ∙ ap defined (c .before .cell .ensures .0)), c .define .ensures .1)
+    rw e (c .define .ensures ∙ ap defined (c .before .cell .ensures))
 
 returns-2 : tie.Need-returns-2
 returns-2 c =
     let s = c .before .before .before in
     let e : locate (memoryOf (s .args .mem .now)) (s .args .p) ≡ Located.Dead =
     sym (c .before .before .locate .ensures) ∙ c .enum-told .given .1 in
-    (rw e refl, tt)
+    rw e refl
 
 returns-3 : tie.Need-returns-3
 returns-3 c =
     let s = c .before .before .before in
     let e : locate (memoryOf (s .args .mem .now)) (s .args .p) ≡ Located.Outside =
     sym (c .before .before .locate .ensures) ∙ c .enum-told2 .given .1 in
-    (rw e refl, tt)
+    rw e refl
 
 pub read-spec : {M : Type 1} → statement M
 read-spec =

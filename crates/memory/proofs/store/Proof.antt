@@ -4,7 +4,6 @@ use Prim.Native.Nat.{ℕ, suc, _+_, _-_, _*_, _≤_, _<_}
 use Rattle.rules.specs.declared.{Located.Located}
 use Rattle.rules.specs.Memory.{locate}
 use Rattle.rules.specs.Layout.{memoryOf}
-use Rattle.memory.proofs.Names.{located-name}
 use Rattle.memory_cell_changes.proofs.Writing.{unchanged}
 use borrow.Author.Needs.{needs}
 use Rattle.memory.proofs.store.Statement.{statement}
@@ -21,13 +20,7 @@ enum-known-i : tie.Need-enum-known-i
 enum-known-i c = search needs
 
 put-cell-requires : tie.Need-put-cell-requires
-put-cell-requires c κs =
-    let s = c .before .before .before .before .before .before in
-    let l = s .args .mem .now in
-    let i = c .before .before .i .given in
-    let e : locate (memoryOf l) (s .args .p) ≡ Located.At (i .0 .0) =
-    sym (c .before .before .before .before .locate .ensures) ∙ i .1 in
-    (located-name l (s .args .p) (i .0 .0) e, s .pre)
+put-cell-requires c κs = tt
 
 enum-told : tie.Need-enum-told
 enum-told c = search needs

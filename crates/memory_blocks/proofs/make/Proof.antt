@@ -97,9 +97,7 @@ cast-place-3 c =
     omega (arith, run-bound _ (s .args .n) _ (run c))
 
 place-requires : tie.Need-place-requires
-place-requires c κs =
-    let after-k = c .before .before .before .before .before .before .before .before in
-    omega (arith, name-bound (memoryOf (now (after-k .before .before .before .before .args .mem))) _ (name after-k))
+place-requires c κs = tt
 
 take-requires : tie.Need-take-requires
 take-requires c κs =

@@ -23,7 +23,7 @@ returns c =
     let l = s .args .mem .now in
     let w = c .write-cell .ensures in
     subst (λ (t : List ℕ). Becomes l t (setCell (memoryOf l) (s .args .i) (s .args .c))) (sym (w .0))
-    (becomes-cell l (s .args .i) (s .args .c) (w .1 .1) (c .before .before .if1 .taken) (s .pre) (w .1 .0))
+    (becomes-cell l (s .args .i) (s .args .c) (w .1 .1) (c .before .before .if1 .taken) (w .1 .0))
 
 returns-2 : tie.Need-returns-2
 returns-2 c = cell-outside (c .before .args .mem .now) (c .before .args .i) (c .before .args .c) (c .if1 .left)

@@ -8,7 +8,7 @@ use mir.Val.{SFits}
 use mir.Facts.{toZ-ofZ}
 use Rattle.rules.specs.Words.{put}
 use Rattle.rules.specs.Layout.{cellBytes, cellPlace}
-use Rattle.memory_cells.specs.Changes.{CellFits, CellHeld}
+use Rattle.memory_cells.specs.Changes.{CellHeld}
 use borrow.Author.Needs.{needs}
 use Rattle.memory_cell_changes.proofs.write_cell.Statement.{statement}
 use Rattle.memory_cell_changes.proofs.write_cell.Tie as tie
@@ -29,33 +29,19 @@ enum-told-2 : tie.Need-enum-told-2
 enum-told-2 c = search needs
 
 write-parts-requires-2 : tie.Need-write-parts-requires-2
-write-parts-requires-2 c κs =
-    let s = c .before .before .before .before .before .before in
-    let o = c .before .before .before .before .c .given in
-    let f = subst CellFits (o .1) (s .pre .1) in
-    (s .pre .0, f .0, omega arith)
+write-parts-requires-2 c κs = search needs
 
 enum-known-v : tie.Need-enum-known-v
 enum-known-v c = search needs
 
 write-parts-requires-3 : tie.Need-write-parts-requires-3
-write-parts-requires-3 c κs =
-    let s = c .before .before .before .before .before .before .before in
-    let o = c .before .before .before .before .before .c .given in
-    let f = subst CellFits (o .1) (s .pre .1) in
-    (s .pre .0, f .0, omega arith)
+write-parts-requires-3 c κs = search needs
 
 enum-known-v-2 : tie.Need-enum-known-v-2
 enum-known-v-2 c = search needs
 
 write-parts-requires-4 : tie.Need-write-parts-requires-4
-write-parts-requires-4 c κs =
-    let s = c .before .before .before .before .before .before .before .before in
-    let o = c .before .before .before .before .before .before .c .given in
-    let k = c .before .before .before .v2 .given in
-    let e : s .args .c ≡ Cell.Holds (o .0 .0) (Value.Pointer (k .0 .0)) = o .1 ∙ ap (Cell.Holds (o .0 .0)) (k .1) in
-    let f = subst CellFits e (s .pre .1) in
-    (s .pre .0, f .0, f .1)
+write-parts-requires-4 c κs = search needs
 
 returns : tie.Need-returns
 unfolding cellBytes
@@ -76,7 +62,7 @@ returns-2 c =
     let e : s .args .c ≡ Cell.Holds (o .0 .0) (Value.Undefined) = o .1 ∙ ap (Cell.Holds (o .0 .0)) (k .1) in (
       c .write-parts2 .ensures .0
           ∙ ap (λ (x : Cell). put (s .args .mem .now) (cellPlace (s .args .i)) (cellBytes x)) (sym e),
-      (subst CellHeld (sym e) tt, c .write-parts2 .ensures .1),
+      (subst CellHeld (sym e) (search needs, tt), c .write-parts2 .ensures .1),
     )
 
 returns-3 : tie.Need-returns-3
@@ -89,7 +75,7 @@ returns-3 c =
     let f : SFits w64 (k .0 .0) = record { sfits = c .before .before .known-told2 .given .0 .1 } in (
       (rw (toZ-ofZ f) at (c .write-parts3 .ensures .0))
           ∙ ap (λ (x : Cell). put (s .args .mem .now) (cellPlace (s .args .i)) (cellBytes x)) (sym e),
-      (subst CellHeld (sym e) f, c .write-parts3 .ensures .1),
+      (subst CellHeld (sym e) (search needs, f), c .write-parts3 .ensures .1),
     )
 
 returns-4 : tie.Need-returns-4
@@ -102,7 +88,7 @@ returns-4 c =
     let f : SFits w64 (k .0 .0 .offset) = search needs in (
       (rw (toZ-ofZ f) at (c .write-parts4 .ensures .0))
           ∙ ap (λ (x : Cell). put (s .args .mem .now) (cellPlace (s .args .i)) (cellBytes x)) (sym e),
-      (subst CellHeld (sym e) f, c .write-parts4 .ensures .1),
+      (subst CellHeld (sym e) (search needs, (search needs, f)), c .write-parts4 .ensures .1),
     )
 
 pub write-cell-spec : {M : Type 1} → statement M

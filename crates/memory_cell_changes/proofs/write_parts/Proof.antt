@@ -47,10 +47,10 @@ returns c =
     let s = c .before .before .before .before in
     let a = s .args in
     let e : length (a .mem .now) ≡ memoryLength = search needs in
-    let room : cellPlace (a .i) + 16 ≤ length (a .mem .now) = omega (arith, s .pre .0) in (
+    let room : cellPlace (a .i) + 16 ≤ length (a .mem .now) = omega (arith, s .pre) in (
       (rw (toZ-ofZ (s .fits .z), c .before .before .write-word .ensures) at (c .write-i64 .ensures))
           ∙ parts-put (a .mem .now) (cellPlace (a .i)) (a .kind) (a .owner) (a .name) (a .z) room (s .fits .kind .fits)
-          (s .pre .1) (s .pre .2),
+          (s .fits .owner .fits) (s .fits .name .fits),
       e,
     )
 

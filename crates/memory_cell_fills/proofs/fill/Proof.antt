@@ -29,7 +29,7 @@ add-put-cell : tie.Need-add-put-cell Inv-loop μ-loop
 add-put-cell c = omega arith
 
 put-cell-requires : tie.Need-put-cell-requires Inv-loop μ-loop
-put-cell-requires c κs = c .before .before .before .pre
+put-cell-requires c κs = tt
 
 add-i : tie.Need-add-i Inv-loop μ-loop
 add-i c = omega arith

@@ -12,14 +12,11 @@ read-cell-requires c κs = search needs
 
 returns : tie.Need-returns
 returns c =
-    let s = c .before .before in (
-      c .read-cell .ensures .0
-          ∙ cell-in (s .args .mem .now) (s .args .i) (c .before .if1 .taken),
-      c .read-cell .ensures .1,
-    )
+    let s = c .before .before in
+    c .read-cell .ensures ∙ cell-in (s .args .mem .now) (s .args .i) (c .before .if1 .taken)
 
 returns-2 : tie.Need-returns-2
-returns-2 c = let s = c .before in (cell-past (s .args .mem .now) (s .args .i) (c .if1 .left), tt)
+returns-2 c = let s = c .before in cell-past (s .args .mem .now) (s .args .i) (c .if1 .left)
 
 pub cell-spec : {M : Type 1} → statement M
 cell-spec = tie.close (tie.spec read-cell-requires returns returns-2)

@@ -17,22 +17,20 @@ cast-t8 : tie.Need-cast-t8
 cast-t8 c = search needs
 
 returns : tie.Need-returns
-returns c = (rw (c .match .keys1) refl, c .before .pre)
+returns c = rw (c .match .keys1) refl
 
 returns-2 : tie.Need-returns-2
 returns-2 c =
     let f : SFits w64 (c .before .before .args .p .offset) = search needs in
-    (rw (c .before .match .keys2, toZ-ofZ f) refl, tt)
+    rw (c .before .match .keys2, toZ-ofZ f) refl
 
 returns-3 : tie.Need-returns-3
 returns-3 c =
     let s = c .before in
     let r = c .match .rest in
-    let g : SFits w64 (pos (s .args .n)) = record { sfits = omega (arith, s .fits .n .fits) } in (
-      ap (λ (z : ℤ). Evaluated.Value (Value.Integer z)) (toZ-ofZ g)
-          ∙ ap Evaluated.Value (other-description (s .args .q) (s .args .p) (s .args .n) (r .0 .1) (r .1)),
-      tt,
-    )
+    let g : SFits w64 (pos (s .args .n)) = record { sfits = omega (arith, s .fits .n .fits) } in
+    ap (λ (z : ℤ). Evaluated.Value (Value.Integer z)) (toZ-ofZ g)
+    ∙ ap Evaluated.Value (other-description (s .args .q) (s .args .p) (s .args .n) (r .0 .1) (r .1))
 
 pub describe-spec : {M : Type 1} → statement M
 describe-spec = tie.close (tie.spec cast-t8 returns returns-2 returns-3)

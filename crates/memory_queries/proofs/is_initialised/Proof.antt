@@ -26,7 +26,7 @@ enum-told-2 c = search needs
 
 returns : tie.Need-returns
 returns c = rw (c .before .before .before .l .given .1)
-    (c .mark .ensures ∙ ap isInitialised (c .before .cell .ensures .0))
+    (c .mark .ensures ∙ ap isInitialised (c .before .cell .ensures))
 
 returns-2 : tie.Need-returns-2
 returns-2 c = search needs

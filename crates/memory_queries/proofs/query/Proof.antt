@@ -4,9 +4,9 @@ use Prim.Native.Nat.{ℕ, suc, _+_, _-_, _*_, _≤_, _<_}
 use mathlib.Core.Bool.{Bool, true, false}
 use Rattle.rules.specs.Layout.{memoryOf}
 use Rattle.rules.specs.Numbers.{truthValue}
-use Rattle.rules.specs.Memory.{blockOf, recordedOf, cellOf, locate}
+use Rattle.rules.specs.Memory.{blockOf, recordedOf, cellOf}
 use Rattle.rules.specs.Evaluation.{isInitialised, isValid, initialisedAt}
-use Rattle.memory_queries.proofs.Queries.{valid-law, initialised-law, block-law, truth-fits}
+use Rattle.memory_queries.proofs.Queries.{valid-law, initialised-law, block-law}
 use borrow.Author.Needs.{needs}
 use Rattle.memory_queries.proofs.query.Statement.{statement}
 use Rattle.memory_queries.proofs.query.Tie as tie
@@ -44,32 +44,28 @@ returns c =
     let s = c .before .before .before .before in
     let m = memoryOf (s .args .mem .now) in
     let f : ℕ → Bool = λ (i : ℕ). isInitialised (cellOf m i) in
-    let b : Bool = isValid (locate m (s .args .p)) in
     let e = c .truth .ensures
     ∙ ap truthValue (c .before .is-valid .ensures ∙ ap isValid (c .before .before .locate .ensures)) in
-    (rw (c .before .before .before .match .keys1) (e ∙ valid-law m f (s .args .p)), truth-fits b _ e)
+    rw (c .before .before .before .match .keys1) (e ∙ valid-law m f (s .args .p))
 
 returns-2 : tie.Need-returns-2
 returns-2 c =
     let s = c .before .before .before .before in
     let m = memoryOf (s .args .mem .now) in
     let f : ℕ → Bool = λ (i : ℕ). isInitialised (cellOf m i) in
-    let b : Bool = initialisedAt f (locate m (s .args .p)) in
     let e = c .truth2 .ensures
     ∙ ap truthValue (c .before .is-initialised .ensures
     ∙ ap (initialisedAt f) (c .before .before .locate2 .ensures)) in
-    (rw (c .before .before .before .match .keys2) (e ∙ initialised-law m f (s .args .p)), truth-fits b _ e)
+    rw (c .before .before .before .match .keys2) (e ∙ initialised-law m f (s .args .p))
 
 returns-3 : tie.Need-returns-3
 returns-3 c =
     let s = c .before .before in
     let m = memoryOf (s .args .mem .now) in
     let f : ℕ → Bool = λ (i : ℕ). isInitialised (cellOf m i) in
-    let r = c .before .match .rest in (
-      c .query-block .ensures .0
-          ∙ block-law (s .args .q) (recordedOf (blockOf m (s .args .p .name))) f (s .args .p) (r .0 .1) (r .1),
-      c .query-block .ensures .1,
-    )
+    let r = c .before .match .rest in
+    c .query-block .ensures
+    ∙ block-law (s .args .q) (recordedOf (blockOf m (s .args .p .name))) f (s .args .p) (r .0 .1) (r .1)
 
 pub query-spec : {M : Type 1} → statement M
 query-spec =

@@ -1,9 +1,8 @@
 -- `memory_queries::query_block` meets its contract. Assumes nothing.
 use mathlib.Core.Path.{_≡_, refl, sym, ap, _∙_, subst}
 use Rattle.rules.specs.Layout.{memoryOf}
-use Rattle.rules.specs.Memory.{blockOf, recordedOf}
+use Rattle.rules.specs.Memory.{blockOf}
 use Rattle.rules.specs.declared.{Block.Block}
-use Rattle.memory_queries.proofs.Names.{live-name}
 use borrow.Author.Needs.{needs}
 use Rattle.memory_queries.proofs.query_block.Statement.{statement}
 use Rattle.memory_queries.proofs.query_block.Tie as tie
@@ -22,23 +21,13 @@ enum-known-n : tie.Need-enum-known-n
 enum-known-n c = search needs
 
 describe-requires : tie.Need-describe-requires
-describe-requires c κs =
-    let s = c .before .before .before .before in
-    let b = c .before .n .given in
-    let e : blockOf (memoryOf (s .args .mem .now)) (s .args .p .name) ≡ Block.Fixed (b .0 .0) (b .0 .1 .0) =
-    sym (c .before .before .before .block .ensures) ∙ b .1 in
-    live-name (s .args .mem .now) (s .args .p .name) (b .0 .0) (b .0 .1 .0) (ap recordedOf e)
+describe-requires c κs = tt
 
 enum-known-n-2 : tie.Need-enum-known-n-2
 enum-known-n-2 c = search needs
 
 describe-requires-2 : tie.Need-describe-requires-2
-describe-requires-2 c κs =
-    let s = c .before .before .before .before in
-    let b = c .before .n2 .given in
-    let e : blockOf (memoryOf (s .args .mem .now)) (s .args .p .name) ≡ Block.Freeable (b .0 .0) (b .0 .1 .0) =
-    sym (c .before .before .before .block .ensures) ∙ b .1 in
-    live-name (s .args .mem .now) (s .args .p .name) (b .0 .0) (b .0 .1 .0) (ap recordedOf e)
+describe-requires-2 c κs = tt
 
 enum-told-2 : tie.Need-enum-told-2
 enum-told-2 c = search needs
@@ -49,7 +38,7 @@ returns c =
     let b = c .enum-told .given in
     let e : blockOf (memoryOf (s .args .mem .now)) (s .args .p .name) ≡ Block.Unused =
     sym (c .before .before .block .ensures) ∙ b .1 in
-    (rw e refl, tt)
+    rw e refl
 
 returns-2 : tie.Need-returns-2
 returns-2 c =
@@ -57,7 +46,7 @@ returns-2 c =
     let b = c .before .before .n .given in
     let e : blockOf (memoryOf (s .args .mem .now)) (s .args .p .name) ≡ Block.Fixed (b .0 .0) (b .0 .1 .0) =
     sym (c .before .before .before .before .block .ensures) ∙ b .1 in
-    (rw e (c .describe .ensures .0), c .describe .ensures .1)
+    rw e (c .describe .ensures)
 
 returns-3 : tie.Need-returns-3
 returns-3 c =
@@ -65,7 +54,7 @@ returns-3 c =
     let b = c .before .before .n2 .given in
     let e : blockOf (memoryOf (s .args .mem .now)) (s .args .p .name) ≡ Block.Freeable (b .0 .0) (b .0 .1 .0) =
     sym (c .before .before .before .before .block .ensures) ∙ b .1 in
-    (rw e (c .describe2 .ensures .0), c .describe2 .ensures .1)
+    rw e (c .describe2 .ensures)
 
 returns-4 : tie.Need-returns-4
 returns-4 c =
@@ -73,7 +62,7 @@ returns-4 c =
     let b = c .enum-told2 .given in
     let e : blockOf (memoryOf (s .args .mem .now)) (s .args .p .name) ≡ Block.Dead =
     sym (c .before .before .block .ensures) ∙ b .1 in
-    (rw e refl, tt)
+    rw e refl
 
 pub query-block-spec : {M : Type 1} → statement M
 query-block-spec =

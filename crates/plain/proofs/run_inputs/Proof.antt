@@ -9,7 +9,7 @@ use Rattle.memory_counts.proofs.start.Reads as counts-reads
 use Rattle.memory_start.proofs.start.Reads as start-reads
 use Rattle.run_buffers.proofs.copy.Reads as copy-reads
 use Rattle.run_buffers.proofs.EntryLaws.{put-all, memory-whole, inputs-short}
-use Rattle.plain.proofs.EntryLaws.{start-ready, exit-length, entry-ends}
+use Rattle.plain.proofs.EntryLaws.{exit-length, entry-ends}
 use Rattle.plain.proofs.run_table.Reads as run-table-reads
 use Rattle.plain.proofs.run_inputs.Statement.{statement}
 use Rattle.plain.proofs.run_inputs.Tie as tie
@@ -33,7 +33,6 @@ run-table-requires c κs =
     let i = s .args .inputs .now in
     let l = after-start .start .last .0 in (
       s .pre .0,
-      start-ready i (s .pre .1) l (after-start .start .ensures),
       counted-start i l (s .pre .1) (after-start .start .ensures) (after-start2 .start2 .ensures),
     )
 

@@ -26,8 +26,8 @@ run-from-start-requires c κs =
     let s = after-copy .before .before .before in
     let T = s .args .table .now in
     rw (after-copy .copy .ensures) (
-      ready-start T (replicate (targetLimit * 16) 0) (s .pre .0) (memoryOf (s .args .mem .now)) (s .pre .1),
-      s .pre .2,
+      ready-start T (replicate (targetLimit * 16) 0) (s .pre .0),
+      s .pre .1,
     )
 
 returns : tie.Need-returns

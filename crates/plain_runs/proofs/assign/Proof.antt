@@ -11,7 +11,7 @@ use Rattle.rules.specs.Nodes.{statementAt}
 use Rattle.rules.proofs.runs.StatementArms.{assign-children}
 use Rattle.rules.proofs.runs.PlainArms.{run-assign}
 use Rattle.plain_runs.proofs.Laws.{ran-does}
-use Rattle.plain_runs.proofs.ReadyLaws.{ready-within, ready-number, assign-fits}
+use Rattle.plain_runs.proofs.ReadyLaws.{ready-within, ready-number}
 use Rattle.plain_runs.proofs.assign.Statement.{statement}
 use Rattle.plain_runs.proofs.assign.Tie as tie
 
@@ -34,15 +34,7 @@ evaluate-b-requires c κs =
     )
 
 store-at-requires : tie.Need-store-at-requires
-store-at-requires c κs =
-    let s = c .before .before .before .before .before in
-    let T = s .args .table .now in
-    let τ = temporariesOf (s .args .temporaries .now) in
-    let l = s .args .mem .now in
-    rw (c .before .evaluate-b .ensures ∙ evaluated-alike T (childB T (s .args .n)) τ
-    (variablesOf (s .args .variables .now)) (memoryOf l)
-    (assign-children source T (s .args .n) (s .pre .0 .is) (s .pre .1) .1 .2))
-    (assign-fits (s .pre .0) (s .pre .1))
+store-at-requires c κs = tt
 
 cast-conclude : tie.Need-cast-conclude
 cast-conclude c =

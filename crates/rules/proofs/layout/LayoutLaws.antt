@@ -1,5 +1,5 @@
 -- The bytes of memories that fit: their lengths, that they are bytes, and that reading them gives the memory back.
-use Prim.Native.Nat.{ℕ, _+_, _*_, _<_}
+use Prim.Native.Nat.{ℕ, _+_, _*_, _<_, _≤_}
 use native.Mathlib.Omega.{arith}
 use mathlib.Core.Path.{_≡_, refl, ap, ap₂, _∙_}
 use mathlib.Core.Bool.{Bool, true, false}
@@ -16,7 +16,8 @@ use Rattle.rules.specs.Observation.{Observation}
 use Rattle.rules.specs.Layout.{blockRecord, cellRecord, blockBytes, cellBytes, memoryImage, recordedBytes}
 use Rattle.rules.specs.Layout.{markBytes, observationImage, blockPlace, cellPlace, markPlace, blockFrom}
 use Rattle.rules.specs.Layout.{blockAt, cellFrom, cellAt, memoryOf, recordedFrom, recordedAt, markAt}
-use Rattle.rules.specs.Layout.{observationOf}
+use Rattle.rules.specs.Layout.{observationOf, nameLimit}
+use Rattle.rules.specs.Numbers.{inRange}
 use Rattle.rules.proofs.lists.WordLaws.{digits-value, integer-value, Bytes, no-bytes, more-bytes, bytes-append}
 use Rattle.rules.proofs.lists.WordLaws.{bytes-digits}
 use Rattle.rules.proofs.lists.Rows.{tabulate-list, length-flat, row-byte, row-word}
@@ -60,7 +61,7 @@ length-back : (s first n : ℕ) → n < 65536 → wordAt 2 (blockRecord s first 
 unfolding wordAt digits
 length-back s first n h = digits-value 2 n h
 
-block-back : (b : Block) → FitsBlock b
+pub block-back : (b : Block) → FitsBlock b
     → blockFrom (getD (blockBytes b) 0 0) (wordAt 2 (blockBytes b) 2) (wordAt 2 (blockBytes b) 4) ≡ b
 unfolding blockBytes
 block-back Block.Unused h = refl
@@ -78,16 +79,44 @@ recorded-back (Recorded.Live first n) h =
     ap₂ Recorded.Live (first-back 1 first n (h .0)) (length-back 1 first n (h .1))
 recorded-back Recorded.Dead h = refl
 
-cell-back : (c : Cell) → FitsCell c
-    → cellFrom (getD (cellBytes c) 0 0) (getD (cellBytes c) 1 0) (getD (cellBytes c) 2 0)
+module _ (k o n : ℕ) (z : ℤ) where
+  owner-back : o < nameLimit → wordAt 2 (cellRecord k o n z) 2 ≡ o
+  unfolding wordAt digits
+  owner-back h = digits-value 2 o h
+
+  name-back : n < nameLimit → wordAt 2 (cellRecord k o n z) 4 ≡ n
+  unfolding wordAt digits
+  name-back h = digits-value 2 n h
+
+  number-back : inRange z ≡ true → integerAt (cellRecord k o n z) 8 ≡ z
+  unfolding wordAt digits
+  number-back h = integer-value z h
+
+pub cell-back : (c : Cell) → FitsCell c
+    → cellFrom (getD (cellBytes c) 0 0) (wordAt 2 (cellBytes c) 2) (wordAt 2 (cellBytes c) 4)
     (integerAt (cellBytes c) 8) ≡ c
-unfolding cellBytes wordAt digits
+unfolding cellBytes
 cell-back Cell.Free h = refl
-cell-back (Cell.Holds o Value.Undefined) h = refl
-cell-back (Cell.Holds o (Value.Integer z)) h = ap (λ (x : ℤ). Cell.Holds o (Value.Integer x)) (integer-value z (h .1))
+cell-back (Cell.Holds o Value.Undefined) h =
+    ap (λ (x : ℕ). Cell.Holds x Value.Undefined) (owner-back 1 o 0 (pos 0) (h .0))
+cell-back (Cell.Holds o (Value.Integer z)) h =
+    ap₂ (λ (x : ℕ) (y : ℤ). Cell.Holds x (Value.Integer y)) (owner-back 2 o 0 z (h .0)) (number-back 2 o 0 z (h .1))
 cell-back (Cell.Holds o (Value.Pointer p)) h =
-    ap (λ (x : ℤ). Cell.Holds o (Value.Pointer (record { name = p .name; offset = x })))
-    (integer-value (p .offset) (h .1 .1))
+    let x = owner-back 3 o (p .name) (p .offset) (h .0) in
+    let y = name-back 3 o (p .name) (p .offset) (h .1 .0) in
+    let z = number-back 3 o (p .name) (p .offset) (h .1 .1) in
+    λ i. Cell.Holds (x i) (Value.Pointer (record { name = y i; offset = z i }))
+
+-- 02 §5: "bytes 1, 6 and 7 are zero", in the bytes that start at a place
+abbrev pub ZeroBytes : List ℕ → ℕ → Type 0
+ZeroBytes l at = (getD l (at + 1) 0 ≡ 0) × (getD l (at + 6) 0 ≡ 0) × (getD l (at + 7) 0 ≡ 0)
+
+cell-zeros : (c : Cell) → ZeroBytes (cellBytes c) 0
+unfolding cellBytes digits
+cell-zeros Cell.Free = (refl, refl, refl)
+cell-zeros (Cell.Holds o Value.Undefined) = (refl, refl, refl)
+cell-zeros (Cell.Holds o (Value.Integer z)) = (refl, refl, refl)
+cell-zeros (Cell.Holds o (Value.Pointer p)) = (refl, refl, refl)
 
 mark-back : (b : Bool) → eqb (getD (markBytes b) 0 0) 1 ≡ b
 mark-back true = refl
@@ -142,19 +171,18 @@ bytes-recorded Recorded.Unused h = bytes-record 0 0 0 (omega arith)
 bytes-recorded (Recorded.Live first n) h = bytes-record 1 first n (omega arith)
 bytes-recorded Recorded.Dead h = bytes-record 2 0 0 (omega arith)
 
-bytes-cellRecord : (k o n : ℕ) (z : ℤ) → k < 256 → o < 256 → n < 256 → Bytes (cellRecord k o n z)
-bytes-cellRecord k o n z a b c =
+bytes-cellRecord : (k o n : ℕ) (z : ℤ) → k < 256 → Bytes (cellRecord k o n z)
+bytes-cellRecord k o n z h =
     let zero-byte : 0 < 256 = omega arith in
-    more-bytes a (more-bytes b (more-bytes c (more-bytes zero-byte (more-bytes zero-byte (more-bytes zero-byte
-    (more-bytes zero-byte (more-bytes zero-byte (bytes-digits 8 (ofZ w64 z)))))))))
+    more-bytes h (more-bytes zero-byte (bytes-append (bytes-append (bytes-digits 2 o) (bytes-digits 2 n))
+    (more-bytes zero-byte (more-bytes zero-byte (bytes-digits 8 (ofZ w64 z))))))
 
 bytes-cell : (c : Cell) → FitsCell c → Bytes (cellBytes c)
 unfolding cellBytes
-bytes-cell Cell.Free h = bytes-cellRecord 0 0 0 (pos 0) (omega arith) (omega arith) (omega arith)
-bytes-cell (Cell.Holds o Value.Undefined) h = bytes-cellRecord 1 o 0 (pos 0) (omega arith) (h .0) (omega arith)
-bytes-cell (Cell.Holds o (Value.Integer z)) h = bytes-cellRecord 2 o 0 z (omega arith) (h .0) (omega arith)
-bytes-cell (Cell.Holds o (Value.Pointer p)) h =
-    bytes-cellRecord 3 o (p .name) (p .offset) (omega arith) (h .0) (h .1 .0)
+bytes-cell Cell.Free h = bytes-cellRecord 0 0 0 (pos 0) (omega arith)
+bytes-cell (Cell.Holds o Value.Undefined) h = bytes-cellRecord 1 o 0 (pos 0) (omega arith)
+bytes-cell (Cell.Holds o (Value.Integer z)) h = bytes-cellRecord 2 o 0 z (omega arith)
+bytes-cell (Cell.Holds o (Value.Pointer p)) h = bytes-cellRecord 3 o (p .name) (p .offset) (omega arith)
 
 bytes-marks : (l : List Bool) → Bytes (flat markBytes l)
 unfolding flat
@@ -200,21 +228,44 @@ module _ (m : Memory) (fits : FitsMemory m) where
       record-back FitsBlock blockBytes blockFrom length-blockBytes block-back (m .blocks) Block.Dead
       (flat cellBytes (m .cells)) k (fits .blocks-fit) tt (omega (arith, fits .block-count))
 
-  pub image-cell : (i : ℕ) → i < cellCount → cellAt (memoryImage m) i ≡ getD (m .cells) i Cell.Free
-  unfolding cellAt memoryImage
-  image-cell i h =
-      let front : List ℕ = flat blockBytes (m .blocks) in
-      let l : i < length (m .cells) = omega (arith, fits .cell-count) in
-      let s : length front ≡ blocksLength =
-      records-length blockBytes (m .blocks) length-blockBytes (fits .block-count) in
-      let e = append-nil (flat cellBytes (m .cells)) in
-      let byte = row-byte cellBytes 16 length-cellBytes front (m .cells) [] i Cell.Free l in
-      let x = byte (cellPlace i) 0 (omega arith) (omega arith) in
-      let y = byte (cellPlace i + 1) 1 (omega arith) (omega arith) in
-      let z = byte (cellPlace i + 2) 2 (omega arith) (omega arith) in
-      let w = row-word cellBytes 16 length-cellBytes front (m .cells) [] i Cell.Free l 8
-      (cellPlace i + 8) 8 (omega arith) (omega arith) in
-      rw (← e, x, y, z, w) (cell-back (getD (m .cells) i Cell.Free) (all-getD (fits .cells-fit) i Cell.Free tt))
+  -- byte k of cell i, and the number in its n bytes from k on
+  module _ (i : ℕ) (h : i < cellCount) where
+    cell-byte : (at k : ℕ) → at ≡ cellPlace i + k → k < 16
+        → getD (memoryImage m) at 0 ≡ getD (cellBytes (getD (m .cells) i Cell.Free)) k 0
+    unfolding memoryImage
+    cell-byte at k e l =
+        let front : List ℕ = flat blockBytes (m .blocks) in
+        let s = records-length blockBytes (m .blocks) length-blockBytes (fits .block-count) in
+        rw (← append-nil (flat cellBytes (m .cells)))
+        (row-byte cellBytes 16 length-cellBytes front (m .cells) [] i Cell.Free (omega (arith, fits .cell-count)) at k
+        (omega (arith, s)) l)
+
+    cell-word : (n at k : ℕ) → at ≡ cellPlace i + k → k + n ≤ 16
+        → wordAt n (memoryImage m) at ≡ wordAt n (cellBytes (getD (m .cells) i Cell.Free)) k
+    unfolding memoryImage
+    cell-word n at k e l =
+        let front : List ℕ = flat blockBytes (m .blocks) in
+        let s = records-length blockBytes (m .blocks) length-blockBytes (fits .block-count) in
+        rw (← append-nil (flat cellBytes (m .cells)))
+        (row-word cellBytes 16 length-cellBytes front (m .cells) [] i Cell.Free (omega (arith, fits .cell-count)) n at
+        k (omega (arith, s)) l)
+
+    pub image-cell : cellAt (memoryImage m) i ≡ getD (m .cells) i Cell.Free
+    unfolding cellAt
+    image-cell =
+        let x = cell-byte (cellPlace i) 0 (omega arith) (omega arith) in
+        let y = cell-word 2 (cellPlace i + 2) 2 refl (omega arith) in
+        let z = cell-word 2 (cellPlace i + 4) 4 refl (omega arith) in
+        let w = cell-word 8 (cellPlace i + 8) 8 refl (omega arith) in
+        rw (x, y, z, w) (cell-back (getD (m .cells) i Cell.Free) (all-getD (fits .cells-fit) i Cell.Free tt))
+
+    pub image-zeros : ZeroBytes (memoryImage m) (cellPlace i)
+    image-zeros =
+        let c = cell-zeros (getD (m .cells) i Cell.Free) in (
+          cell-byte (cellPlace i + 1) 1 refl (omega arith) ∙ c .0,
+          cell-byte (cellPlace i + 6) 6 refl (omega arith) ∙ c .1,
+          cell-byte (cellPlace i + 7) 7 refl (omega arith) ∙ c .2,
+        )
 
   pub memory-back : memoryOf (memoryImage m) ≡ m
   unfolding memoryOf

@@ -31,7 +31,7 @@ pub record OrderlyBytes (l : List ℕ) : Type 0 where
   pub order : OrderlyObservation (observationOf l)
   pub whole : observationImage (observationOf l) ≡ l
   pub size : length l ≡ observationLength
-  -- "255 block records (state 0 unused, 1 live, 2 dead; rest alike, first counting marks)"
+  -- "block records (state 0 unused, 1 live, 2 dead; rest alike, first counting marks)"
   pub records : (k : ℕ) → k < nameCount → part 8 l (blockPlace k) ≡ recordedBytes (recordedAt l k)
   -- "A dead block has first and length 0"
   pub dead : (k : ℕ) → k < nameCount → getD l (blockPlace k) 0 ≡ 2 → part 8 l (blockPlace k) ≡ blockRecord 2 0 0

@@ -1,6 +1,6 @@
--- Every memory that a run of an accepted table can reach fits its layout: the image has the length that document 01
--- gives, it is bytes, and reading it gives the memory back.
-use Prim.Native.Nat.{ℕ, zero, suc, _/_, _%_, _≤_}
+-- Every memory that a run of an accepted table can reach fits its layout: the image has the length that 02 §5 gives, it
+-- is bytes, bytes 1, 6 and 7 of each cell are zero, and reading it gives the memory back.
+use Prim.Native.Nat.{ℕ, zero, suc, _/_, _%_, _≤_, _<_}
 use native.Mathlib.Omega.{arith}
 use mathlib.Core.Bool.{Bool, true, false, not, _||_}
 use mathlib.Core.Path.{_≡_, refl, ap}
@@ -8,31 +8,28 @@ use mathlib.Core.List.{List}
 use lib.Dec.{ltb, eqb}
 use lib.ListN.{length, drop}
 use borrow.Author.Tests.{ltb-false}
-use Rattle.rules.specs.Sizes.{memoryLength, observationLength, inputLimit}
+use Rattle.rules.specs.Sizes.{cellCount, inputLimit}
 use Rattle.rules.specs.Words.{wordAt}
 use Rattle.rules.specs.Checker.{inputsFault}
 use Rattle.rules.specs.Nodes.{sourceProgram, targetProgram}
-use Rattle.rules.specs.Trees.{Statement}
-use Rattle.rules.specs.TargetTrees.{TargetStatement}
 use Rattle.rules.specs.Memory.{Memory, startMemory}
-use Rattle.rules.specs.Evaluation.{Variables}
 use Rattle.rules.specs.Observation.{Observation, startObservation}
 use Rattle.rules.specs.Flow.{Outcome, ending}
-use Rattle.rules.specs.Plain.{run, startVariables}
-use Rattle.rules.specs.Watched.{WatchedState, watch, startTemporaries}
-use Rattle.rules.specs.Layout.{memoryImage, memoryOf, observationImage, observationOf}
+use Rattle.rules.specs.Plain.{startVariables}
+use Rattle.rules.specs.Watched.{WatchedState, startTemporaries}
+use Rattle.rules.specs.Layout.{memoryImage, memoryOf, observationImage, observationOf, cellPlace}
 use Rattle.rules.specs.Answers.{numbersIn, inputsOf, plainOutcome, watchedStart, watchedOutcome}
-use Rattle.rules.proofs.acceptance.Sound.{Scope, startScope, SoundStatement, SoundTarget}
+use Rattle.rules.proofs.acceptance.Sound.{startScope, SoundStatement, SoundTarget}
 use Rattle.rules.proofs.runs.Keeping.{AnyNumber}
 use Rattle.rules.proofs.lists.WordLaws.{integer-range, Bytes}
 use Rattle.rules.proofs.runs.Outcomes.{Reaches, outcomes-state}
 use Rattle.rules.specs.Fits.{FitsTemporary, FitsMemory, FitsObservation, InsideMemory, InsideObservation, All}
-use Rattle.rules.specs.Fits.{none, also, VariablesFit}
+use Rattle.rules.specs.Fits.{none, also}
 use Rattle.rules.proofs.layout.FitsLaws.{InRange, startMemory-inside}
-use Rattle.rules.proofs.layout.KeptPredicates.{fits-invariant, inside-invariant, fits-observation-invariant}
+use Rattle.rules.proofs.layout.KeptPredicates.{inside-invariant}
 use Rattle.rules.proofs.layout.KeptPredicates.{inside-observation-invariant, startObservation-inside}
 use Rattle.rules.proofs.layout.LayoutLaws.{length-memoryImage, length-observationImage, memory-back}
-use Rattle.rules.proofs.layout.LayoutLaws.{observation-back}
+use Rattle.rules.proofs.layout.LayoutLaws.{observation-back, ZeroBytes, image-zeros}
 use Rattle.rules.proofs.layout.LayoutLaws.{bytes-memoryImage, bytes-observationImage}
 use Rattle.rules.proofs.layout.Reachable.{startVariables-fit, run-keeps, Watchedly, watch-keeps}
 use Rattle.rules.proofs.layout.Reachable.{startTemporaries-fit}
@@ -64,12 +61,15 @@ start-inside i e = startMemory-inside (inputsOf i) (numbersIn-range (length i / 
 
 -- what an image says of its memory
 pub record Shown (m : Memory) : Type 0 where
-  pub image-length : length (memoryImage m) ≡ memoryLength
+  -- 02 §5: "49,144 bytes"
+  pub image-length : length (memoryImage m) ≡ 49144
   pub image-bytes : Bytes (memoryImage m)
+  pub image-zero-bytes : (i : ℕ) → i < cellCount → ZeroBytes (memoryImage m) (cellPlace i)
   pub image-back : memoryOf (memoryImage m) ≡ m
 
 pub record ObservationShown (o : Observation) : Type 0 where
-  pub image-length : length (observationImage o) ≡ observationLength
+  -- "33,784"
+  pub image-length : length (observationImage o) ≡ 33784
   pub image-bytes : Bytes (observationImage o)
   pub image-back : observationOf (observationImage o) ≡ o
 
@@ -77,6 +77,7 @@ pub shown : (m : Memory) → FitsMemory m → Shown m
 shown m h = record {
   image-length = length-memoryImage m (h .block-count) (h .cell-count);
   image-bytes = bytes-memoryImage m h;
+  image-zero-bytes = image-zeros m h;
   image-back = memory-back m h;
 }
 
@@ -91,18 +92,6 @@ observation-shown o h = record {
 after-kept : (J : Memory → Type 0) (m : Memory) (f : ℕ) (o : Outcome Memory)
     → Reaches (λ m₁ m₂. J m₂) AnyNumber m f o → J (ending o .state)
 after-kept J m f o h = outcomes-state (λ m₁ g. J m₁ × (g ≤ f)) AnyNumber o h .0
-
--- to fit is kept by every run
-pub run-fits : (a : Statement) (σ : Scope) → SoundStatement a σ → (ρ : Variables) → VariablesFit ρ
-    → (m : Memory) (f : ℕ)
-    → FitsMemory m → FitsMemory (ending (run a ρ m f) .state)
-run-fits a σ h ρ r m f i =
-    after-kept FitsMemory m f (run a ρ m f) (run-keeps FitsMemory fits-invariant a σ h ρ r m f i)
-
-pub run-shown : (a : Statement) (σ : Scope) → SoundStatement a σ → (ρ : Variables) → VariablesFit ρ
-    → (m : Memory) (f : ℕ)
-    → FitsMemory m → Shown (ending (run a ρ m f) .state)
-run-shown a σ h ρ r m f i = shown (ending (run a ρ m f) .state) (run-fits a σ h ρ r m f i)
 
 pub plain-inside : (t i : List ℕ) (f : ℕ) → SoundStatement (sourceProgram t) startScope → inputsFault i ≡ false
     → InsideMemory (ending (plainOutcome t i f) .state)
@@ -119,13 +108,6 @@ plain-round-trip t i f h e = shown (ending (plainOutcome t i f) .state) (plain-i
 both-kept : (J : Memory → Type 0) (O : Observation → Type 0) (x : WatchedState) (f : ℕ) (o : Outcome WatchedState)
     → Reaches (λ y z. Watchedly J O z) AnyNumber x f o → Watchedly J O (ending o .state)
 both-kept J O x f o h = outcomes-state (λ y g. Watchedly J O y × (g ≤ f)) AnyNumber o h .0
-
-pub watch-fits : (a : TargetStatement) (σ : Scope) → SoundTarget a σ → (ρ : Variables) → VariablesFit ρ
-    → (x : WatchedState) (f : ℕ) → Watchedly FitsMemory FitsObservation x
-    → Watchedly FitsMemory FitsObservation (ending (watch a ρ x f) .state)
-watch-fits a σ h ρ r x f i =
-    both-kept FitsMemory FitsObservation x f (watch a ρ x f)
-    (watch-keeps FitsMemory fits-invariant FitsObservation fits-observation-invariant a σ h ρ r x f i)
 
 pub watched-inside : (t i : List ℕ) (f : ℕ) → SoundTarget (targetProgram t) startScope → inputsFault i ≡ false
     → Watchedly InsideMemory InsideObservation (ending (watchedOutcome t i f) .state)

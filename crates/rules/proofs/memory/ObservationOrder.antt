@@ -32,7 +32,7 @@ use Rattle.rules.proofs.runs.Calls.{CallsKeep}
 use Rattle.rules.specs.Types.{Pointer, Value, Located, Search, Recorded}
 
 pub record OrderlyObservation (o : Observation) : Type 0 where
-  -- "255 block records"
+  -- 02 §5: "Each memory has 4,095 block records"
   pub record-count : length (o .blocks) ≡ nameCount
   -- "then 1,024 marks"
   pub mark-count : length (o .marks) ≡ cellCount

@@ -4,7 +4,7 @@ use Rattle.rules.specs.Memory.{freeable, makeBlock, storeNew}
 use Rattle.rules.specs.Layout.{memoryOf}
 use Rattle.memory_counts.specs.Counted.{Counted}
 use Rattle.run_changes.specs.Changing.{Does}
-use Rattle.run_changes.proofs.ChangeLaws.{name-fits, does-new, does-unmade}
+use Rattle.run_changes.proofs.ChangeLaws.{does-new, does-unmade}
 use Rattle.run_changes.proofs.CountedChanges.{counted-stored}
 use borrow.Author.Needs.{needs}
 use Rattle.run_allocation.proofs.store_new.Statement.{statement}
@@ -21,10 +21,7 @@ enum-known-k : tie.Need-enum-known-k
 enum-known-k c = search needs
 
 store-requires : tie.Need-store-requires
-store-requires c κs =
-    let s = c .before .before .before .before .before .before .before .args in
-    name-fits (memoryOf (s .mem .now)) freeable (s .n) _
-    (sym (c .before .before .k .given .1) ∙ c .before .before .before .before .make .ensures .0)
+store-requires c κs = tt
 
 enum-known-c : tie.Need-enum-known-c
 enum-known-c c = search needs

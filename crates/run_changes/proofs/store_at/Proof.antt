@@ -1,8 +1,7 @@
-use mathlib.Core.Path.{ap, ap₂, subst}
+use mathlib.Core.Path.{ap, ap₂}
 use Rattle.rules.specs.Memory.{assigned}
 use Rattle.rules.specs.Layout.{memoryOf}
 use Rattle.rules.specs.declared.{Found.Found}
-use Rattle.memory_cells.specs.Changes.{EvaluatedFits}
 use Rattle.run_changes.proofs.ChangeLaws.{does-is, does-stop}
 use borrow.Author.Needs.{needs}
 use Rattle.run_changes.proofs.store_at.Statement.{statement}
@@ -15,9 +14,7 @@ enum-known-e : tie.Need-enum-known-e
 enum-known-e c = search needs
 
 store-requires : tie.Need-store-requires
-store-requires c κs =
-    subst EvaluatedFits (c .before .before .e .given .1)
-    (c .before .before .before .before .before .before .before .pre)
+store-requires c κs = tt
 
 enum-known-e-2 : tie.Need-enum-known-e-2
 enum-known-e-2 c = search needs

@@ -8,9 +8,7 @@ start-variables-requires : tie.Need-start-variables-requires
 start-variables-requires c κs = search needs
 
 run-requires : tie.Need-run-requires
-run-requires c κs =
-    let after-start-variables = c .before .before .before .before .before .before in
-    rw (after-start-variables .start-variables .ensures) (after-start-variables .before .pre)
+run-requires c κs = c .before .before .before .before .before .before .before .pre
 
 returns : tie.Need-returns
 returns c =

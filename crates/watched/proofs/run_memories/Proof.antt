@@ -3,7 +3,7 @@ use mathlib.Core.Path.{refl}
 use Rattle.memory_counts.specs.Counted.{freeIn}
 use Rattle.memory_counts.proofs.CountLaws.{counted-start, free-fits}
 use Rattle.run_buffers.proofs.EntryLaws.{inputs-short}
-use Rattle.watched.proofs.EntryLaws.{start-ready, entry-ends}
+use Rattle.watched.proofs.EntryLaws.{entry-ends}
 use borrow.Author.Needs.{needs}
 use Rattle.watched.proofs.run_memories.Statement.{statement}
 use Rattle.watched.proofs.run_memories.Tie as tie
@@ -30,12 +30,8 @@ run-table-requires c κs =
     let after-start = after-start-observation .before .before .before in
     let s = after-start .before .before .before .before in
     let i = s .args .inputs .now in
-    let l = after-start .start .last .0 in
-    let r = start-ready i (s .pre .1) l (after-start-observation .start-observation .last .0)
-    (after-start .start .ensures) (after-start-observation .start-observation .ensures .0) in (
+    let l = after-start .start .last .0 in (
       s .pre .0,
-      r .0,
-      r .1,
       record {
         counted = counted-start i l (s .pre .1) (after-start .start .ensures) (after-start2 .start2 .ensures);
         owned = after-start-observation .start-observation .ensures .1;

@@ -25,9 +25,8 @@ run-from-start-requires c κs =
     let after-copy = c .before .before .before .before .before .before in
     let s = after-copy .before .before .before in
     rw (after-copy .copy .ensures) (
-      ready-start (s .args .table .now) (replicate (targetLimit * 16) 0) (s .pre .0) (s .args .mem .now)
-          (s .args .obs .now) (s .pre .1) (s .pre .2),
-      s .pre .3,
+      ready-start (s .args .table .now) (replicate (targetLimit * 16) 0) (s .pre .0),
+      s .pre .1,
     )
 
 returns : tie.Need-returns

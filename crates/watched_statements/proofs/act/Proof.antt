@@ -17,14 +17,14 @@ use Rattle.watched_statements.specs.Watching.{lent, stateOf}
 use Rattle.watched_statements.proofs.Laws.{ran-is, ran-finished}
 use Rattle.watched_statements.proofs.ActLaws.{watch-take, watch-note, take-between, last-act, acts-change}
 use Rattle.watched_statements.proofs.ActLaws.{acts-taken, acts-observed, acts-asserted}
-use Rattle.watched_statements.proofs.ReadyLaws.{ready-within, assign-fits}
+use Rattle.watched_statements.proofs.ReadyLaws.{ready-within}
 use Rattle.watched_statements.proofs.act.Statement.{statement}
 use Rattle.watched_statements.proofs.act.Tie as tie
 
 kind-requires : tie.Need-kind-requires
 kind-requires c κs =
     let s = c .before in
-    ready-within (s .args .table .now) (s .args .n) _ _ (s .pre .0)
+    ready-within (s .pre .0)
 
 assign-requires : tie.Need-assign-requires
 assign-requires c κs =
@@ -32,7 +32,7 @@ assign-requires c κs =
     let after-kind = after-match .before in
     let s = after-kind .before .before in
     let q = sym (after-kind .kind .ensures) ∙ after-match .match .keys2 in
-    (s .pre .0 .is, q, assign-fits (s .args .table .now) (s .args .n) _ _ (s .pre .0) q)
+    (s .pre .0 .is, q)
 
 allocate-requires : tie.Need-allocate-requires
 allocate-requires c κs =

@@ -26,8 +26,7 @@ evaluate-b-requires c κs =
     )
 
 store-at-requires : tie.Need-store-at-requires
-store-at-requires c κs =
-    rw (c .before .evaluate-b .ensures) (c .before .before .before .before .before .pre .2)
+store-at-requires c κs = tt
 
 returns : tie.Need-returns
 returns c =

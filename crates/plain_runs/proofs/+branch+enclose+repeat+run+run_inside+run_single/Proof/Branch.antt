@@ -3,7 +3,9 @@ use Prim.Native.Nat.{ℕ}
 use native.Mathlib.Omega.{arith}
 use mathlib.Core.Path.{sym, _∙_}
 use borrow.Author.Needs.{needs}
+use Rattle.rules.specs.Layout.{memoryOf}
 use Rattle.rules.specs.declared.{Test.Test}
+use Rattle.evaluation.specs.State.{variablesOf}
 use Rattle.plain_runs.proofs.Laws.{ran-is}
 use Rattle.plain_runs.proofs.ReadyLaws.{ready-within, ready-number, branch-parts, ready-then, ready-else}
 use Rattle.plain_runs.proofs.MemberLaws.{ran-ended, branch-by}
@@ -57,7 +59,8 @@ module _ (t : ℕ) where
       let after-test-a = after-enum-told .before .before in
       let s = after-test-a .before .before in (
         ran-is
-            (branch-by (s .pre .1 .0) (s .pre .1 .1) (s .args .fuel) Test.Yes
+            (branch-by (variablesOf (s .args .variables .now)) (s .pre .1 .0) (s .pre .1 .1) (memoryOf (s .args .mem .now))
+            (s .args .fuel) Test.Yes
             (sym (after-test-a .test-a .ensures) ∙ after-enum-told .enum-told .given .1))
             (rw (after-child-b .child-b .ensures) at (c .run .ensures .0)),
         c .run .ensures .1,
@@ -70,7 +73,8 @@ module _ (t : ℕ) where
       let after-test-a = after-enum-told2 .before .before in
       let s = after-test-a .before .before in (
         ran-is
-            (branch-by (s .pre .1 .0) (s .pre .1 .1) (s .args .fuel) Test.No
+            (branch-by (variablesOf (s .args .variables .now)) (s .pre .1 .0) (s .pre .1 .1) (memoryOf (s .args .mem .now))
+            (s .args .fuel) Test.No
             (sym (after-test-a .test-a .ensures) ∙ after-enum-told2 .enum-told2 .given .1))
             (rw (after-child-c .child-c .ensures) at (c .run2 .ensures .0)),
         c .run2 .ensures .1,
@@ -83,7 +87,8 @@ module _ (t : ℕ) where
       let s = after-test-a .before .before in
       let k = after-k .k .given .0 .0 in (
         ran-is
-            (branch-by (s .pre .1 .0) (s .pre .1 .1) (s .args .fuel) (Test.Stopped k)
+            (branch-by (variablesOf (s .args .variables .now)) (s .pre .1 .0) (s .pre .1 .1) (memoryOf (s .args .mem .now))
+            (s .args .fuel) (Test.Stopped k)
             (sym (after-test-a .test-a .ensures) ∙ after-k .k .given .1))
             (ran-ended (s .args .mem .now) k (s .args .n) (s .args .fuel)),
         s .pre .1 .2,

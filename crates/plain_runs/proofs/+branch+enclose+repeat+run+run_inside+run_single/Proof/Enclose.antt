@@ -3,9 +3,10 @@ use Prim.Native.Nat.{ℕ}
 use native.Mathlib.Omega.{arith}
 use mathlib.Core.Path.{sym, _∙_}
 use borrow.Author.Needs.{needs}
+use Rattle.evaluation.specs.State.{variablesOf}
 use Rattle.plain_runs.proofs.Laws.{ran-is}
-use Rattle.plain_runs.proofs.ReadyLaws.{ready-number}
-use Rattle.plain_runs.proofs.MemberLaws.{ran-from, let-made, let-unmade, ready-made}
+use Rattle.plain_runs.proofs.ReadyLaws.{ready-number, ready-inside}
+use Rattle.plain_runs.proofs.MemberLaws.{ran-from, let-made, let-unmade}
 use Rattle.plain_runs.proofs.enclose.Reads as enclose
 use Rattle.plain_runs.proofs.+branch+enclose+repeat+run+run_inside+run_single.Lts-enclose as enclose-lts
 use Rattle.plain_runs.proofs.+branch+enclose+repeat+run+run_inside+run_single.Proof.Cycle.{enclose-at}
@@ -25,8 +26,7 @@ module _ (t : ℕ) where
       let s = after-make .before .before .before in (
         omega (arith, s .pre .0),
         (
-          ready-made (s .pre .1 .0) (s .pre .1 .1) (after-make .make .ensures .1 .0)
-              (sym (after-k .k .given .1) ∙ after-make .make .ensures .0),
+          ready-inside (s .pre .1 .0) (s .pre .1 .1),
           after-make .make .ensures .1 .1,
         ),
       )
@@ -43,7 +43,7 @@ module _ (t : ℕ) where
       let after-make = after-k .before .before in
       let s = after-make .before .before .before in (
         ran-is
-            (let-made (s .pre .1 .0) (s .pre .1 .1) (after-make .make .ensures .1 .0) (s .args .fuel)
+            (let-made (variablesOf (s .args .variables .now)) (s .pre .1 .0) (s .pre .1 .1) (after-make .make .ensures .1 .0) (s .args .fuel)
             (sym (after-k .k .given .1) ∙ after-make .make .ensures .0))
             (ran-from (after-make .make .ensures .1 .0) (c .run-inside .ensures .0)),
         c .run-inside .ensures .1,
@@ -54,7 +54,7 @@ module _ (t : ℕ) where
       let after-c = c .before in
       let after-make = after-c .before .before in
       let s = after-make .before .before .before in (
-        let-unmade (s .pre .1 .0) (s .pre .1 .1) (after-make .make .ensures .1 .0) (s .args .fuel)
+        let-unmade (variablesOf (s .args .variables .now)) (s .pre .1 .0) (s .pre .1 .1) (after-make .make .ensures .1 .0) (s .args .fuel)
             (after-c .c .given .0 .0) (sym (after-c .c .given .1) ∙ after-make .make .ensures .0),
         after-make .make .ensures .1 .1,
       )

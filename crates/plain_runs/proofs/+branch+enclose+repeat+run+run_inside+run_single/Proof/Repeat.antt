@@ -31,8 +31,7 @@ module _ (t : ℕ) where
 
   loop-holds : repeat-lts.Need-loop-holds (repeat-claims t) (repeat-at t) repeat.Post Inv-loop μ-loop
   loop-holds c =
-      let h = c .before .before .pre .1 in
-      (record { rest = refl; bytes = becomes-same refl; fits = h .0 .fits }, h .2)
+      (record { rest = refl; bytes = becomes-same refl }, c .before .before .pre .1 .2)
 
   sub-left : repeat-lts.Need-sub-left (repeat-claims t) (repeat-at t) repeat.Post Inv-loop μ-loop
   sub-left c = omega (arith, c .loop-test .taken)
@@ -53,7 +52,7 @@ module _ (t : ℕ) where
       let h = s .pre .1 in
       rw (after-child-b .child-b .ensures) (
         omega (arith, while-parts (h .0) (h .1) .1 .1, s .pre .0),
-        (ready-turn (h .0) (h .1) (after-loop .loop .inv .0 .fits), after-loop .loop .inv .1),
+        (ready-turn (h .0) (h .1), after-loop .loop .inv .1),
       )
 
   -- a turn whose condition is true, where its child ran
@@ -70,13 +69,14 @@ module _ (t : ℕ) where
       let after-loop-test = after-test-a .before .before in
       let after-loop = after-loop-test .before in
       let after-child-b = after-loop .before in
-      let h = after-child-b .before .before .pre .1 in
+      let s = after-child-b .before .before in
+      let h = s .pre .1 in
       record {
         earlier = after-loop .loop .inv .0;
         ran = rw (after-child-b .child-b .ensures) at (c .run .ensures .0);
         leads =
-            turn-by (h .0) (h .1) (memoryOf (after-loop .loop .mem)) (after-loop .loop .left)
-            (after-loop-test .loop-test .taken) Test.Yes
+            turn-by (variablesOf (s .args .variables .now)) (h .0) (h .1) (memoryOf (after-loop .loop .mem))
+            (after-loop .loop .left) (after-loop-test .loop-test .taken) Test.Yes
             (sym (after-test-a .test-a .ensures) ∙ after-enum-told .enum-told .given .1);
       }
 
@@ -90,12 +90,7 @@ module _ (t : ℕ) where
 
   loop-again : repeat-lts.Need-loop-again (repeat-claims t) (repeat-at t) repeat.Post Inv-loop μ-loop
   loop-again c =
-      let after-loop = c .before .before .before .before .before .before .before .before .before .before in
-      let h = after-loop .before .before .before .pre .1 in (
-        part-finishes (turn (c .before .before)) (c .if1 .left)
-            (ready-turn (h .0) (h .1) (after-loop .loop .inv .0 .fits)),
-        c .before .before .run .ensures .1,
-      )
+      (part-finishes (turn (c .before .before)) (c .if1 .left), c .before .before .run .ensures .1)
 
   enum-told-2 : repeat-lts.Need-enum-told-2 (repeat-claims t) (repeat-at t) repeat.Post Inv-loop μ-loop
   enum-told-2 c = search needs
@@ -105,10 +100,12 @@ module _ (t : ℕ) where
       let after-test-a = c .before .before in
       let after-loop-test = after-test-a .before .before in
       let loop = after-loop-test .before .loop in
-      let h = after-loop-test .before .before .before .before .pre .1 in (
+      let s = after-loop-test .before .before .before .before in
+      let h = s .pre .1 in (
         ran-is
             (loop .inv .0 .rest
-            ∙ turn-by (h .0) (h .1) (memoryOf (loop .mem)) (loop .left) (after-loop-test .loop-test .taken) Test.No
+            ∙ turn-by (variablesOf (s .args .variables .now)) (h .0) (h .1) (memoryOf (loop .mem)) (loop .left)
+            (after-loop-test .loop-test .taken) Test.No
             (sym (after-test-a .test-a .ensures) ∙ c .enum-told2 .given .1))
             (ran-from (loop .inv .0 .bytes) (ran-finished (loop .mem) (loop .left - 1))),
         loop .inv .1,
@@ -130,7 +127,7 @@ module _ (t : ℕ) where
       let k = after-k .k .given .0 .0 in (
         ran-is
             (loop .inv .0 .rest
-            ∙ turn-by (s .pre .1 .0) (s .pre .1 .1) (memoryOf (loop .mem)) (loop .left)
+            ∙ turn-by (variablesOf (s .args .variables .now)) (s .pre .1 .0) (s .pre .1 .1) (memoryOf (loop .mem)) (loop .left)
             (after-loop-test .loop-test .taken) (Test.Stopped k)
             (sym (after-test-a .test-a .ensures) ∙ after-k .k .given .1))
             (ran-from (loop .inv .0 .bytes) (ran-ended (loop .mem) k (s .args .n) (loop .left - 1))),
@@ -146,7 +143,8 @@ module _ (t : ℕ) where
       let s = c .before .before .before .before in (
         ran-is
             (loop .inv .0 .rest
-            ∙ turn-out (s .pre .1 .0) (s .pre .1 .1) (memoryOf (loop .mem)) (loop .left) (c .loop-test .left))
+            ∙ turn-out (variablesOf (s .args .variables .now)) (s .pre .1 .0) (s .pre .1 .1) (memoryOf (loop .mem)) (loop .left)
+            (c .loop-test .left))
             (ran-from (loop .inv .0 .bytes) (ran-ended (loop .mem) 32 (s .args .n) 0)),
         loop .inv .1,
       )

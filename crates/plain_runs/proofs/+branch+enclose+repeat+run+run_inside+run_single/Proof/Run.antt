@@ -19,7 +19,7 @@ use Rattle.plain_runs.proofs.+branch+enclose+repeat+run+run_inside+run_
 abbrev Inv-loop : run-lts.InvT-loop
 Inv-loop table n variables temporaries mem₀ counts₀ fuel at₀ left₀ mem counts at left =
     Remaining table n (variablesOf variables) mem₀ fuel at mem left
-    × Ready table at (variablesOf variables) (memoryOf mem) × (at ≤ n) × Counted (memoryOf mem) counts
+    × Ready table at × (at ≤ n) × Counted (memoryOf mem) counts
 
 abbrev μ-loop : run-lts.MeasureT-loop
 μ-loop table n variables temporaries mem₀ counts₀ fuel at₀ left₀ mem counts at left = at
@@ -28,7 +28,7 @@ module _ (t : ℕ) where
   loop-holds : run-lts.Need-loop-holds (run-claims t) (run-at t) run.Post Inv-loop μ-loop
   loop-holds c =
       let h = c .pre .1 in
-      (record { rest = refl; bytes = becomes-same refl; fits = h .0 .fits }, h .0, omega arith, h .1)
+      (record { rest = refl; bytes = becomes-same refl }, h .0, omega arith, h .1)
 
   kind-requires : run-lts.Need-kind-requires (run-claims t) (run-at t) run.Post Inv-loop μ-loop
   kind-requires c κs = ready-within (c .before .loop .inv .1)
@@ -68,7 +68,7 @@ module _ (t : ℕ) where
         earlier = after-loop .loop .inv .0;
         ran = rw (after-child-a .child-a .ensures) at (c .run .ensures .0);
         leads =
-            sequence-by (after-loop .loop .inv .1) (sym (after-kind .kind .ensures) ∙ after-if1 .if1 .taken)
+            sequence-by (variablesOf (s .args .variables .now)) (after-loop .loop .inv .1) (sym (after-kind .kind .ensures) ∙ after-if1 .if1 .taken)
             (memoryOf (after-loop .loop .mem)) (after-loop .loop .left);
       }
 
@@ -94,10 +94,9 @@ module _ (t : ℕ) where
       let after-loop = after-kind .before .before in
       let h = after-loop .loop .inv .1 in
       let q = sym (after-kind .kind .ensures) ∙ after-if1 .if1 .taken in
-      let remaining = part-finishes (first after-run) (c .before .before .if2 .left) (ready-first h q) in
       rw (c .child-b .ensures) (
-        remaining,
-        ready-second h q (remaining .fits),
+        part-finishes (first after-run) (c .before .before .if2 .left),
+        ready-second h q,
         omega (arith, sequence-parts h q .1 .1, after-loop .loop .inv .2),
         after-run .run .ensures .1,
       )

@@ -32,10 +32,8 @@ module _ (t : ℕ) where
   run-requires : run-inside-lts.Need-run-requires (run-inside-claims t) (run-inside-at t) run-inside.Post
   run-requires c κs =
       let after-child-a = c .before .before .before in
-      let after-name-variable = after-child-a .before .before in
-      let after-mark = after-name-variable .before in
-      let s = after-mark .before .before .before in
-      rw (after-child-a .child-a .ensures, after-name-variable .name-variable .ensures, after-mark .mark .ensures)
+      let s = after-child-a .before .before .before .before .before .before in
+      rw (after-child-a .child-a .ensures)
       (omega (arith, s .pre .1 .0 .smaller, s .pre .0), (s .pre .1 .0 .body, s .pre .1 .1))
 
   end-requires : run-inside-lts.Need-end-requires (run-inside-claims t) (run-inside-at t) run-inside.Post
@@ -61,7 +59,8 @@ module _ (t : ℕ) where
   returns c =
       let after-run = c .before .before .before .before .before in
       let s = after-run .before .before .before .before .before .before .before .before .before .before in (
-        inside-ends (s .pre .1 .0) (s .args .fuel) (child after-run) (c .before .before .before .if1 .taken)
+        inside-ends (s .args .table .now) (s .args .n) (variablesOf (s .args .variables .now)) (s .args .k) (s .args .fuel)
+            (child after-run) (c .before .before .before .if1 .taken)
             (c .end .ensures .0),
         c .end .ensures .1,
       )
@@ -70,7 +69,11 @@ module _ (t : ℕ) where
   returns-2 c =
       let after-run = c .before .before in
       let s = after-run .before .before .before .before .before .before .before .before .before .before in
-      (inside-stays (s .pre .1 .0) (s .args .fuel) (child after-run) (c .if1 .left), after-run .run .ensures .1)
+      (
+        inside-stays (s .args .table .now) (s .args .n) (variablesOf (s .args .variables .now)) (s .args .k) (s .args .fuel)
+            (child after-run) (c .if1 .left),
+        after-run .run .ensures .1,
+      )
 
   pub closed : {M : Type 1} → run-inside-lts.Closed (run-inside-claims t) (run-inside-at t) run-inside.Post M
   closed =

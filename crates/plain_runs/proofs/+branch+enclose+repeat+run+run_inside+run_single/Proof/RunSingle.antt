@@ -26,7 +26,7 @@ module _ (t : ℕ) where
   of-kind : (c : run-single-lts.After-kind (run-single-claims t) (run-single-at t) run-single.Post) {k : ℕ}
       → c .kind .result ≡ k
       → let a = c .before .before .args in
-      Ready (a .table .now) (a .n) (variablesOf (a .variables .now)) (memoryOf (a .mem .now))
+      Ready (a .table .now) (a .n)
       × (kindOf (a .table .now) (a .n) ≡ k)
   of-kind c e = (c .before .before .pre .1 .0, sym (c .kind .ensures) ∙ e)
 
@@ -34,7 +34,7 @@ module _ (t : ℕ) where
   counted-kind : (c : run-single-lts.After-kind (run-single-claims t) (run-single-at t) run-single.Post) {k : ℕ}
       → c .kind .result ≡ k
       → let a = c .before .before .args in
-      Ready (a .table .now) (a .n) (variablesOf (a .variables .now)) (memoryOf (a .mem .now))
+      Ready (a .table .now) (a .n)
       × (kindOf (a .table .now) (a .n) ≡ k) × Counted (memoryOf (a .mem .now)) (a .counts .now)
   counted-kind c e = (of-kind c e .0, of-kind c e .1, c .before .before .pre .1 .2)
 
@@ -97,7 +97,7 @@ module _ (t : ℕ) where
       let s = c .before .before .before .before .before in
       let k = of-kind (c .before .before .before) (c .before .before .match .keys2) in (
         c .assign .ensures,
-        assign-counted (s .args .mem .now) (s .args .fuel) (k .0) (k .1) (s .pre .1 .2) (c .assign .ensures),
+        assign-counted (variablesOf (s .args .variables .now)) (s .args .mem .now) (s .args .fuel) (k .0) (k .1) (s .pre .1 .2) (c .assign .ensures),
       )
 
   returns-3 : run-single-lts.Need-returns-3 (run-single-claims t) (run-single-at t) run-single.Post
@@ -119,7 +119,7 @@ module _ (t : ℕ) where
   returns-8 c =
       let s = c .before .before .before .before .before in (
         c .assert .ensures,
-        assert-counted (s .args .mem .now) (s .args .fuel) (s .pre .1 .0) (assert-kind (c .before)) (s .pre .1 .2)
+        assert-counted (variablesOf (s .args .variables .now)) (s .args .mem .now) (s .args .fuel) (s .pre .1 .0) (assert-kind (c .before)) (s .pre .1 .2)
             (c .assert .ensures),
       )
 

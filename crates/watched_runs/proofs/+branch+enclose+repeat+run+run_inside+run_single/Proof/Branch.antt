@@ -5,6 +5,7 @@ use mathlib.Core.Path.{sym, _∙_}
 use borrow.Author.Needs.{needs}
 use Rattle.rules.specs.Nodes.{numberAt}
 use Rattle.rules.specs.declared.{Test.Test}
+use Rattle.evaluation.specs.State.{variablesOf}
 use Rattle.watched_statements.specs.Watching.{lent}
 use Rattle.watched_statements.proofs.Laws.{ran-is, ran-ended}
 use Rattle.watched_statements.proofs.ReadyLaws.{ready-within, branch-parts, ready-then, ready-else}
@@ -16,10 +17,10 @@ use Rattle.watched_runs.proofs.+branch+enclose+repeat+run+run_inside+ru
 
 module _ (t : ℕ) where
   child-b-requires : branch-lts.Need-child-b-requires (branch-claims t) (branch-at t) branch.Post
-  child-b-requires c κs = ready-within _ _ _ _ (c .before .pre .1 .0)
+  child-b-requires c κs = ready-within (c .before .pre .1 .0)
 
   child-c-requires : branch-lts.Need-child-c-requires (branch-claims t) (branch-at t) branch.Post
-  child-c-requires c κs = ready-within _ _ _ _ (c .before .before .before .pre .1 .0)
+  child-c-requires c κs = ready-within (c .before .before .before .pre .1 .0)
 
   test-requires : branch-lts.Need-test-requires (branch-claims t) (branch-at t) branch.Post
   test-requires c κs =
@@ -36,7 +37,7 @@ module _ (t : ℕ) where
       let s = after-child-b .before .before in
       let h = s .pre .1 in
       rw (after-child-b .child-b .ensures)
-      (omega (arith, branch-parts _ _ _ _ (h .0) (h .1) .0 .1, s .pre .0), (ready-then _ _ _ _ (h .0) (h .1), h .2))
+      (omega (arith, branch-parts (h .0) (h .1) .0 .1, s .pre .0), (ready-then (h .0) (h .1), h .2))
 
   enum-told-2 : branch-lts.Need-enum-told-2 (branch-claims t) (branch-at t) branch.Post
   enum-told-2 c = search needs
@@ -47,7 +48,7 @@ module _ (t : ℕ) where
       let s = after-child-c .before .before .before .before in
       let h = s .pre .1 in
       rw (after-child-c .child-c .ensures)
-      (omega (arith, branch-parts _ _ _ _ (h .0) (h .1) .1 .1, s .pre .0), (ready-else _ _ _ _ (h .0) (h .1), h .2))
+      (omega (arith, branch-parts (h .0) (h .1) .1 .1, s .pre .0), (ready-else (h .0) (h .1), h .2))
 
   enum-known-k : branch-lts.Need-enum-known-k (branch-claims t) (branch-at t) branch.Post
   enum-known-k c = search needs
@@ -63,7 +64,8 @@ module _ (t : ℕ) where
       let after-child-b = after-test .before .before .before .before .before in
       let s = after-child-b .before .before in (
         ran-is
-            (branch-by (s .pre .1 .0) (s .pre .1 .1) (s .args .fuel) Test.Yes
+            (branch-by (variablesOf (s .args .variables .now)) (s .pre .1 .0) (s .pre .1 .1)
+            (lent (s .args .mem .now) (s .args .obs .now) (s .args .temporaries .now)) (s .args .fuel) Test.Yes
             (sym (after-test .test .ensures) ∙ after-enum-told .enum-told .given .1))
             (rw (after-child-b .child-b .ensures) at (c .run .ensures .0)),
         c .run .ensures .1,
@@ -76,7 +78,8 @@ module _ (t : ℕ) where
       let after-child-c = after-test .before .before .before in
       let s = after-child-c .before .before .before .before in (
         ran-is
-            (branch-by (s .pre .1 .0) (s .pre .1 .1) (s .args .fuel) Test.No
+            (branch-by (variablesOf (s .args .variables .now)) (s .pre .1 .0) (s .pre .1 .1)
+            (lent (s .args .mem .now) (s .args .obs .now) (s .args .temporaries .now)) (s .args .fuel) Test.No
             (sym (after-test .test .ensures) ∙ after-enum-told2 .enum-told2 .given .1))
             (rw (after-child-c .child-c .ensures) at (c .run2 .ensures .0)),
         c .run2 .ensures .1,
@@ -91,7 +94,7 @@ module _ (t : ℕ) where
       let k = after-k .k .given .0 .0 in (
         rw (c .statement-of .ensures)
             (ran-is
-            (branch-by (s .pre .1 .0) (s .pre .1 .1) (s .args .fuel) (Test.Stopped k)
+            (branch-by (variablesOf (s .args .variables .now)) (s .pre .1 .0) (s .pre .1 .1) x (s .args .fuel) (Test.Stopped k)
             (sym (after-test .test .ensures) ∙ after-k .k .given .1))
             (ran-ended x k (numberAt (s .args .table .now) (s .args .n)) (s .args .fuel))),
         s .pre .1 .2,

@@ -3,8 +3,10 @@ use Prim.Native.Nat.{ℕ}
 use native.Mathlib.Omega.{arith}
 use mathlib.Core.Path.{sym, _∙_}
 use borrow.Author.Needs.{needs}
+use Rattle.evaluation.specs.State.{variablesOf}
+use Rattle.watched_statements.specs.Watching.{lent}
 use Rattle.watched_statements.proofs.Laws.{kept-memory, ran-is, ran-from}
-use Rattle.watched_statements.proofs.ReadyLaws.{ready-made}
+use Rattle.watched_statements.proofs.ReadyLaws.{ready-inside}
 use Rattle.watched_runs.proofs.MemberLaws.{let-made, let-unmade}
 use Rattle.watched_runs.proofs.enclose.Reads as enclose
 use Rattle.watched_runs.proofs.+branch+enclose+repeat+run+run_inside+run_single.Lts-enclose as enclose-lts
@@ -25,8 +27,7 @@ module _ (t : ℕ) where
       let s = after-make .before .before .before in (
         omega (arith, s .pre .0),
         (
-          ready-made _ _ _ _ (s .pre .1 .0) (s .pre .1 .1) _ _ (after-make .make .ensures .1 .0)
-              (sym (after-k .k .given .1) ∙ after-make .make .ensures .0),
+          ready-inside (s .pre .1 .0) (s .pre .1 .1),
           record { counted = after-make .make .ensures .1 .1; owned = s .pre .1 .2 .owned },
         ),
       )
@@ -43,7 +44,8 @@ module _ (t : ℕ) where
       let after-make = after-k .before .before in
       let s = after-make .before .before .before in (
         ran-is
-            (let-made (s .pre .1 .0) (s .pre .1 .1) (after-make .make .ensures .1 .0) (s .args .fuel)
+            (let-made (variablesOf (s .args .variables .now)) (s .pre .1 .0)
+            (lent (s .args .mem .now) (s .args .obs .now) (s .args .temporaries .now)) (s .pre .1 .1) (after-make .make .ensures .1 .0) (s .args .fuel)
             (sym (after-k .k .given .1) ∙ after-make .make .ensures .0))
             (ran-from (kept-memory _ _ (after-make .make .ensures .1 .0)) (c .run-inside .ensures .0)),
         c .run-inside .ensures .1,
@@ -55,7 +57,8 @@ module _ (t : ℕ) where
       let after-make = after-c .before .before in
       let s = after-make .before .before .before in (
         rw (c .statement-of .ensures)
-            (let-unmade (s .pre .1 .0) (s .pre .1 .1) (after-make .make .ensures .1 .0) (s .args .fuel)
+            (let-unmade (variablesOf (s .args .variables .now)) (s .pre .1 .0)
+            (lent (s .args .mem .now) (s .args .obs .now) (s .args .temporaries .now)) (s .pre .1 .1) (after-make .make .ensures .1 .0) (s .args .fuel)
             (after-c .c .given .0 .0) (sym (after-c .c .given .1) ∙ after-make .make .ensures .0)),
         record { counted = after-make .make .ensures .1 .1; owned = s .pre .1 .2 .owned },
       )

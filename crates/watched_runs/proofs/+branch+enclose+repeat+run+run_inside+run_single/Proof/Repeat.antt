@@ -9,8 +9,8 @@ use Rattle.rules.specs.declared.{Test.Test}
 use Rattle.evaluation.specs.State.{variablesOf}
 use Rattle.watched_statements.specs.Watching.{lent, Beside}
 use Rattle.watched_statements.proofs.Laws.{kept-same, ran-is, ran-from, ran-finished, ran-ended}
-use Rattle.watched_statements.proofs.ReadyLaws.{ready-within, ready-turn}
-use Rattle.watched_runs.proofs.MemberLaws.{while-parts, turn-by, turn-out, Remaining}
+use Rattle.watched_statements.proofs.ReadyLaws.{ready-within, while-parts, ready-turn}
+use Rattle.watched_runs.proofs.MemberLaws.{turn-by, turn-out, Remaining}
 use Rattle.watched_runs.proofs.MemberLaws.{Part, part-ends, part-finishes, part-spends}
 use Rattle.watched_runs.proofs.repeat.Reads as repeat
 use Rattle.watched_runs.proofs.+branch+enclose+repeat+run+run_inside+run_single.Lts-repeat as repeat-lts
@@ -28,12 +28,11 @@ abbrev μ-loop : repeat-lts.MeasureT-loop
 
 module _ (t : ℕ) where
   child-b-requires : repeat-lts.Need-child-b-requires (repeat-claims t) (repeat-at t) repeat.Post Inv-loop μ-loop
-  child-b-requires c κs = ready-within _ _ _ _ (c .before .pre .1 .0)
+  child-b-requires c κs = ready-within (c .before .pre .1 .0)
 
   loop-holds : repeat-lts.Need-loop-holds (repeat-claims t) (repeat-at t) repeat.Post Inv-loop μ-loop
   loop-holds c =
-      let h = c .before .before .pre .1 in
-      (record { rest = refl; bytes = kept-same _; fits = h .0 .fits }, h .2)
+      (record { rest = refl; bytes = kept-same _ }, c .before .before .pre .1 .2)
 
   sub-left : repeat-lts.Need-sub-left (repeat-claims t) (repeat-at t) repeat.Post Inv-loop μ-loop
   sub-left c = omega (arith, c .loop-test .taken)
@@ -41,7 +40,7 @@ module _ (t : ℕ) where
   test-a-requires : repeat-lts.Need-test-a-requires (repeat-claims t) (repeat-at t) repeat.Post Inv-loop μ-loop
   test-a-requires c κs =
       let h = c .before .before .before .before .before .before .pre .1 in
-      (ready-within _ _ _ _ (h .0), while-parts (h .0) (h .1) .0 .2)
+      (ready-within (h .0), while-parts (h .0) (h .1) .0 .2)
 
   enum-told : repeat-lts.Need-enum-told (repeat-claims t) (repeat-at t) repeat.Post Inv-loop μ-loop
   enum-told c = search needs
@@ -54,7 +53,7 @@ module _ (t : ℕ) where
       let h = s .pre .1 in
       rw (after-child-b .child-b .ensures) (
         omega (arith, while-parts (h .0) (h .1) .1 .1, s .pre .0),
-        (ready-turn _ _ _ _ (h .0) (h .1) _ (after-loop .loop .inv .0 .fits), after-loop .loop .inv .1),
+        (ready-turn (h .0) (h .1), after-loop .loop .inv .1),
       )
 
   -- a turn whose condition is true, where its child ran
@@ -75,13 +74,14 @@ module _ (t : ℕ) where
       let after-loop-test = after-test-a .before .before .before in
       let after-child-b = after-loop-test .before .before in
       let loop = after-loop-test .before .loop in
-      let h = after-child-b .before .before .pre .1 in
+      let s = after-child-b .before .before in
+      let h = s .pre .1 in
       record {
         earlier = loop .inv .0;
         ran = rw (after-child-b .child-b .ensures) at (c .run .ensures .0);
         leads =
-            turn-by (h .0) (h .1) (lent (loop .mem) (loop .obs) (loop .temporaries)) (loop .left)
-            (after-loop-test .loop-test .taken) Test.Yes
+            turn-by (variablesOf (s .args .variables .now)) (h .0) (h .1) (lent (loop .mem) (loop .obs) (loop .temporaries))
+            (loop .left) (after-loop-test .loop-test .taken) Test.Yes
             (sym (after-test-a .test-a .ensures) ∙ after-enum-told .enum-told .given .1);
       }
 
@@ -96,13 +96,7 @@ module _ (t : ℕ) where
 
   loop-again : repeat-lts.Need-loop-again (repeat-claims t) (repeat-at t) repeat.Post Inv-loop μ-loop
   loop-again c =
-      let after-test-a = c .before .before .before .before .before .before .before .before .before .before in
-      let after-loop = after-test-a .before .before .before .before in
-      let h = after-loop .before .before .before .pre .1 in (
-        part-finishes (turn (c .before .before)) (c .if1 .left)
-            (ready-turn _ _ _ _ (h .0) (h .1) _ (after-loop .loop .inv .0 .fits)),
-        c .before .before .run .ensures .1,
-      )
+      (part-finishes (turn (c .before .before)) (c .if1 .left), c .before .before .run .ensures .1)
 
   enum-told-2 : repeat-lts.Need-enum-told-2 (repeat-claims t) (repeat-at t) repeat.Post Inv-loop μ-loop
   enum-told-2 c = search needs
@@ -112,11 +106,13 @@ module _ (t : ℕ) where
       let after-test-a = c .before .before in
       let after-loop-test = after-test-a .before .before .before in
       let loop = after-loop-test .before .loop in
-      let h = after-loop-test .before .before .before .before .pre .1 in
+      let s = after-loop-test .before .before .before .before in
+      let h = s .pre .1 in
       let y = lent (loop .mem) (loop .obs) (loop .temporaries) in (
         ran-is
             (loop .inv .0 .rest
-            ∙ turn-by (h .0) (h .1) y (loop .left) (after-loop-test .loop-test .taken) Test.No
+            ∙ turn-by (variablesOf (s .args .variables .now)) (h .0) (h .1) y (loop .left) (after-loop-test .loop-test .taken)
+            Test.No
             (sym (after-test-a .test-a .ensures) ∙ c .enum-told2 .given .1))
             (ran-from (loop .inv .0 .bytes) (ran-finished y (loop .left - 1))),
         loop .inv .1,
@@ -142,7 +138,8 @@ module _ (t : ℕ) where
         rw (c .statement-of .ensures)
             (ran-is
             (loop .inv .0 .rest
-            ∙ turn-by (s .pre .1 .0) (s .pre .1 .1) y (loop .left) (after-loop-test .loop-test .taken) (Test.Stopped k)
+            ∙ turn-by (variablesOf (s .args .variables .now)) (s .pre .1 .0) (s .pre .1 .1) y (loop .left)
+            (after-loop-test .loop-test .taken) (Test.Stopped k)
             (sym (after-test-a .test-a .ensures) ∙ after-k .k .given .1))
             (ran-from (loop .inv .0 .bytes)
             (ran-ended y k (numberAt (s .args .table .now) (s .args .n)) (loop .left - 1)))),
@@ -160,7 +157,8 @@ module _ (t : ℕ) where
       let y = lent (loop .mem) (loop .obs) (loop .temporaries) in (
         rw (c .statement-of2 .ensures)
             (ran-is
-            (loop .inv .0 .rest ∙ turn-out (s .pre .1 .0) (s .pre .1 .1) y (loop .left) (c .before .loop-test .left))
+            (loop .inv .0 .rest
+            ∙ turn-out (variablesOf (s .args .variables .now)) (s .pre .1 .0) (s .pre .1 .1) y (loop .left) (c .before .loop-test .left))
             (ran-from (loop .inv .0 .bytes) (ran-ended y 32 (numberAt (s .args .table .now) (s .args .n)) 0))),
         loop .inv .1,
       )

@@ -6,8 +6,8 @@ use Rattle.rules.specs.Records.{childA, childB}
 use Rattle.evaluation.specs.State.{variablesOf}
 use Rattle.watched_statements.specs.Watching.{lent, Beside, Ready}
 use Rattle.watched_statements.proofs.Laws.{kept-same, ran-is, ran-from}
-use Rattle.watched_statements.proofs.ReadyLaws.{ready-within, ready-first, ready-later}
-use Rattle.watched_runs.proofs.MemberLaws.{sequence-parts, sequence-by, Remaining, Part, part-ends}
+use Rattle.watched_statements.proofs.ReadyLaws.{ready-within, sequence-parts, ready-first, ready-second}
+use Rattle.watched_runs.proofs.MemberLaws.{sequence-by, Remaining, Part, part-ends}
 use Rattle.watched_runs.proofs.MemberLaws.{part-finishes}
 use Rattle.watched_runs.proofs.run.Reads as run
 use Rattle.watched_runs.proofs.+branch+enclose+repeat+run+run_inside+run_single.Lts-run as run-lts
@@ -18,7 +18,7 @@ Inv-loop table n variables temporaries₀ mem₀ obs₀ owners₀ counts₀ fuel
     temporaries mem obs owners counts at left =
     let y = lent mem obs temporaries in
     Remaining table n (variablesOf variables) (lent mem₀ obs₀ temporaries₀) fuel at y left
-    × Ready table at (variablesOf variables) y × (at ≤ n) × Beside mem obs counts owners
+    × Ready table at × (at ≤ n) × Beside mem obs counts owners
 
 abbrev μ-loop : run-lts.MeasureT-loop
 μ-loop table n variables temporaries₀ mem₀ obs₀ owners₀ counts₀ fuel at₀ left₀
@@ -28,13 +28,13 @@ module _ (t : ℕ) where
   loop-holds : run-lts.Need-loop-holds (run-claims t) (run-at t) run.Post Inv-loop μ-loop
   loop-holds c =
       let h = c .pre .1 in
-      (record { rest = refl; bytes = kept-same _; fits = h .0 .fits }, h .0, omega arith, h .1)
+      (record { rest = refl; bytes = kept-same _ }, h .0, omega arith, h .1)
 
   kind-requires : run-lts.Need-kind-requires (run-claims t) (run-at t) run.Post Inv-loop μ-loop
-  kind-requires c κs = ready-within _ _ _ _ (c .before .loop .inv .1)
+  kind-requires c κs = ready-within (c .before .loop .inv .1)
 
   child-a-requires : run-lts.Need-child-a-requires (run-claims t) (run-at t) run.Post Inv-loop μ-loop
-  child-a-requires c κs = ready-within _ _ _ _ (c .before .before .before .before .loop .inv .1)
+  child-a-requires c κs = ready-within (c .before .before .before .before .loop .inv .1)
 
   run-requires : run-lts.Need-run-requires (run-claims t) (run-at t) run.Post Inv-loop μ-loop
   run-requires c κs =
@@ -46,7 +46,7 @@ module _ (t : ℕ) where
       let q = sym (after-kind .kind .ensures) ∙ after-if1 .if1 .taken in
       rw (after-child-a .child-a .ensures) (
         omega (arith, sequence-parts h q .0 .1, after-loop .loop .inv .2, after-loop .before .pre .0),
-        (ready-first _ _ _ _ h q, after-loop .loop .inv .3),
+        (ready-first h q, after-loop .loop .inv .3),
       )
 
   -- a sequence whose first child ran
@@ -71,7 +71,7 @@ module _ (t : ℕ) where
         earlier = loop .inv .0;
         ran = rw (after-child-a .child-a .ensures) at (c .run .ensures .0);
         leads =
-            sequence-by (loop .inv .1) (sym (after-kind .kind .ensures) ∙ after-if1 .if1 .taken)
+            sequence-by (variablesOf (s .args .variables .now)) (loop .inv .1) (sym (after-kind .kind .ensures) ∙ after-if1 .if1 .taken)
             (lent (loop .mem) (loop .obs) (loop .temporaries)) (loop .left);
       }
 
@@ -81,7 +81,7 @@ module _ (t : ℕ) where
   child-b-requires : run-lts.Need-child-b-requires (run-claims t) (run-at t) run.Post Inv-loop μ-loop
   child-b-requires c κs =
       let after-run = c .before .before .before in
-      ready-within _ _ _ _
+      ready-within
       (after-run .before .before .before .before .before .before .before .before .before .before .before .loop .inv .1)
 
   loop-less : run-lts.Need-loop-less (run-claims t) (run-at t) run.Post Inv-loop μ-loop
@@ -101,8 +101,8 @@ module _ (t : ℕ) where
       let h = after-loop .loop .inv .1 in
       let q = sym (after-kind .kind .ensures) ∙ after-if1 .if1 .taken in
       rw (c .child-b .ensures) (
-        part-finishes (first after-run) (c .before .before .if2 .left) (ready-first _ _ _ _ h q),
-        ready-later _ _ _ (after-loop .loop .left) _ _ _ h q (first after-run .ran),
+        part-finishes (first after-run) (c .before .before .if2 .left),
+        ready-second h q,
         omega (arith, sequence-parts h q .1 .1, after-loop .loop .inv .2),
         after-run .run .ensures .1,
       )

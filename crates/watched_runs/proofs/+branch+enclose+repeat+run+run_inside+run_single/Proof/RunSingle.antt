@@ -11,7 +11,7 @@ use Rattle.watched_runs.proofs.+branch+enclose+repeat+run+run_inside+ru
 
 module _ (t : ℕ) where
   kind-requires : run-single-lts.Need-kind-requires (run-single-claims t) (run-single-at t) run-single.Post
-  kind-requires c κs = ready-within _ _ _ _ (c .before .pre .1 .0)
+  kind-requires c κs = ready-within (c .before .pre .1 .0)
 
   branch-requires : run-single-lts.Need-branch-requires (run-single-claims t) (run-single-at t) run-single.Post
   branch-requires c κs =

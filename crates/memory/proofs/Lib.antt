@@ -1,2 +1,0 @@
--- Facts about pointers into the execution memory.
-pub mod Names
