@@ -21,11 +21,7 @@ pub fn lowest_taken(first: usize, n: usize, lowest: usize) -> usize
     requires { ⌜ first + n < 2 ^ 32 ⌝ }
     ensures { λ r. ⌜ r ≡ lowestTaken first n lowest ⌝ }
 {
-    if first == lowest {
-        first + n
-    } else {
-        lowest
-    }
+    if first == lowest { first + n } else { lowest }
 }
 
 // The same once those from first on are given back.

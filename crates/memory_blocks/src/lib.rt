@@ -13,11 +13,9 @@ ghost use Rattle.memory_blocks.specs.Blocks.{makingOf, madeMemory, useOf
 use rules::BLOCKS_LENGTH;
 use rules::Block;
 use rules::CELL_COUNT;
-use rules::Cell;
 use rules::Counts;
 use rules::ExecutionMemory;
 use rules::Search;
-use rules::Value;
 
 // What making a block answers: its name, or the number of the ending.
 pub enum Making {
@@ -92,7 +90,7 @@ fn place(mem: &mut ExecutionMemory, freeable: bool, k: u16, first: u16, n: u16)
     ensures { λ _. ⌜ Becomes (now (mem .entry)) (now (mem .exit))
         (withBlock (memoryOf (now (mem .entry))) (useOf freeable) k first n) ⌝ }
 {
-    memory_cell_fills::fill(mem, first, n, Cell::Holds(k, Value::Undefined));
+    memory_cell_fills::fill_undefined(mem, first, n, k);
     memory_block_changes::put_block(mem, k, live(freeable, first, n));
 }
 

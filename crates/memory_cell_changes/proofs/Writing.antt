@@ -5,7 +5,7 @@ use native.Mathlib.Omega.{arith}
 use mathlib.Core.Path.{_≡_, refl, sym, ap, ap₂, _∙_, subst}
 use mathlib.Core.Logic.{_≢_, _⊎_, inl, inr, ⊎-elim}
 use mathlib.Core.List.{List, [], _∷_, _++_}
-use lib.IntN.{ℤ}
+use lib.IntN.{pos}
 use lib.ListN.{length, getD, set}
 use lib.Seq.{set-out}
 use mir.Syntax.{w64}
@@ -14,6 +14,7 @@ use Rattle.rules.specs.Sizes.{nameCount, cellCount, memoryLength}
 use Rattle.rules.specs.Words.{little, digits, part, put, wordAt, integerAt}
 use Rattle.rules.specs.Memory.{Memory, setCell, setNamed}
 use Rattle.rules.specs.Layout.{memoryOf, memoryImage, blockBytes, cellBytes, blockPlace, cellPlace, blockAt, cellAt}
+use Rattle.rules.specs.Layout.{cellFrom, nameLimit}
 use Rattle.rules.proofs.lists.WordLaws.{part-put-in, getD-put-in, getD-put-apart}
 use Rattle.rules.proofs.lists.WordLaws.{word-put-apart, fits-range}
 use Rattle.rules.proofs.lists.Rows.{tabulate-same, tabulate-set}
@@ -142,6 +143,13 @@ fits-cell Cell.Free h = tt
 fits-cell (Cell.Holds o Value.Undefined) h = h
 fits-cell (Cell.Holds o (Value.Integer z)) h = (h .0, fits-range z (h .1))
 fits-cell (Cell.Holds o (Value.Pointer p)) h = (h .0, (h .1 .0, fits-range (p .offset) (h .1 .1)))
+
+-- a cell without a value, by its kind
+pub without-value-held : (k o : ℕ) → o < nameLimit → CellHeld (cellFrom k o 0 (pos 0))
+without-value-held zero o h = tt
+without-value-held (suc zero) o h = (h, tt)
+without-value-held (suc (suc zero)) o h = (h, record { sfits = omega arith })
+without-value-held (suc (suc (suc k))) o h = (h, (omega arith, record { sfits = omega arith }))
 
 fits-block : (b : Block) → BlockHeld b → FitsBlock b
 fits-block Block.Unused h = tt

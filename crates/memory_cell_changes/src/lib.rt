@@ -1,10 +1,11 @@
 // The execution memory's cells, written in their bytes, and all of its bytes cleared.
 ghost use mathlib.Core.Path.{_≡_};
 ghost use Prim.Native.Nat.{_+_, _*_, _<_};
+ghost use lib.IntN.{pos};
 ghost use lib.ListN.{length, replicate};
 ghost use Rattle.rules.specs.Sizes.{cellCount, memoryLength};
 ghost use Rattle.rules.specs.Memory.{setCell};
-ghost use Rattle.rules.specs.Layout.{memoryOf, memoryImage, cellPlace, cellRecord, cellBytes};
+ghost use Rattle.rules.specs.Layout.{memoryOf, memoryImage, cellPlace, cellRecord, cellBytes, cellFrom};
 ghost use Rattle.rules.specs.Words.{put};
 ghost use Rattle.memory_cells.specs.Changes.{Becomes, emptyMemory, CellHeld};
 use rules::BLOCKS_LENGTH;
@@ -47,6 +48,17 @@ pub fn put_cell(mem: &mut ExecutionMemory, i: usize, c: Cell)
 {
     if i < CELL_COUNT {
         write_cell(mem, i, c);
+    }
+}
+
+// Cell i, where there is one, becomes a cell without a value, undefined or free, as its kind says.
+pub fn put_without_value(mem: &mut ExecutionMemory, i: usize, kind: u8, owner: u16)
+    requires { ⌜ cellBytes (cellFrom kind owner 0 (pos 0)) ≡ cellRecord kind owner 0 (pos 0) ⌝ }
+    ensures { λ _. ⌜ Becomes (now (mem .entry)) (now (mem .exit))
+        (setCell (memoryOf (now (mem .entry))) i (cellFrom kind owner 0 (pos 0))) ⌝ }
+{
+    if i < CELL_COUNT {
+        write_parts(mem, i, kind, owner, 0, 0);
     }
 }
 

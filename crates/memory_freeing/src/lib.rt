@@ -6,7 +6,6 @@ ghost use Rattle.rules.specs.declared.{Recorded.Recorded};
 ghost use Rattle.memory_counts.specs.Counted.{Counted};
 ghost use Rattle.memory_cells.specs.Changes.{Becomes, changeNumber, changeMemory};
 use rules::Block;
-use rules::Cell;
 use rules::Counts;
 use rules::ExecutionMemory;
 use rules::Pointer;
@@ -19,7 +18,7 @@ fn release(mem: &mut ExecutionMemory, counts: &mut Counts, name: u16, first: u16
         (withoutCells (memoryOf (now (mem .entry))) name (Recorded.Live first n)) ⌝ }
     ensures counts { λ _. ⌜ Counted (memoryOf (now (mem .exit))) (now (counts .exit)) ⌝ }
 {
-    memory_cell_fills::fill(mem, first, n, Cell::Free);
+    memory_cell_fills::fill_free(mem, first, n);
     memory_block_changes::put_block(mem, name, Block::Dead);
     memory_counts::give_back(counts, first as usize, n as usize);
 }

@@ -22,6 +22,8 @@ use Rattle.memory_blocks.specs.Blocks.{makingOf, madeMemory}
 use Rattle.memory_blocks.specs.declared.Making.the-variants as making
 use Rattle.run_endings.specs.declared.Ended.{Ended}
 use Rattle.run_endings.specs.Ending.{result}
+use Rattle.run_children.specs.Children.{firstOf, restOf}
+use Rattle.run_children.proofs.Sequences.{first-is, rest-is}
 use Rattle.plain_runs.specs.Running.{Ready, enclosed, EndsSo, Ran}
 use Rattle.run_changes.proofs.ChangeLaws.{becomes-same, becomes-is, becomes-then, made-by, unmade-by}
 use Rattle.plain_runs.proofs.Laws.{ran-is, run-finished, next-goes, next-stays}
@@ -78,13 +80,19 @@ module _ {t : List ℕ} {n : ℕ} (ρ : Variables) (h : Ready t n) where
       ap (λ (g : ℕ). ending (run (statementAt t n) ρ m₁ g)) d ∙ ap ending (run-while-zero t n (h .is) q ρ m₁)
 
   -- a sequence
-  pub sequence-by : kindOf t n ≡ 44 → (m₁ : Memory) (f : ℕ)
+  sequence-by : kindOf t n ≡ 44 → (m₁ : Memory) (f : ℕ)
       → ending (run (statementAt t n) ρ m₁ f)
       ≡ ending (next (run (statementAt t (childA t n)) ρ m₁ f) (λ m₂ f₁. run (statementAt t (childB t n)) ρ m₂ f₁))
   sequence-by q m₁ f =
       ap ending (run-sequence t n (h .is) ρ m₁ f q)
       ∙ next-ending 0 (run (statementAt t (childA t n)) ρ m₁ f) _ _
       (λ m₂ f₁. into-ending 1 (run (statementAt t (childB t n)) ρ m₂ f₁))
+
+  -- by what it runs first and then
+  pub run-first-then : kindOf t n ≡ 44 → (m₁ : Memory) (f : ℕ)
+      → ending (run (statementAt t n) ρ m₁ f)
+      ≡ ending (next (run (statementAt t (firstOf t n)) ρ m₁ f) (λ m₂ f₁. run (statementAt t (restOf t n)) ρ m₂ f₁))
+  run-first-then q m₁ f = rw (first-is t n q, rest-is t n q) (sequence-by q m₁ f)
 
 -- a let, and its block, made in memory l
 module _ {t : List ℕ} {n : ℕ} (ρ : Variables) {l l₁ : List ℕ} (h : Ready t n) (q : kindOf t n ≡ 47)

@@ -1,8 +1,8 @@
 -- A statement that may run: so may its parts.
-use Prim.Native.Nat.{ℕ}
+use Prim.Native.Nat.{ℕ, _≤_, _<_}
 use native.Mathlib.Omega.{arith}
 use mathlib.Core.List.{List}
-use mathlib.Core.Path.{_≡_, refl, subst}
+use mathlib.Core.Path.{_≡_, refl, sym, subst}
 use mir.Syntax.{w32}
 use mir.Val.{Fits}
 use Rattle.rules.specs.Kinds.{source, expression, statement}
@@ -18,6 +18,8 @@ use Rattle.rules.proofs.runs.StatementArms.{let-child, sound-sequence, sound-br
 use Rattle.rules.proofs.runs.StatementArms.{sound-let}
 use Rattle.rules.proofs.runs.PlainArms.{Under}
 use Rattle.table.specs.Within.{Within}
+use Rattle.run_children.specs.Children.{firstOf, restOf}
+use Rattle.run_children.proofs.Sequences.{rest-is, first-by, first-within, first-smaller, rest-smaller, first-alone}
 use Rattle.plain_runs.specs.Running.{Ready, Inside}
 
 module _ {t : List ℕ} {n : ℕ} (r : Ready t n) where
@@ -67,6 +69,28 @@ module _ {t : List ℕ} {n : ℕ} (r : Ready t n) where
   pub ready-second : kindOf t n ≡ 44 → Ready t (childB t n)
   ready-second e =
       ready-part (childB t n) (sequence-parts e .1) (sound-sequence source t n (r .is) (r .scope) (r .sound) e .1)
+
+  -- what it runs first and then
+  pub ready-run-first : Ready t (firstOf t n)
+  ready-run-first = first-by t n (Ready t) ready-first (λ d. r)
+
+  pub ready-run-then : kindOf t n ≡ 44 → Ready t (restOf t n)
+  ready-run-then q = subst (Ready t) (sym (rest-is t n q)) (ready-second q)
+
+  sequence-numbers : kindOf t n ≡ 44 → (1 ≤ childB t n) × (childB t n < n)
+  sequence-numbers q = (sequence-parts q .1 .0, sequence-parts q .1 .1)
+
+  pub run-first-within : firstOf t n ≤ n
+  run-first-within = first-within t n (λ q. sequence-parts q .0 .1) sequence-numbers
+
+  pub run-first-smaller : kindOf t n ≡ 44 → firstOf t n < n
+  run-first-smaller = first-smaller t n (λ q. sequence-parts q .0 .1) sequence-numbers
+
+  pub run-then-smaller : kindOf t n ≡ 44 → restOf t n < n
+  run-then-smaller = rest-smaller t n (λ q. sequence-parts q .0 .1) sequence-numbers
+
+  pub run-first-alone : restOf t n ≡ 0 → firstOf t n ≡ n
+  run-first-alone = first-alone t n (λ q. sequence-parts q .0 .1) sequence-numbers
 
   pub ready-then : kindOf t n ≡ 45 → Ready t (childB t n)
   ready-then e =

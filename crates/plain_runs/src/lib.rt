@@ -131,7 +131,8 @@ fn assert(
     run_endings::conclude(run_endings::assert_number(t), n as u32, fuel)
 }
 
-// Runs statement n. Of a sequence A runs, and B where A finished; as B may be one again, they are a loop.
+// Runs statement n. Of a sequence A runs, and B where A finished; as B may be one again, they are a loop. Only an A that
+// is a sequence is run by a call of its own.
 pub fn run(
     table: &Table,
     n: usize,
@@ -149,16 +150,27 @@ pub fn run(
 {
     let mut at = n;
     let mut left = fuel;
-    while table::kind(&table[..], at) == 44 {
-        let first = table::child_a(&table[..], at);
-        let r = run(table, first, variables, temporaries, mem, counts, left);
-        if r.number != 0 {
-            return r;
+    loop {
+        let rest = run_children::rest_of(table, at);
+        let first = run_children::first_of(table, at);
+        if table::kind(&table[..], first) == 44 {
+            let r = run(table, first, variables, temporaries, mem, counts, left);
+            if r.number != 0 {
+                return r;
+            }
+            left = r.fuel;
+        } else {
+            let r = run_single(table, first, variables, temporaries, mem, counts, left);
+            if rest == 0 {
+                return r;
+            }
+            if r.number != 0 {
+                return r;
+            }
+            left = r.fuel;
         }
-        left = r.fuel;
-        at = table::child_b(&table[..], at);
+        at = rest;
     }
-    run_single(table, at, variables, temporaries, mem, counts, left)
 }
 
 // Runs statement n, which is no sequence.
@@ -308,7 +320,7 @@ fn enclose(
     ensures counts { λ _. ⌜ Counted (memoryOf (now (mem .exit))) (now (counts .exit)) ⌝ }
 {
     match memory_blocks::make(mem, counts, false, 1) {
-        Making::Name(k) => run_inside(table, n, variables, temporaries, mem, counts, fuel, k),
+        Making::Name(k) => run_inside(table, n, *variables, temporaries, mem, counts, fuel, k),
         Making::Stopped(c) => Ended {
             number: c,
             statement: n as u32,
@@ -321,7 +333,7 @@ fn enclose(
 fn run_inside(
     table: &Table,
     n: usize,
-    variables: &Variables,
+    variables: Variables,
     temporaries: &Temporaries,
     mem: &mut ExecutionMemory,
     counts: &mut Counts,
@@ -330,11 +342,13 @@ fn run_inside(
 ) -> Ended
     requires { ⌜ Inside (now table) n
         × Counted (memoryOf (now mem)) (now counts) ⌝ }
-    ensures outcome { λ r. ⌜ Ran (enclosed (now (table .entry)) n (variablesOf (now (variables .entry)))
+    ensures outcome { λ r. ⌜ Ran (enclosed (now (table .entry)) n (variablesOf variables)
         (memoryOf (now (mem .entry))) fuel k) r (now (mem .entry)) (now (mem .exit)) ⌝ }
     ensures counts { λ _. ⌜ Counted (memoryOf (now (mem .exit))) (now (counts .exit)) ⌝ }
 {
-    let inner = run_variables::name_variable(*variables, table::mark(&table[..], n) as usize, k);
+    let v = table::mark(&table[..], n) as usize;
+    let mut inner = variables;
+    inner[v] = k;
     let r = run(
         table,
         table::child_a(&table[..], n),

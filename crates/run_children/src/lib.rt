@@ -1,11 +1,11 @@
-// A statement's place, values and condition, which are its children.
+// A statement's place, values, condition and parts, which are its children.
 ghost use mathlib.Core.Path.{_≡_};
 ghost use Rattle.rules.specs.Records.{childA, childB};
 ghost use Rattle.rules.specs.Kinds.{target, sortNumber, expression, place};
 ghost use Rattle.rules.specs.Nodes.{sortOfNode, nodeAt};
 ghost use Rattle.rules.specs.Evaluation.{condition};
 ghost use Rattle.table.specs.Within.{Within};
-ghost use Rattle.run_children.specs.Children.{foundIn, valueIn};
+ghost use Rattle.run_children.specs.Children.{foundIn, valueIn, firstOf, restOf};
 use rules::Evaluated;
 use rules::ExecutionMemory;
 use rules::Found;
@@ -45,7 +45,7 @@ pub fn evaluate_a(
         (now (variables .entry)) (now (temporaries .entry)) (now (mem .entry)) ⌝ }
 {
     let first = table::child_a(&table[..], n);
-    evaluation::evaluate(table, first, variables, temporaries, mem)
+    evaluation::evaluate_operand(table, first, variables, temporaries, mem)
 }
 
 pub fn evaluate_b(
@@ -61,7 +61,7 @@ pub fn evaluate_b(
         (now (variables .entry)) (now (temporaries .entry)) (now (mem .entry)) ⌝ }
 {
     let second = table::child_b(&table[..], n);
-    evaluation::evaluate(table, second, variables, temporaries, mem)
+    evaluation::evaluate_operand(table, second, variables, temporaries, mem)
 }
 
 // What condition A says.
@@ -79,4 +79,28 @@ pub fn test_a(
 {
     let e = evaluate_a(table, n, variables, temporaries, mem);
     value::test(e)
+}
+
+// What statement n runs first: A of a sequence, else itself.
+pub fn first_of(table: &Table, n: usize) -> usize
+    requires { ⌜ Within (now table) n ⌝ }
+    ensures { λ r. ⌜ r ≡ firstOf (now (table .entry)) n ⌝ }
+{
+    if table::kind(&table[..], n) == 44 {
+        table::child_a(&table[..], n)
+    } else {
+        n
+    }
+}
+
+// What it runs then: B of a sequence, else 0.
+pub fn rest_of(table: &Table, n: usize) -> usize
+    requires { ⌜ Within (now table) n ⌝ }
+    ensures { λ r. ⌜ r ≡ restOf (now (table .entry)) n ⌝ }
+{
+    if table::kind(&table[..], n) == 44 {
+        table::child_b(&table[..], n)
+    } else {
+        0
+    }
 }

@@ -1,2 +1,2 @@
 -- Laws for the proofs of the variables.
-mod VariableLaws
+pub mod VariableLaws

@@ -98,7 +98,12 @@ pub fn note_block(
 }
 
 // 70: the cell that record n's temporary points to is marked. Its owner stays.
-pub fn mark_cell(table: &Table, n: usize, temporaries: &Temporaries, obs: &mut ObservationMemory) -> u32
+pub fn mark_cell(
+    table: &Table,
+    n: usize,
+    temporaries: &Temporaries,
+    obs: &mut ObservationMemory,
+) -> u32
     requires { ⌜ HasSort target statement (now table) n × (kindOf (now table) n ≡ 70) ⌝ }
     ensures { λ r. ⌜ Observes (now (obs .entry)) (now (obs .exit)) r
         (calledOn (heldIn (temporariesOf (now (temporaries .entry))) (markOf (now (table .entry)) n))

@@ -25,6 +25,8 @@ use Rattle.memory_blocks.specs.declared.Making.the-variants as making
 use Rattle.evaluation_temporaries.specs.Bytes.{temporariesOf}
 use Rattle.run_endings.specs.declared.Ended.{Ended}
 use Rattle.run_endings.specs.Ending.{result}
+use Rattle.run_children.specs.Children.{firstOf, restOf}
+use Rattle.run_children.proofs.Sequences.{first-is, rest-is}
 use Rattle.run_changes.proofs.ChangeLaws.{becomes-is, made-by, unmade-by}
 use Rattle.watched_statements.specs.Watching.{Lent, lent, stateOf, watchFrom, Ready, enclosed}
 use Rattle.watched_statements.specs.Watching.{Ran}
@@ -98,12 +100,18 @@ module _ {t : List ℕ} {n : ℕ} (ρ : Variables) (h : Ready t n) where
       ∙ ap ending (watch-while-zero t n (h .is) q ρ (stateOf y))
 
   -- a sequence
-  pub sequence-by : kindOf t n ≡ 44 → (y : Lent) (f : ℕ)
+  sequence-by : kindOf t n ≡ 44 → (y : Lent) (f : ℕ)
       → ending (watchFrom (targetStatementAt t n) ρ y f)
       ≡ ending (next (watchFrom (targetStatementAt t (childA t n)) ρ y f) (λ w g. part (childB t n) w g))
   sequence-by q y f =
       ap ending (watch-sequence t n (h .is) ρ (stateOf y) f q)
       ∙ next-ending 0 (part (childA t n) (stateOf y) f) _ _ (λ w g. into-ending 1 (part (childB t n) w g))
+
+  -- by what it runs first and then
+  pub run-first-then : kindOf t n ≡ 44 → (y : Lent) (f : ℕ)
+      → ending (watchFrom (targetStatementAt t n) ρ y f)
+      ≡ ending (next (watchFrom (targetStatementAt t (firstOf t n)) ρ y f) (λ w g. part (restOf t n) w g))
+  run-first-then q y f = rw (first-is t n q, rest-is t n q) (sequence-by q y f)
 
   -- a let, and its block, made in memory
   module _ (x : Lent) (q : kindOf t n ≡ 47) {l : List ℕ}

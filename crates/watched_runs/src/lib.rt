@@ -16,7 +16,8 @@ use rules::Test;
 use rules::Variables;
 use run_endings::Ended;
 
-// Runs statement n. Of a sequence A runs, and B where A finished; as B may be one again, they are a loop.
+// Runs statement n. Of a sequence A runs, and B where A finished; as B may be one again, they are a loop. Only an A that
+// is a sequence is run by a call of its own.
 pub fn run(
     table: &Table,
     n: usize,
@@ -37,36 +38,47 @@ pub fn run(
 {
     let mut at = n;
     let mut left = fuel;
-    while table::kind(&table[..], at) == 44 {
-        let first = table::child_a(&table[..], at);
-        let r = run(
-            table,
-            first,
-            variables,
-            temporaries,
-            mem,
-            obs,
-            owners,
-            counts,
-            left,
-        );
-        if r.number != 0 {
-            return r;
+    loop {
+        let rest = run_children::rest_of(table, at);
+        let first = run_children::first_of(table, at);
+        if table::kind(&table[..], first) == 44 {
+            let r = run(
+                table,
+                first,
+                variables,
+                temporaries,
+                mem,
+                obs,
+                owners,
+                counts,
+                left,
+            );
+            if r.number != 0 {
+                return r;
+            }
+            left = r.fuel;
+        } else {
+            let r = run_single(
+                table,
+                first,
+                variables,
+                temporaries,
+                mem,
+                obs,
+                owners,
+                counts,
+                left,
+            );
+            if rest == 0 {
+                return r;
+            }
+            if r.number != 0 {
+                return r;
+            }
+            left = r.fuel;
         }
-        left = r.fuel;
-        at = table::child_b(&table[..], at);
+        at = rest;
     }
-    run_single(
-        table,
-        at,
-        variables,
-        temporaries,
-        mem,
-        obs,
-        owners,
-        counts,
-        left,
-    )
 }
 
 // Runs statement n, which is no sequence.
@@ -279,7 +291,7 @@ fn enclose(
         Making::Name(k) => run_inside(
             table,
             n,
-            variables,
+            *variables,
             temporaries,
             mem,
             obs,
@@ -300,7 +312,7 @@ fn enclose(
 fn run_inside(
     table: &Table,
     n: usize,
-    variables: &Variables,
+    variables: Variables,
     temporaries: &mut Temporaries,
     mem: &mut ExecutionMemory,
     obs: &mut ObservationMemory,
@@ -311,13 +323,15 @@ fn run_inside(
 ) -> Ended
     requires { ⌜ Inside (now table) n
         × Beside (now mem) (now obs) (now counts) (now owners) ⌝ }
-    ensures outcome { λ r. ⌜ Ran (enclosed (now (table .entry)) n (variablesOf (now (variables .entry)))
+    ensures outcome { λ r. ⌜ Ran (enclosed (now (table .entry)) n (variablesOf variables)
         (lent (now (mem .entry)) (now (obs .entry)) (now (temporaries .entry))) fuel k) r
         (lent (now (mem .entry)) (now (obs .entry)) (now (temporaries .entry)))
         (lent (now (mem .exit)) (now (obs .exit)) (now (temporaries .exit))) ⌝ }
     ensures beside { λ _. ⌜ Beside (now (mem .exit)) (now (obs .exit)) (now (counts .exit)) (now (owners .exit)) ⌝ }
 {
-    let inner = run_variables::name_variable(*variables, table::mark(&table[..], n) as usize, k);
+    let v = table::mark(&table[..], n) as usize;
+    let mut inner = variables;
+    inner[v] = k;
     let body = table::child_a(&table[..], n);
     let r = run(
         table,

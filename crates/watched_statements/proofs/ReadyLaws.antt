@@ -1,8 +1,8 @@
 -- A statement that may run: so may its parts.
-use Prim.Native.Nat.{ℕ}
+use Prim.Native.Nat.{ℕ, _≤_, _<_}
 use mathlib.Core.List.{List}
 use mathlib.Core.Logic.{inl, inr}
-use mathlib.Core.Path.{_≡_}
+use mathlib.Core.Path.{_≡_, sym, subst}
 use Rattle.rules.specs.Kinds.{target, expression, statement}
 use Rattle.rules.specs.Records.{kindOf, markOf, childA, childB, childC}
 use Rattle.rules.specs.Nodes.{targetStatementAt}
@@ -11,6 +11,8 @@ use Rattle.rules.proofs.runs.StatementArms.{statement-within, sequence-children
 use Rattle.rules.proofs.runs.StatementArms.{let-child, sound-sequence, sound-branch, sound-while, sound-let}
 use Rattle.rules.proofs.runs.TargetFields.{Under, branch-on-fields, sound-branch-on}
 use Rattle.table.specs.Within.{Within}
+use Rattle.run_children.specs.Children.{firstOf, restOf}
+use Rattle.run_children.proofs.Sequences.{rest-is, first-by, first-within, first-smaller, rest-smaller, first-alone}
 use Rattle.watched_choices.specs.Branches.{IsBranch}
 use Rattle.watched_statements.specs.Watching.{Ready, Inside}
 
@@ -37,6 +39,28 @@ module _ {t : List ℕ} {n : ℕ} (h : Ready t n) where
   ready-second e =
       ready-part (childB t n) (sequence-parts e .1)
       (sound-sequence target t n (h .is) (h .scope) (h .sound) e .1)
+
+  -- what it runs first and then
+  pub ready-run-first : Ready t (firstOf t n)
+  ready-run-first = first-by t n (Ready t) ready-first (λ d. h)
+
+  pub ready-run-then : kindOf t n ≡ 44 → Ready t (restOf t n)
+  ready-run-then q = subst (Ready t) (sym (rest-is t n q)) (ready-second q)
+
+  sequence-numbers : kindOf t n ≡ 44 → (1 ≤ childB t n) × (childB t n < n)
+  sequence-numbers q = (sequence-parts q .1 .0, sequence-parts q .1 .1)
+
+  pub run-first-within : firstOf t n ≤ n
+  run-first-within = first-within t n (λ q. sequence-parts q .0 .1) sequence-numbers
+
+  pub run-first-smaller : kindOf t n ≡ 44 → firstOf t n < n
+  run-first-smaller = first-smaller t n (λ q. sequence-parts q .0 .1) sequence-numbers
+
+  pub run-then-smaller : kindOf t n ≡ 44 → restOf t n < n
+  run-then-smaller = rest-smaller t n (λ q. sequence-parts q .0 .1) sequence-numbers
+
+  pub run-first-alone : restOf t n ≡ 0 → firstOf t n ≡ n
+  run-first-alone = first-alone t n (λ q. sequence-parts q .0 .1) sequence-numbers
 
   pub branch-parts : IsBranch (kindOf t n) → Under statement t n (childB t n) × Under statement t n (childC t n)
   branch-parts (inl e) = let u = branch-children target t n (h .is) e in (u .1, u .2)

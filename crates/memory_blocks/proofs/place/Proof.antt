@@ -11,12 +11,12 @@ use Rattle.memory_blocks.proofs.place.Statement.{statement}
 use Rattle.memory_blocks.proofs.place.Tie as tie
 use Rattle.memory_blocks.proofs.place.Reads as reads
 use Rattle.memory_blocks.proofs.place.Lts as lts
-use Rattle.memory_cell_fills.proofs.fill.Reads as fill-reads
+use Rattle.memory_cell_fills.proofs.fill_undefined.Reads as fill-undefined-reads
 use Rattle.memory_blocks.proofs.live.Reads as live-reads
 use Rattle.memory_block_changes.proofs.put_block.Reads as put-block-reads
 
-fill-requires : tie.Need-fill-requires
-fill-requires c κs = search needs
+fill-undefined-requires : tie.Need-fill-undefined-requires
+fill-undefined-requires c κs = search needs
 
 live-requires : tie.Need-live-requires
 live-requires c κs = search needs
@@ -31,8 +31,8 @@ returns c =
     let m = fillCells (memoryOf (a .mem .now)) (a .first) (a .n) (Cell.Holds (a .k) Value.Undefined) in
     becomes-as (ap (setBlock m (a .k)) (c .before .live .ensures))
     (becomes-then (λ (x : Memory). setBlock x (a .k) (c .before .live .result))
-    (c .before .before .before .fill .ensures)
+    (c .before .before .before .fill-undefined .ensures)
     (c .put-block .ensures))
 
 pub place-spec : {M : Type 1} → statement M
-place-spec = tie.close (tie.spec fill-requires live-requires put-block-requires returns)
+place-spec = tie.close (tie.spec fill-undefined-requires live-requires put-block-requires returns)

@@ -9,8 +9,8 @@ use borrow.Author.Needs.{needs}
 use Rattle.memory_freeing.proofs.release.Statement.{statement}
 use Rattle.memory_freeing.proofs.release.Tie as tie
 
-fill-requires : tie.Need-fill-requires
-fill-requires c κs = search needs
+fill-free-requires : tie.Need-fill-free-requires
+fill-free-requires c κs = search needs
 
 put-block-requires : tie.Need-put-block-requires
 put-block-requires c κs = search needs
@@ -24,11 +24,11 @@ returns : tie.Need-returns
 returns c =
     let s = c .before .before .before .before .before .before in
     let w = becomes-then (λ (x : Memory). setBlock x (s .args .name) Block.Dead)
-    (c .before .before .before .before .fill .ensures) (c .before .before .put-block .ensures) in (
+    (c .before .before .before .before .fill-free .ensures) (c .before .before .put-block .ensures) in (
       w,
       counted-is (w .view) (c .give-back .ensures)
           (counted-end (s .pre .0) (s .args .name) (s .args .first) (s .args .n) (s .pre .1)),
     )
 
 pub release-spec : {M : Type 1} → statement M
-release-spec = tie.close (tie.spec fill-requires put-block-requires give-back-requires returns)
+release-spec = tie.close (tie.spec fill-free-requires put-block-requires give-back-requires returns)

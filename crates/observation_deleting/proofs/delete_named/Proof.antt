@@ -26,8 +26,7 @@ give-back-requires : tie.Need-give-back-requires
 give-back-requires c κs =
     let s = c .before .before .before .before .before .before .before .before in
     let found = c .before .before .before .before in
-    let h = s .pre in
-    (
+    let h = s .pre in (
       h .size,
       h .orderly .within (s .args .name) _ _ (sym (found .before .before .record-of .ensures) ∙ found .first .given .1),
       h .within,

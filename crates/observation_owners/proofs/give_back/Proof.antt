@@ -27,8 +27,11 @@ own-requires c κs = search needs
 cast-owners : tie.Need-cast-owners
 cast-owners c =
     let s = c .before .before .before .before in
-    omega (arith, c .before .before .lowest-given .ensures,
-    given-within (s .args .first) (lowestOf (now (s .args .owners))) (s .pre .2))
+    omega (
+      arith,
+      c .before .before .lowest-given .ensures,
+      given-within (s .args .first) (lowestOf (now (s .args .owners))) (s .pre .2),
+    )
 
 element-write-owners : tie.Need-element-write-owners
 element-write-owners c = search needs

@@ -25,9 +25,10 @@ use Rattle.memory_blocks.proofs.make.Reads as make-reads
 use Rattle.plain_runs.proofs.allocate.Reads as allocate-reads
 use Rattle.plain_runs.proofs.assert.Reads as assert-reads
 use Rattle.plain_runs.proofs.assign.Reads as assign-reads
-use Rattle.run_variables.proofs.name_variable.Reads as name-variable-reads
 use Rattle.plain_runs.proofs.release.Reads as release-reads
 use Rattle.plain_runs.proofs.test_a.Reads as test-a-reads
+use Rattle.run_children.proofs.first_of.Reads as first-of-reads
+use Rattle.run_children.proofs.rest_of.Reads as rest-of-reads
 use Rattle.table.proofs.child_a.Reads as child-a-reads
 use Rattle.table.proofs.child_b.Reads as child-b-reads
 use Rattle.table.proofs.child_c.Reads as child-c-reads
@@ -46,7 +47,7 @@ abbrev pub μ-repeat : Measures 5 repeat-kinds.ps ℕ
 abbrev pub μ-run : Measures 5 run-kinds.ps ℕ
 μ-run κs a = a .1 .0 * 4 + 3
 
-abbrev pub μ-run-inside : Measures 5 run-inside-kinds.ps ℕ
+abbrev pub μ-run-inside : Measures 4 run-inside-kinds.ps ℕ
 μ-run-inside κs a = a .1 .0 * 4
 
 abbrev pub μ-run-single : Measures 5 run-single-kinds.ps ℕ
@@ -76,13 +77,13 @@ run-at t = and 5 run-kinds.ps (is 5 run-kinds.ps μ-run t) run.Pre
 abbrev pub run-below : ℕ → In 5 run-kinds.ps
 run-below t = and 5 run-kinds.ps (falls 5 run-kinds.ps _<_ μ-run t) run.Pre
 
-abbrev pub run-inside-at : ℕ → In 5 run-inside-kinds.ps
+abbrev pub run-inside-at : ℕ → In 4 run-inside-kinds.ps
 run-inside-at t =
-    and 5 run-inside-kinds.ps (is 5 run-inside-kinds.ps μ-run-inside t) run-inside.Pre
+    and 4 run-inside-kinds.ps (is 4 run-inside-kinds.ps μ-run-inside t) run-inside.Pre
 
-abbrev pub run-inside-below : ℕ → In 5 run-inside-kinds.ps
+abbrev pub run-inside-below : ℕ → In 4 run-inside-kinds.ps
 run-inside-below t =
-    and 5 run-inside-kinds.ps (falls 5 run-inside-kinds.ps _<_ μ-run-inside t) run-inside.Pre
+    and 4 run-inside-kinds.ps (falls 4 run-inside-kinds.ps _<_ μ-run-inside t) run-inside.Pre
 
 abbrev pub run-single-at : ℕ → In 5 run-single-kinds.ps
 run-single-at t =
@@ -119,14 +120,14 @@ repeat-claims t = (
 
 abbrev pub run-claims : ℕ → run-lts.Claims
 run-claims t = (
+  rest-of-reads.Asked,
+  rest-of-reads.Learnt,
+  first-of-reads.Asked,
+  first-of-reads.Learnt,
   kind-reads.Asked,
   kind-reads.Learnt,
-  child-a-reads.Asked,
-  child-a-reads.Learnt,
   run-below t,
   run.Post,
-  child-b-reads.Asked,
-  child-b-reads.Learnt,
   run-single-below t,
   run-single.Post,
 )
@@ -135,8 +136,6 @@ abbrev pub run-inside-claims : ℕ → run-inside-lts.Claims
 run-inside-claims t = (
   mark-reads.Asked,
   mark-reads.Learnt,
-  name-variable-reads.Asked,
-  name-variable-reads.Learnt,
   child-a-reads.Asked,
   child-a-reads.Learnt,
   run-below t,

@@ -21,7 +21,7 @@ module _ (t : ℕ) where
 
   run-inside-requires : enclose-lts.Need-run-inside-requires (enclose-claims t) (enclose-at t) enclose.Post
   run-inside-requires c κs =
-      let after-k = c .before .before .before in
+      let after-k = c .before .before .before .before in
       let after-make = after-k .before .before in
       let s = after-make .before .before .before in (
         omega (arith, s .pre .0),
@@ -34,12 +34,12 @@ module _ (t : ℕ) where
   enum-known-c : enclose-lts.Need-enum-known-c (enclose-claims t) (enclose-at t) enclose.Post
   enum-known-c c = search needs
 
-  cast-t16 : enclose-lts.Need-cast-t16 (enclose-claims t) (enclose-at t) enclose.Post
-  cast-t16 c = ready-number (c .before .before .before .before .before .before .pre .1 .0)
+  cast-t17 : enclose-lts.Need-cast-t17 (enclose-claims t) (enclose-at t) enclose.Post
+  cast-t17 c = ready-number (c .before .before .before .before .before .before .pre .1 .0)
 
   returns : enclose-lts.Need-returns (enclose-claims t) (enclose-at t) enclose.Post
   returns c =
-      let after-k = c .before .before .before .before in
+      let after-k = c .before .before .before .before .before in
       let after-make = after-k .before .before in
       let s = after-make .before .before .before in (
         ran-is
@@ -62,4 +62,4 @@ module _ (t : ℕ) where
   pub closed : {M : Type 1} → enclose-lts.Closed (enclose-claims t) (enclose-at t) enclose.Post M
   closed =
       enclose-lts.spec (enclose-claims t) (enclose-at t) enclose.Post make-requires enum-known-k
-      run-inside-requires enum-known-c cast-t16 returns returns-2
+      run-inside-requires enum-known-c cast-t17 returns returns-2

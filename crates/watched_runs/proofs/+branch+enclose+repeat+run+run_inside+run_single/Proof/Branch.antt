@@ -33,7 +33,7 @@ module _ (t : ℕ) where
   run-requires : branch-lts.Need-run-requires (branch-claims t) (branch-at t) branch.Post
   run-requires c κs =
       let after-child-b =
-          c .before .before .before .before .before .before .before .before .before .before .before .before in
+      c .before .before .before .before .before .before .before .before .before .before .before .before in
       let s = after-child-b .before .before in
       let h = s .pre .1 in
       rw (after-child-b .child-b .ensures)

@@ -22,8 +22,9 @@ use Rattle.watched_runs.proofs.run_single.Kinds as run-single-kinds
 use Rattle.watched_runs.proofs.+branch+enclose+repeat+run+run_inside+run_single.Lts-run_single as run-single-lts
 use Rattle.memory_freeing.proofs.end.Reads as end-reads
 use Rattle.memory_blocks.proofs.make.Reads as make-reads
-use Rattle.run_variables.proofs.name_variable.Reads as name-variable-reads
 use Rattle.run_children.proofs.test_a.Reads as test-a-reads
+use Rattle.run_children.proofs.first_of.Reads as first-of-reads
+use Rattle.run_children.proofs.rest_of.Reads as rest-of-reads
 use Rattle.table.proofs.child_a.Reads as child-a-reads
 use Rattle.table.proofs.child_b.Reads as child-b-reads
 use Rattle.table.proofs.child_c.Reads as child-c-reads
@@ -45,7 +46,7 @@ abbrev pub μ-repeat : Measures 7 repeat-kinds.ps ℕ
 abbrev pub μ-run : Measures 7 run-kinds.ps ℕ
 μ-run κs a = a .1 .0 * 4 + 3
 
-abbrev pub μ-run-inside : Measures 7 run-inside-kinds.ps ℕ
+abbrev pub μ-run-inside : Measures 6 run-inside-kinds.ps ℕ
 μ-run-inside κs a = a .1 .0 * 4
 
 abbrev pub μ-run-single : Measures 7 run-single-kinds.ps ℕ
@@ -75,13 +76,13 @@ run-at t = and 7 run-kinds.ps (is 7 run-kinds.ps μ-run t) run.Pre
 abbrev pub run-below : ℕ → In 7 run-kinds.ps
 run-below t = and 7 run-kinds.ps (falls 7 run-kinds.ps _<_ μ-run t) run.Pre
 
-abbrev pub run-inside-at : ℕ → In 7 run-inside-kinds.ps
+abbrev pub run-inside-at : ℕ → In 6 run-inside-kinds.ps
 run-inside-at t =
-    and 7 run-inside-kinds.ps (is 7 run-inside-kinds.ps μ-run-inside t) run-inside.Pre
+    and 6 run-inside-kinds.ps (is 6 run-inside-kinds.ps μ-run-inside t) run-inside.Pre
 
-abbrev pub run-inside-below : ℕ → In 7 run-inside-kinds.ps
+abbrev pub run-inside-below : ℕ → In 6 run-inside-kinds.ps
 run-inside-below t =
-    and 7 run-inside-kinds.ps (falls 7 run-inside-kinds.ps _<_ μ-run-inside t) run-inside.Pre
+    and 6 run-inside-kinds.ps (falls 6 run-inside-kinds.ps _<_ μ-run-inside t) run-inside.Pre
 
 abbrev pub run-single-at : ℕ → In 7 run-single-kinds.ps
 run-single-at t =
@@ -129,14 +130,14 @@ repeat-claims t = (
 
 abbrev pub run-claims : ℕ → run-lts.Claims
 run-claims t = (
+  rest-of-reads.Asked,
+  rest-of-reads.Learnt,
+  first-of-reads.Asked,
+  first-of-reads.Learnt,
   kind-reads.Asked,
   kind-reads.Learnt,
-  child-a-reads.Asked,
-  child-a-reads.Learnt,
   run-below t,
   run.Post,
-  child-b-reads.Asked,
-  child-b-reads.Learnt,
   run-single-below t,
   run-single.Post,
 )
@@ -145,8 +146,6 @@ abbrev pub run-inside-claims : ℕ → run-inside-lts.Claims
 run-inside-claims t = (
   mark-reads.Asked,
   mark-reads.Learnt,
-  name-variable-reads.Asked,
-  name-variable-reads.Learnt,
   child-a-reads.Asked,
   child-a-reads.Learnt,
   run-below t,

@@ -22,7 +22,7 @@ module _ (t : ℕ) where
 
   run-inside-requires : enclose-lts.Need-run-inside-requires (enclose-claims t) (enclose-at t) enclose.Post
   run-inside-requires c κs =
-      let after-k = c .before .before .before .before .before .before in
+      let after-k = c .before .before .before .before .before .before .before in
       let after-make = after-k .before .before in
       let s = after-make .before .before .before in (
         omega (arith, s .pre .0),
@@ -40,7 +40,7 @@ module _ (t : ℕ) where
 
   returns : enclose-lts.Need-returns (enclose-claims t) (enclose-at t) enclose.Post
   returns c =
-      let after-k = c .before .before .before .before .before .before .before in
+      let after-k = c .before .before .before .before .before .before .before .before in
       let after-make = after-k .before .before in
       let s = after-make .before .before .before in (
         ran-is

@@ -59,7 +59,7 @@ module _ (t : ℕ) where
   -- a turn whose condition is true, where its child ran
   turn : (c : repeat-lts.After-run (repeat-claims t) (repeat-at t) repeat.Post Inv-loop μ-loop)
       → let after-loop =
-          c .before .before .before .before .before .before .before .before .before .before .before .before in
+      c .before .before .before .before .before .before .before .before .before .before .before .before in
       let loop = after-loop .loop in
       let s = after-loop .before .before .before in
       let n = s .args .n in

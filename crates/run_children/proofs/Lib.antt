@@ -1,0 +1,2 @@
+-- Facts about a statement's parts.
+pub mod Sequences
