@@ -78,7 +78,7 @@ shows $'  block 4: live and freeable\n    cells 3 to 7: undefined\n  dead names:
 shows $'  block 5: live\n    mark 4: initialised\n    mark 5: not initialised\n  dead names: 4\n' \
     watch examples/two-assertions.txt
 shows $'observation memory\n  block 1: live\n    mark 0: initialised\n' watch examples/P1.txt
-shows $'  dead names: 3 to 255\n' run examples/R1.txt
+shows $'  dead names: 3 to 4095\n' run examples/R1.txt --fuel 5000
 
 # Endings that only a hand-made target has: a block stored twice, and an empty temporary.
 stored_twice=$(table stored-twice <<'END'

@@ -54,11 +54,11 @@ done
 # The lent buffers, tried after the inputs, and the observation memory last.
 expect 20 'refusal 20 (output shorter than the translation)' translate examples/P1.txt --output-bytes 111
 expect 0 'translation: done, 7 records' translate examples/P1.txt --output-bytes 112
-for bytes in 0 18423 18425; do
-    expect 21 'refusal 21 (execution memory not 18424 bytes)' run examples/P1.txt --memory-bytes "$bytes"
+for bytes in 0 18424 49143 49145; do
+    expect 21 'refusal 21 (execution memory not 49144 bytes)' run examples/P1.txt --memory-bytes "$bytes"
     expect 21 'refusal 21 (' watch examples/P1.txt --memory-bytes "$bytes" --observation-bytes 0
 done
-for bytes in 0 3063 3065; do
-    expect 22 'refusal 22 (observation memory not 3064 bytes)' watch examples/P1.txt --observation-bytes "$bytes"
+for bytes in 0 3064 33783 33785; do
+    expect 22 'refusal 22 (observation memory not 33784 bytes)' watch examples/P1.txt --observation-bytes "$bytes"
 done
 expect 9 'refusal 9 (' watch examples/P1.txt --inputs '' --memory-bytes 0

@@ -159,15 +159,6 @@ impl Builder {
         rest
     }
 
-    /// A variable takes its own value less 1.
-    pub fn decrease(&mut self, variable: u8) -> u16 {
-        let place = self.variable(variable);
-        let value = self.read_variable(variable);
-        let one = self.literal(1);
-        let less = self.operator(2, value, one);
-        self.take(place, less)
-    }
-
     /// Read of what a variable points to.
     pub fn read_pointed(&mut self, variable: u8) -> u16 {
         let pointer = self.read_variable(variable);

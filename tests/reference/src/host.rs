@@ -1,7 +1,7 @@
 //! What a host does around the entry points: it owns the buffers and lends them.
 
 use crate::answer::Answer;
-use crate::limits::{BLOCK_BYTES, CELL_BYTES, EXECUTION_BYTES, NAMES, OBSERVATION_BYTES};
+use crate::limits::{BLOCKS_BYTES, BLOCK_BYTES, CELL_BYTES, EXECUTION_BYTES, OBSERVATION_BYTES};
 use crate::plain::run_plain;
 use crate::record::table;
 use crate::translator::translation;
@@ -59,19 +59,34 @@ pub fn is_mirrored(answer: Answer, memory: &[u8], observation: &[u8]) -> bool {
     answer.led_nowhere() || observation == mirror(memory)
 }
 
+/// The record of a block, in the bytes of either memory.
+pub fn block(memory: &[u8], name: usize) -> &[u8] {
+    &memory[(name - 1) * BLOCK_BYTES..name * BLOCK_BYTES]
+}
+
+/// The cells of an execution memory's bytes, or the marks of an observation memory's.
+pub fn places(memory: &[u8]) -> &[u8] {
+    &memory[BLOCKS_BYTES..]
+}
+
+/// The record of a cell, in the bytes of an execution memory.
+pub fn cell(memory: &[u8], index: usize) -> &[u8] {
+    &places(memory)[index * CELL_BYTES..(index + 1) * CELL_BYTES]
+}
+
 /// The cells of kind 0 among the bytes of an execution memory.
 pub fn free_cells(memory: &[u8]) -> u32 {
-    let cells = memory[NAMES * BLOCK_BYTES..].chunks(CELL_BYTES);
+    let cells = places(memory).chunks(CELL_BYTES);
     cells.filter(|cell| cell[0] == 0).count() as u32
 }
 
 /// The observation memory that mirrors an execution memory, byte by byte: "For its block states
 /// 0, 1, 2, 3 the observation states are 0, 1, 1, 2, with equal first and length".
 pub fn mirror(memory: &[u8]) -> Vec<u8> {
-    let (blocks, cells) = memory.split_at(memory.len().min(NAMES * BLOCK_BYTES));
+    let (blocks, cells) = memory.split_at(BLOCKS_BYTES);
     let mut observation = blocks.to_vec();
-    for block in observation.chunks_mut(BLOCK_BYTES) {
-        block[0] = [0, 1, 1, 2][usize::from(block[0] % 4)];
+    for state in observation.iter_mut().step_by(BLOCK_BYTES) {
+        *state = [0, 1, 1, 2][usize::from(*state % 4)];
     }
     observation.extend(cells.chunks(CELL_BYTES).map(|cell| u8::from(cell[0] >= 2)));
     observation

@@ -6,14 +6,17 @@
 pub mod answer;
 pub mod builder;
 pub mod checker;
+pub mod counted;
 pub mod generator;
 pub mod grammar;
+pub mod high_names;
 pub mod host;
 pub mod limits;
 pub mod listing;
 pub mod listings;
 pub mod machine;
 pub mod memory;
+pub mod naming;
 pub mod numbers;
 pub mod observation;
 pub mod past;

@@ -1,4 +1,4 @@
-//! The figures of document 01, and the one placing rule that both memories share.
+//! The figures of document 01, as document 02 changes them, and the one placing rule that both memories share.
 
 pub const RECORD_BYTES: usize = 16;
 pub const SOURCE_RECORDS: usize = 256;
@@ -6,12 +6,15 @@ pub const TARGET_RECORDS: usize = 4096;
 pub const VARIABLES: usize = 64;
 pub const TEMPORARIES: usize = 64;
 
-pub const NAMES: usize = 255;
+/// 02 §5: "Names run from 1 to 4,095."
+pub const NAMES: usize = 4095;
 pub const CELLS: usize = 1024;
 pub const BLOCK_BYTES: usize = 8;
 pub const CELL_BYTES: usize = 16;
-pub const EXECUTION_BYTES: usize = NAMES * BLOCK_BYTES + CELLS * CELL_BYTES;
-pub const OBSERVATION_BYTES: usize = NAMES * BLOCK_BYTES + CELLS;
+/// The bytes of all block records; behind them stand the cells, or the marks.
+pub const BLOCKS_BYTES: usize = NAMES * BLOCK_BYTES;
+pub const EXECUTION_BYTES: usize = BLOCKS_BYTES + CELLS * CELL_BYTES;
+pub const OBSERVATION_BYTES: usize = BLOCKS_BYTES + CELLS;
 
 pub const INPUT_BYTES: usize = 8;
 pub const INPUTS: usize = 256;

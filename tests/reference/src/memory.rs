@@ -4,7 +4,9 @@ use crate::answer::{
     BAD_FREE, DEAD_BLOCK, NOT_LIVE, NO_CELLS, NO_NAMES, OUTSIDE_BLOCK, SIZE_BELOW_ONE,
     UNDEFINED_READ,
 };
-use crate::limits::{lowest_run, CELLS, EXECUTION_BYTES, NAMES};
+use crate::limits::{
+    lowest_run, BLOCKS_BYTES, BLOCK_BYTES, CELLS, CELL_BYTES, EXECUTION_BYTES, NAMES,
+};
 use crate::value::{Compared, Pointer, Value};
 
 #[derive(Debug, Clone, Copy, PartialEq, Eq)]
@@ -222,14 +224,15 @@ impl Memory {
         place.inspect_err(|_| self.astray.set(Some(pointer)))
     }
 
-    /// "255 block records of 8 bytes .., then 1,024 cells of 16."
+    /// "4,095 block records" of 8 bytes, then 1,024 cells of 16; what was never given stays 0.
     pub fn image(&self) -> Vec<u8> {
-        let mut image = Vec::with_capacity(EXECUTION_BYTES);
-        for index in 0..NAMES {
-            image.extend(block_bytes(self.blocks.get(index)));
+        let mut image = vec![0; EXECUTION_BYTES];
+        let (blocks, cells) = image.split_at_mut(BLOCKS_BYTES);
+        for (bytes, block) in blocks.chunks_mut(BLOCK_BYTES).zip(&self.blocks) {
+            bytes.copy_from_slice(&block_bytes(block));
         }
-        for cell in &self.cells {
-            image.extend(cell_bytes(cell));
+        for (bytes, cell) in cells.chunks_mut(CELL_BYTES).zip(&self.cells) {
+            bytes.copy_from_slice(&cell_bytes(cell));
         }
         image
     }
@@ -240,8 +243,7 @@ fn index(name: u32) -> Option<usize> {
 }
 
 /// State, 0, first cell in two bytes, length in two, 0, 0.
-fn block_bytes(block: Option<&Block>) -> [u8; 8] {
-    let Some(block) = block else { return [0; 8] };
+fn block_bytes(block: &Block) -> [u8; 8] {
     let state = match block.state {
         State::Fixed => 1,
         State::Freeable => 2,
@@ -261,18 +263,18 @@ fn block_bytes(block: Option<&Block>) -> [u8; 8] {
     ]
 }
 
-/// Kind, owner, pointed-to name, five zeros, integer or offset in 8.
+/// Kind, 0, owner in two bytes, pointed-to name in two, 0, 0, integer or offset in 8.
 fn cell_bytes(cell: &Option<Cell>) -> [u8; 16] {
     let Some(cell) = cell else { return [0; 16] };
     let (kind, name, number) = match cell.value {
         Value::Undefined => (1, 0, 0),
         Value::Integer(integer) => (2, 0, integer),
-        Value::Pointer(pointer) => (3, pointer.name as u8, pointer.offset),
+        Value::Pointer(pointer) => (3, pointer.name, pointer.offset),
     };
     let mut bytes = [0; 16];
     bytes[0] = kind;
-    bytes[1] = cell.owner as u8;
-    bytes[2] = name;
+    bytes[2..4].copy_from_slice(&(cell.owner as u16).to_le_bytes());
+    bytes[4..6].copy_from_slice(&(name as u16).to_le_bytes());
     bytes[8..].copy_from_slice(&number.to_le_bytes());
     bytes
 }

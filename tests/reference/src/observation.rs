@@ -1,7 +1,7 @@
 //! The observation memory, reached through its nine calls only, and its byte image.
 
 use crate::answer::{CONTRADICTION, NOT_LIVE};
-use crate::limits::{lowest_run, CELLS, NAMES, OBSERVATION_BYTES};
+use crate::limits::{lowest_run, BLOCKS_BYTES, BLOCK_BYTES, CELLS, NAMES, OBSERVATION_BYTES};
 use crate::value::Pointer;
 
 #[derive(Debug, Clone, Copy, PartialEq, Eq)]
@@ -13,39 +13,43 @@ pub enum Observed {
 
 #[derive(Debug, Clone, PartialEq, Eq)]
 pub struct Observation {
+    /// The record of name n stands at n - 1, up to the highest name that was ever recorded.
     blocks: Vec<Observed>,
-    marks: Vec<bool>,
+    /// A mark that lies in no live block is free.
+    marks: Vec<Option<bool>>,
 }
 
 impl Observation {
     pub fn cleared() -> Observation {
         Observation {
-            blocks: vec![Observed::Unused; NAMES],
-            marks: vec![false; CELLS],
+            blocks: Vec::new(),
+            marks: vec![None; CELLS],
         }
     }
 
     /// Kind 68. 48 for "store not at offset 0, of a known name, below 1 or without marks".
     pub fn store_block(&mut self, pointer: Pointer, length: i64) -> Result<(), u32> {
         let index = index(pointer.name).ok_or(CONTRADICTION)?;
-        let known = self.blocks[index] != Observed::Unused;
+        let known = self.record(index) != Observed::Unused;
         if pointer.offset != 0 || known || length < 1 {
             return Err(CONTRADICTION);
         }
         let length = usize::try_from(length).map_err(|_| CONTRADICTION)?;
-        let free = self.free_marks();
-        let first = lowest_run(free.into_iter(), length).ok_or(CONTRADICTION)?;
+        let free = self.marks.iter().map(Option::is_none);
+        let first = lowest_run(free, length).ok_or(CONTRADICTION)?;
+        self.blocks
+            .resize(self.blocks.len().max(index + 1), Observed::Unused);
         self.blocks[index] = Observed::Live { first, length };
-        self.marks[first..first + length].fill(false);
+        self.marks[first..first + length].fill(Some(false));
         Ok(())
     }
 
     /// Kind 69. 48 for "delete not at offset 0 of a live block"; the marks are cleared.
     pub fn delete_block(&mut self, pointer: Pointer) -> Result<(), u32> {
         let index = index(pointer.name).ok_or(CONTRADICTION)?;
-        match self.blocks[index] {
+        match self.record(index) {
             Observed::Live { first, length } if pointer.offset == 0 => {
-                self.marks[first..first + length].fill(false);
+                self.marks[first..first + length].fill(None);
                 self.blocks[index] = Observed::Dead;
                 Ok(())
             }
@@ -56,7 +60,7 @@ impl Observation {
     /// Kind 70. 48 for "initialise outside one".
     pub fn initialise(&mut self, pointer: Pointer) -> Result<(), u32> {
         let place = self.place(pointer).ok_or(CONTRADICTION)?;
-        self.marks[place] = true;
+        self.marks[place] = Some(true);
         Ok(())
     }
 
@@ -65,7 +69,8 @@ impl Observation {
     }
 
     pub fn initialised(&self, pointer: Pointer) -> bool {
-        self.place(pointer).is_some_and(|place| self.marks[place])
+        self.place(pointer)
+            .is_some_and(|place| self.marks[place] == Some(true))
     }
 
     pub fn base(&self, pointer: Pointer) -> Result<Pointer, u32> {
@@ -91,16 +96,12 @@ impl Observation {
         self.live(pointer.name).is_some()
     }
 
-    pub fn blocks(&self) -> &[Observed] {
-        &self.blocks
-    }
-
-    pub fn marks(&self) -> &[bool] {
-        &self.marks
+    fn record(&self, index: usize) -> Observed {
+        self.blocks.get(index).copied().unwrap_or(Observed::Unused)
     }
 
     fn live(&self, name: u32) -> Option<(usize, usize)> {
-        match self.blocks[index(name)?] {
+        match self.record(index(name)?) {
             Observed::Live { first, length } => Some((first, length)),
             _ => None,
         }
@@ -112,24 +113,16 @@ impl Observation {
         (offset < length).then(|| first + offset)
     }
 
-    /// A mark is free where it lies in no live block, whatever its value.
-    fn free_marks(&self) -> Vec<bool> {
-        let mut free = vec![true; CELLS];
-        for block in &self.blocks {
-            if let Observed::Live { first, length } = *block {
-                free[first..first + length].fill(false);
-            }
-        }
-        free
-    }
-
-    /// "255 block records .., then 1,024 marks of one byte."
+    /// "4,095 block records", then 1,024 marks of one byte.
     pub fn image(&self) -> Vec<u8> {
-        let mut image = Vec::with_capacity(OBSERVATION_BYTES);
-        for block in &self.blocks {
-            image.extend(block_bytes(*block));
+        let mut image = vec![0; OBSERVATION_BYTES];
+        let (blocks, marks) = image.split_at_mut(BLOCKS_BYTES);
+        for (bytes, block) in blocks.chunks_mut(BLOCK_BYTES).zip(&self.blocks) {
+            bytes.copy_from_slice(&block_bytes(*block));
         }
-        image.extend(self.marks.iter().map(|&mark| u8::from(mark)));
+        for (byte, mark) in marks.iter_mut().zip(&self.marks) {
+            *byte = u8::from(*mark == Some(true));
+        }
         image
     }
 }

@@ -30,16 +30,26 @@ fn watched_refusal(table: &[u8], inputs: &[u8], lengths: (usize, usize)) -> Answ
     answer
 }
 
+/// 02 §5: "21 tests for 49,144 bytes and 22 for 33,784."
+const EXECUTION: usize = 49_144;
+const OBSERVATION: usize = 33_784;
+
+/// The lengths when there were 255 names.
+const OLD_EXECUTION: usize = 18_424;
+const OLD_OBSERVATION: usize = 3_064;
+
 #[test]
 fn a_plain_run_refuses_1_to_8_then_9_then_21() {
     let good = inputs(&[7]);
-    for length in [0, 18_423, 18_425, 3_064] {
+    for length in [0, EXECUTION - 1, EXECUTION + 1, OBSERVATION] {
         assert_eq!(plain_refusal(&skip(0), &good, length), Answer::of(21, 0));
         assert_eq!(plain_refusal(&skip(0), &[], length), Answer::of(9, 0));
         assert_eq!(plain_refusal(&[0; 16], &[], length), Answer::of(3, 1));
         assert_eq!(plain_refusal(&[], &[], length), Answer::of(1, 0));
     }
-    assert_eq!(plain_refusal(&skip(0), &[], 18_424), Answer::of(9, 0));
+    assert_eq!(plain_refusal(&skip(0), &[], EXECUTION), Answer::of(9, 0));
+    let mut memory = vec![GUARD; EXECUTION];
+    assert_eq!(run_plain(&skip(0), &good, 9, &mut memory).number, 0);
 }
 
 #[test]
@@ -50,55 +60,63 @@ fn a_plain_run_refuses_8_too() {
         predicate = b.not(predicate);
     }
     b.assert(predicate);
-    assert_eq!(plain_refusal(&b.table(), &[], 18_424), Answer::of(8, 4));
+    assert_eq!(plain_refusal(&b.table(), &[], EXECUTION), Answer::of(8, 4));
+}
+
+/// The refusal of a watched run on good inputs and memories of these lengths.
+fn refused_by_lengths(execution: usize, observation: usize) -> Answer {
+    watched_refusal(&skip(1), &inputs(&[7]), (execution, observation))
 }
 
 #[test]
 fn a_watched_run_refuses_1_to_7_then_9_then_21_then_22() {
-    let good = inputs(&[7]);
-    assert_eq!(
-        watched_refusal(&skip(1), &good, (18_424, 3_063)),
-        Answer::of(22, 0)
-    );
-    assert_eq!(
-        watched_refusal(&skip(1), &good, (18_424, 3_065)),
-        Answer::of(22, 0)
-    );
-    assert_eq!(
-        watched_refusal(&skip(1), &good, (18_423, 3_063)),
-        Answer::of(21, 0)
-    );
-    assert_eq!(
-        watched_refusal(&skip(1), &good, (18_425, 3_064)),
-        Answer::of(21, 0)
-    );
-    for lengths in [(0, 0), (18_424, 3_064)] {
-        assert_eq!(
-            watched_refusal(&skip(1), &[0; 7], lengths),
-            Answer::of(9, 0)
-        );
-        assert_eq!(
-            watched_refusal(&skip(0), &[0; 7], lengths),
-            Answer::of(4, 1)
-        );
+    for observation in [0, OBSERVATION - 1, OBSERVATION + 1, EXECUTION] {
+        let refusal = refused_by_lengths(EXECUTION, observation);
+        assert_eq!(refusal, Answer::of(22, 0));
+    }
+    for observation in [OBSERVATION - 1, OBSERVATION] {
+        for execution in [EXECUTION - 1, EXECUTION + 1] {
+            let refusal = refused_by_lengths(execution, observation);
+            assert_eq!(refusal, Answer::of(21, 0));
+        }
+    }
+    for lengths in [(0, 0), (EXECUTION, OBSERVATION)] {
+        let refusal = |label| watched_refusal(&skip(label), &[0; 7], lengths);
+        assert_eq!(refusal(1), Answer::of(9, 0));
+        assert_eq!(refusal(0), Answer::of(4, 1));
+    }
+    let (mut memory, mut observation) = (vec![GUARD; EXECUTION], vec![GUARD; OBSERVATION]);
+    let answer = run_watched(&skip(1), &inputs(&[7]), 9, &mut memory, &mut observation);
+    assert_eq!(answer.number, 0);
+}
+
+/// "Old images are not read": their lengths are refused, and their bytes stay.
+#[test]
+fn memories_of_255_names_are_21_and_22() {
+    let plain = plain_refusal(&skip(0), &inputs(&[7]), OLD_EXECUTION);
+    assert_eq!(plain, Answer::of(21, 0));
+    for (execution, observation, number) in [
+        (OLD_EXECUTION, OLD_OBSERVATION, 21),
+        (OLD_EXECUTION, OBSERVATION, 21),
+        (EXECUTION, OLD_OBSERVATION, 22),
+    ] {
+        let refusal = refused_by_lengths(execution, observation);
+        assert_eq!(refusal, Answer::of(number, 0));
     }
 }
 
 #[test]
 fn inputs_are_1_to_256_of_8_bytes() {
     for length in [0, 1, 7, 9, 15, 2047, 2049, 2056] {
-        assert_eq!(plain_refusal(&skip(0), &vec![0; length], 18_424).number, 9);
-        assert_eq!(
-            watched_refusal(&skip(1), &vec![0; length], (18_424, 3_064)).number,
-            9
-        );
+        let bytes = vec![0; length];
+        assert_eq!(plain_refusal(&skip(0), &bytes, EXECUTION).number, 9);
+        let refusal = watched_refusal(&skip(1), &bytes, (EXECUTION, OBSERVATION));
+        assert_eq!(refusal.number, 9);
     }
     for length in [8, 16, 2040, 2048] {
-        let mut memory = vec![GUARD; 18_424];
-        assert_eq!(
-            run_plain(&skip(0), &vec![0; length], 0, &mut memory).number,
-            0
-        );
+        let mut memory = vec![GUARD; EXECUTION];
+        let answer = run_plain(&skip(0), &vec![0; length], 0, &mut memory);
+        assert_eq!(answer.number, 0);
     }
 }
 

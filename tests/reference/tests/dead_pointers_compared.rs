@@ -6,7 +6,6 @@ use reference::builder::Builder;
 use reference::checker::check_source;
 use reference::generator::Generator;
 use reference::host::{self, inputs, translated};
-use reference::limits::{BLOCK_BYTES, CELL_BYTES, NAMES};
 use reference::value::Compared;
 use reference::{plain, watched};
 use std::collections::BTreeMap;
@@ -108,7 +107,7 @@ fn program(used: Use, left: Operand, right: Operand) -> (Vec<u8>, u16) {
 fn outcome(used: Use, left: Operand, right: Operand) -> Result<bool, u32> {
     let (source, statement) = program(used, left, right);
     let (answer, memory) = host::both(&source, &inputs(&[7, 9]), 5);
-    let first_input = memory[NAMES * BLOCK_BYTES + CELL_BYTES + 8];
+    let first_input = host::cell(&memory, 1)[8];
     match (answer.number, first_input) {
         (0, 0) | (33, 7) => Ok(false),
         (0, 1 | 7) => Ok(true),
@@ -183,7 +182,7 @@ fn a_term_of_operator_7_is_refused() {
 
 /// The state of a block in the bytes of a memory.
 fn state(memory: &[u8], name: u32) -> u8 {
-    memory[(name as usize - 1) * BLOCK_BYTES]
+    host::block(memory, name as usize)[0]
 }
 
 /// The kind of a comparison, and whether left and right are live in the memory that it asks.

@@ -4,7 +4,9 @@
 use reference::answer::PLAIN_ENDINGS;
 use reference::checker::{check_source, check_target};
 use reference::generator::Generator;
+use reference::high_names::names_given;
 use reference::host::{free_cells, inputs, is_mirrored, plain, translated, watched};
+use reference::limits::BLOCKS_BYTES;
 use reference::past::{past, Past, Truth};
 use reference::translator::translation;
 use reference::Answer;
@@ -19,6 +21,7 @@ struct Counts {
     stopped_inside: usize,
     later_false: usize,
     most_from_one: usize,
+    names_above_255: usize,
 }
 
 impl Counts {
@@ -80,7 +83,7 @@ fn most_records_from_one(source: &[u8]) -> usize {
 /// "Free cells plus lengths of live blocks make 1,024"; free cells are those of kind 0.
 fn free_cells_add_up(memory: &[u8], reported: u32) {
     let length = |block: &[u8]| u32::from(u16::from_le_bytes([block[4], block[5]]));
-    let live: u32 = memory[..2040].chunks(8).map(length).sum();
+    let live: u32 = memory[..BLOCKS_BYTES].chunks(8).map(length).sum();
     let free = free_cells(memory);
     assert_eq!((free, free + live), (reported, 1024));
 }
@@ -108,6 +111,7 @@ fn demand_three(source: &[u8], inputs: &[u8], fuel: u32, counts: &mut Counts) {
     let past = past(source, inputs, fuel).expect("not refused");
     ends_where_told(&past, answer, &memory);
     counts.add(answer.number, &past);
+    counts.names_above_255 += usize::from(names_given(&memory) > 255);
 }
 
 /// "Both runs end 33 at the first that is false."
@@ -150,6 +154,13 @@ fn holds_on_11000_shuffled_programs() {
 #[test]
 fn holds_on_11000_programs_that_compare_pointers() {
     on_programs(4, 11_000, Generator::comparing_source).show_every_ending(5);
+}
+
+#[test]
+fn holds_on_7000_programs_that_give_many_names() {
+    let counts = on_programs(5, 7_000, Generator::many_names_source);
+    counts.show_every_ending(2);
+    assert!(counts.names_above_255 > 4_000, "{}", counts.names_above_255);
 }
 
 #[test]

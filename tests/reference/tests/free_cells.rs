@@ -4,6 +4,7 @@
 use reference::builder::Builder;
 use reference::generator::Generator;
 use reference::host::{self, inputs, translated};
+use reference::limits::NAMES;
 use reference::machine::{Onlooker, Step};
 use reference::memory::{Block, Memory, State};
 use reference::{plain, watched, Answer};
@@ -43,6 +44,15 @@ fn for_ever(build: impl FnOnce(&mut Builder) -> u16) -> impl FnOnce(&mut Builder
         let one = b.literal(1);
         let body = build(b);
         b.while_do(one, body)
+    }
+}
+
+/// All names but 100 are given and ended before what is built.
+fn nearly_out(build: impl FnOnce(&mut Builder) -> u16) -> impl FnOnce(&mut Builder) -> u16 {
+    |b| {
+        let given = b.give_names(NAMES - 2 - 100);
+        let rest = build(b);
+        b.then(given, rest)
     }
 }
 
@@ -94,9 +104,10 @@ fn a_block_that_is_not_made_takes_nothing() {
         b.then(new, block)
     };
     assert_eq!(ending(let_after_all_cells), (30, 0));
-    // Names 3 to 255 are given one a turn.
-    assert_eq!(ending(for_ever(|b| b.new_in(0, 1))), (31, 1020 - 253));
-    assert_eq!(ending(for_ever(within_let(Builder::skip))), (31, 1020));
+    let blocks = for_ever(|b| b.new_in(0, 1));
+    assert_eq!(ending(nearly_out(blocks)), (31, 1020 - 100));
+    let lets = for_ever(within_let(Builder::skip));
+    assert_eq!(ending(nearly_out(lets)), (31, 1020));
 }
 
 #[test]

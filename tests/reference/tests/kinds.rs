@@ -1,7 +1,7 @@
 //! What each kind of a source table does, by number, in the plain run and in the translation's.
 
 use reference::builder::Builder;
-use reference::host::{both, inputs};
+use reference::host::{both, cell, inputs};
 use reference::Answer;
 
 /// The ending on inputs 7, 9 with fuel 10, and the memory's bytes.
@@ -14,7 +14,7 @@ fn after(build: impl FnOnce(&mut Builder)) -> (Answer, Vec<u8>) {
 #[derive(Debug, PartialEq)]
 enum Held {
     Integer(i64),
-    Pointer(u8, i64),
+    Pointer(u16, i64),
 }
 
 use Held::{Integer, Pointer};
@@ -23,11 +23,11 @@ use Held::{Integer, Pointer};
 fn variable_0(build: impl FnOnce(&mut Builder)) -> Held {
     let (answer, memory) = after(build);
     assert_eq!(answer.number, 0);
-    let cell = &memory[2040..2056];
+    let cell = cell(&memory, 0);
     let number = i64::from_le_bytes(cell[8..].try_into().unwrap());
     match cell[0] {
         2 => Integer(number),
-        3 => Pointer(cell[2], number),
+        3 => Pointer(u16::from_le_bytes([cell[4], cell[5]]), number),
         kind => panic!("a cell of kind {kind}"),
     }
 }

@@ -2,7 +2,7 @@
 
 use reference::builder::Builder;
 use reference::generator::random::Random;
-use reference::host::{both, inputs};
+use reference::host::{block, both, inputs};
 use reference::limits::lowest_run;
 
 #[test]
@@ -45,7 +45,8 @@ fn first_cell_of(size: i64) -> u16 {
     let (answer, memory) = both(&b.table(), &inputs(&[7, 9]), 0);
     assert_eq!(answer.number, 33);
     // Names 1 and 2 are the inputs', 3 to 5 the lets', 6 and 7 the first two blocks'.
-    u16::from_le_bytes([memory[7 * 8 + 2], memory[7 * 8 + 3]])
+    let block = block(&memory, 8);
+    u16::from_le_bytes([block[2], block[3]])
 }
 
 #[test]

@@ -1,7 +1,6 @@
 //! The examples of docs/RULES.md come out as its section 15 says.
 
-use reference::host::{inputs, plain, translated, watched};
-use reference::limits::{BLOCK_BYTES, CELL_BYTES, NAMES};
+use reference::host::{block, cell, inputs, plain, translated, watched};
 use reference::listing::listing;
 use reference::record::{table, Record};
 use reference::Answer;
@@ -119,8 +118,9 @@ impl Example {
             let at = words[1].parse().expect("a cell or a name");
             let (found, told) = match words[2..] {
                 ["holds", ..] => (integer(&memory, at).to_string(), &words[3..]),
-                ["is", "observed", ..] => (block(&observation, at), &words[4..]),
-                ["is", ..] => (block(&memory, at), &words[3..]),
+                ["is", "observed", ..] => (spaced(block(&observation, at)), &words[4..]),
+                ["is", ..] if words[0] == "cell" => (spaced(cell(&memory, at)), &words[3..]),
+                ["is", ..] => (spaced(block(&memory, at)), &words[3..]),
                 _ => panic!("{what}: {fact}"),
             };
             assert_eq!(found, told.join(" "), "{what}: {fact}");
@@ -133,17 +133,11 @@ fn spaced(numbers: &[impl ToString]) -> String {
     texts.join(" ")
 }
 
-/// The bytes of a block record of either memory.
-fn block(memory: &[u8], name: usize) -> String {
-    spaced(&memory[(name - 1) * BLOCK_BYTES..name * BLOCK_BYTES])
-}
-
 /// The integer in a cell.
-fn integer(memory: &[u8], cell: usize) -> i64 {
-    let start = NAMES * BLOCK_BYTES + cell * CELL_BYTES;
-    assert_eq!(memory[start], 2, "cell {cell} holds an integer");
-    let bytes = &memory[start + 8..start + CELL_BYTES];
-    i64::from_le_bytes(bytes.try_into().expect("8 bytes"))
+fn integer(memory: &[u8], at: usize) -> i64 {
+    let cell = cell(memory, at);
+    assert_eq!(cell[0], 2, "cell {at} holds an integer");
+    i64::from_le_bytes(cell[8..].try_into().expect("8 bytes"))
 }
 
 #[test]

@@ -1,7 +1,7 @@
 //! The cases worked on paper, P1 to P10, and R1.
 
 use reference::builder::{asserted_calculation, calculation, Builder};
-use reference::host::{self, inputs, plain, translated, watched};
+use reference::host::{self, block, cell, inputs};
 use reference::listing::listing;
 use reference::numbers::operate;
 use reference::Answer;
@@ -22,8 +22,8 @@ const P2: [(i64, i64, i64); 5] = [(7, 2, 4), (-7, 2, -4), (5, 2, 2), (-5, 2, -2)
 fn result(operator: u8, left: i64, right: i64) -> i64 {
     let (answer, memory) = both(&calculation(operator, left, right));
     assert_eq!((answer.number, answer.record), (0, 0));
-    let cell = &memory[255 * 8..255 * 8 + 16];
-    assert_eq!(cell[..8], [2, 1, 0, 0, 0, 0, 0, 0]);
+    let cell = cell(&memory, 0);
+    assert_eq!(cell[..8], [2, 0, 1, 0, 0, 0, 0, 0]);
     i64::from_le_bytes(cell[8..].try_into().unwrap())
 }
 
@@ -145,9 +145,9 @@ fn p9_a_new_block_after_a_free_has_the_same_first_cell_and_the_next_name() {
     b.sequence(&[first, free, second]);
     let (answer, memory) = both(&b.table());
     assert_eq!(answer, Answer::ending(0, 0, 10, 1024 - 8));
-    assert_eq!(memory[2 * 8..3 * 8], [3, 0, 0, 0, 0, 0, 0, 0]);
-    assert_eq!(memory[3 * 8..4 * 8], [2, 0, 3, 0, 5, 0, 0, 0]);
-    assert_eq!(memory[255 * 8..255 * 8 + 3], [3, 1, 4]);
+    assert_eq!(block(&memory, 3), [3, 0, 0, 0, 0, 0, 0, 0]);
+    assert_eq!(block(&memory, 4), [2, 0, 3, 0, 5, 0, 0, 0]);
+    assert_eq!(cell(&memory, 0)[..6], [3, 0, 1, 0, 4, 0]);
 }
 
 #[test]
@@ -164,26 +164,18 @@ fn p10_false_and_a_read_of_an_undefined_cell_is_false() {
     assert_eq!(number(&b.table()), 0);
 }
 
+/// R1 as 02 §5 has it: names 3 to 4,095 are given one a turn.
 #[test]
-fn r1_lets_in_a_loop_use_the_names_up_at_the_254th_test() {
+fn r1_lets_in_a_loop_use_the_names_up_at_the_4094th_test() {
     let mut b = Builder::source();
     let one = b.literal(1);
     let skip = b.skip();
     let body = b.let_in(1, skip);
     let turns = b.while_do(one, body);
     let source = b.table();
-    let target = translated(&source).expect("accepted");
-    let inputs = inputs(&[7, 9]);
-    let ends = |fuel| {
-        (
-            plain(&source, &inputs, fuel).0,
-            watched(&target, &inputs, fuel).0,
-        )
-    };
-    let names = Answer::ending(31, u32::from(body), 46, 1021);
-    assert_eq!(ends(300), (names, names));
-    let fuel = Answer::ending(32, u32::from(turns), 0, 1021);
-    assert_eq!(ends(0), (fuel, fuel));
-    assert_eq!(ends(253), (fuel, fuel));
-    assert_eq!(ends(254).0.number, 31);
+    let end = |fuel| host::both(&source, &inputs(&[7, 9]), fuel).0;
+    let no_fuel = Answer::ending(32, u32::from(turns), 0, 1021);
+    assert_eq!([0, 300, 4_093].map(end), [no_fuel; 3]);
+    let no_names = |left| Answer::ending(31, u32::from(body), left, 1021);
+    assert_eq!([4_094, 5_000].map(end), [0, 906].map(no_names));
 }

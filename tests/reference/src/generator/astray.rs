@@ -4,7 +4,7 @@ use super::grow::{Grower, Holds};
 use super::Generator;
 
 /// Percent; about one program in four ends 42 or 50.
-const ASTRAY: u64 = 12;
+pub(super) const ASTRAY: u64 = 12;
 
 impl Grower<'_> {
     /// A program that never goes astray draws nothing here, so that its seed gives what it always gave.

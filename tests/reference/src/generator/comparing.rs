@@ -4,7 +4,7 @@ use super::grow::{Grower, Holds};
 use super::Generator;
 
 /// Percent; about one program in five ends 47 at a comparison.
-const COMPARING: u64 = 30;
+pub(super) const COMPARING: u64 = 30;
 
 impl Grower<'_> {
     /// A program that compares no more than others draws nothing here, so that its seed gives what it always gave.
@@ -41,7 +41,7 @@ impl Grower<'_> {
     }
 
     /// t0 takes the variable's value, and its block is recorded.
-    fn record_pointed(&mut self, variable: u8, length: i64) -> u16 {
+    pub fn record_pointed(&mut self, variable: u8, length: i64) -> u16 {
         let pointer = self.builder.read_variable(variable);
         let saved = self.builder.add(61, 0, [pointer, 0, 0]);
         let length = self.builder.literal(length);

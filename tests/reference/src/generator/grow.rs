@@ -1,5 +1,6 @@
 //! Growing expressions and places, guided by what each variable is likely to hold.
 
+use super::many_names;
 use super::random::Random;
 use crate::builder::Builder;
 use crate::limits::TEMPORARIES;
@@ -51,6 +52,8 @@ pub struct Grower<'random> {
     pub astray: u64,
     /// Percent of numbers and assertions that compare pointers.
     pub comparing: u64,
+    /// Names given and ended before the program proper; none for most programs.
+    pub names: usize,
     /// Beyond this many records only small parts are grown.
     pub limit: usize,
 }
@@ -59,6 +62,7 @@ impl<'random> Grower<'random> {
     pub fn new(random: &'random mut Random, in_target: bool) -> Grower<'random> {
         let wild = random.pick(&[0, 0, 0, 1, 3, 12]);
         let limit = random.range(6, 190) as usize;
+        let names = many_names::of_ordinary(in_target, random);
         Grower {
             random,
             builder: Builder::default(),
@@ -68,6 +72,7 @@ impl<'random> Grower<'random> {
             wild,
             astray: 0,
             comparing: 0,
+            names,
             limit,
         }
     }

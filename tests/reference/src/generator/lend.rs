@@ -1,7 +1,7 @@
 //! What a host lends: inputs, fuel and buffers, of right and of wrong lengths.
 
 use super::Generator;
-use crate::limits::{EXECUTION_BYTES, INPUTS, OBSERVATION_BYTES, RECORD_BYTES};
+use crate::limits::{BLOCK_BYTES, EXECUTION_BYTES, INPUTS, NAMES, OBSERVATION_BYTES, RECORD_BYTES};
 use crate::record::records;
 
 impl Generator {
@@ -60,12 +60,18 @@ impl Generator {
 
     /// An execution memory of the right length, full of old bytes.
     pub fn memory(&mut self) -> Vec<u8> {
-        self.random.bytes(EXECUTION_BYTES)
+        self.old_bytes(EXECUTION_BYTES)
     }
 
     /// An observation memory of the right length, full of old bytes.
     pub fn observation(&mut self) -> Vec<u8> {
-        self.random.bytes(OBSERVATION_BYTES)
+        self.old_bytes(OBSERVATION_BYTES)
+    }
+
+    /// As a memory of this length may have been left, from anywhere among the old bytes.
+    fn old_bytes(&mut self, length: usize) -> Vec<u8> {
+        let start = self.random.index(self.old_bytes.len() - length);
+        self.old_bytes[start..start + length].to_vec()
     }
 
     /// An output that 20 accepts for a translation of `count` records, often longer.
@@ -74,15 +80,16 @@ impl Generator {
         self.random.bytes(count as usize * RECORD_BYTES + over)
     }
 
-    /// A buffer of another length than `right`: next to it, empty, or anywhere near.
+    /// A memory of another length than `right`: next to it, empty, anywhere near, or what it had with 255 names.
     pub fn wrong_length(&mut self, right: usize) -> Vec<u8> {
-        let length = match self.random.below(4) {
+        let length = match self.random.below(5) {
             0 => right + 1,
             1 => right.saturating_sub(1),
             2 => 0,
-            _ => right + self.random.range(2, 4000) as usize,
+            3 => right + self.random.range(2, 4000) as usize,
+            _ => right - (NAMES - 255) * BLOCK_BYTES,
         };
-        self.random.bytes(length)
+        self.old_bytes(length)
     }
 
     /// An output too short for a translation of `count` records.

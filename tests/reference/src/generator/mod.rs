@@ -6,6 +6,7 @@ pub mod damage;
 mod divisions;
 mod grow;
 mod lend;
+mod many_names;
 pub mod order;
 mod placing;
 mod predicates;
@@ -37,13 +38,15 @@ pub struct Case {
 #[derive(Debug, Clone)]
 pub struct Generator {
     pub random: Random,
+    /// What lent memories are cut from; drawing their bytes anew would take longer than most plain runs.
+    old_bytes: Vec<u8>,
 }
 
 impl Generator {
     pub fn new(seed: u64) -> Generator {
-        Generator {
-            random: Random::new(seed),
-        }
+        let mut random = Random::new(seed);
+        let old_bytes = random.bytes(2 * EXECUTION_BYTES);
+        Generator { random, old_bytes }
     }
 
     /// An accepted source table, half of them child-first and half in another valid order.

@@ -199,31 +199,26 @@ impl Grower<'_> {
         self.builder.while_do(condition, body)
     }
 
-    /// let i in (i = count; while 1 at most i do (body; i = i - 1)).
     fn counted_loop(&mut self, depth: u32) -> u16 {
         let Some(counter) = self.fresh_variable() else {
             return self.builder.skip();
         };
         self.scope.push((counter, Holds::Count));
-        let place = self.builder.variable(counter);
-        let literal = self.random.pick(&[1, 2, 2, 3, 5, 300]);
-        let count = self.builder.literal(literal);
-        let start = self.builder.take(place, count);
-        let one = self.builder.literal(1);
-        let value = self.builder.read_variable(counter);
-        let condition = self.builder.operator(6, one, value);
+        let turns = self.random.pick(&[1, 2, 2, 3, 5, 300]);
+        let count = self.builder.start_count(counter, turns);
         let body = self.statements(depth - 1);
-        let step = self.builder.decrease(counter);
         self.scope.pop();
-        let both = self.builder.then(body, step);
-        let turns = self.builder.while_do(condition, both);
-        let inside = self.builder.then(start, turns);
-        self.builder.let_in(counter, inside)
+        self.builder.end_count(count, body)
+    }
+
+    /// The variables that a let may take here.
+    pub fn fresh_variables(&self) -> Vec<u8> {
+        let used = |variable: u8| self.scope.iter().any(|(name, _)| *name == variable);
+        (1..VARIABLES as u8).filter(|&v| !used(v)).collect()
     }
 
     fn fresh_variable(&mut self) -> Option<u8> {
-        let used = |variable: u8| self.scope.iter().any(|(name, _)| *name == variable);
-        let fresh: Vec<u8> = (1..VARIABLES as u8).filter(|&v| !used(v)).collect();
+        let fresh = self.fresh_variables();
         (!fresh.is_empty()).then(|| self.random.pick(&fresh))
     }
 
@@ -259,6 +254,14 @@ impl Grower<'_> {
 
     /// A whole program in child-first order.
     pub fn program(&mut self) -> u16 {
+        if self.names > 0 {
+            self.program_after_names()
+        } else {
+            self.program_proper()
+        }
+    }
+
+    pub fn program_proper(&mut self) -> u16 {
         let depth = self.random.range(1, 5) as u32;
         if self.comparing > 0 {
             // A let begins with records of its own, before any statement is labelled.

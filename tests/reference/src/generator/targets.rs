@@ -175,18 +175,13 @@ impl Grower<'_> {
 
     /// The block of a fresh variable recorded, as a translation would, or nearly so.
     pub fn record_let(&mut self, variable: u8) -> u16 {
-        let place = self.builder.variable(variable);
-        let saved = self.builder.add(60, 0, [place, 0, 0]);
         let length = if self.random.chance(90) {
             1
         } else {
             self.random.range(-1, 1100)
         };
-        let length = self.builder.literal(length);
-        let sized = self.builder.add(61, 1, [length, 0, 0]);
-        let stored = self.builder.add(68, 0, [0; 3]);
         self.fill(0, Holds::Inputs);
         self.fill(1, Holds::Integer);
-        self.builder.sequence(&[saved, sized, stored])
+        self.builder.record_let(variable, length)
     }
 }

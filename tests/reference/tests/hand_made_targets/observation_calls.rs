@@ -2,7 +2,7 @@
 
 use crate::target::{ends, number, Target};
 use reference::builder::Builder;
-use reference::host::{inputs, watched};
+use reference::host::{block, inputs, places, watched};
 use reference::Answer;
 
 #[test]
@@ -123,7 +123,7 @@ fn the_marks_of_a_deleted_block_are_0() {
     });
     assert_eq!(answer, Answer::ending(0, 0, 5, 1024 - 3 - 2));
     // The inputs' marks, and none where the block of 2 stood.
-    assert_eq!(observation[2040..2046], [1, 1, 1, 0, 0, 0]);
+    assert_eq!(places(&observation)[..6], [1, 1, 1, 0, 0, 0]);
 }
 
 #[test]
@@ -144,9 +144,9 @@ fn deleted_marks_serve_again_from_the_lowest_run_and_start_at_0() {
             .statement(68, 4, 0);
     });
     assert_eq!(answer, Answer::ending(0, 0, 5, 1024 - 3 - 14));
-    let block = |name: usize| &observation[8 * (name - 1)..8 * name];
+    let block = |name| block(&observation, name);
     assert_eq!(block(3), [2, 0, 0, 0, 0, 0, 0, 0]);
     assert_eq!(block(4), [1, 0, 6, 0, 2, 0, 0, 0]);
     assert_eq!(block(5), [1, 0, 3, 0, 3, 0, 0, 0]);
-    assert_eq!(observation[2040..2050], [1, 1, 1, 0, 0, 0, 1, 0, 0, 0]);
+    assert_eq!(places(&observation)[..10], [1, 1, 1, 0, 0, 0, 1, 0, 0, 0]);
 }
