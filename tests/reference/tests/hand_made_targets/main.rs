@@ -2,6 +2,7 @@
 
 mod comparisons;
 mod kinds;
+mod many_names;
 mod observation_calls;
 mod target;
 mod temporaries;

@@ -15,7 +15,7 @@ pub fn number(build: impl FnOnce(&mut Target)) -> u32 {
     build(&mut target);
     let parts = target.parts.clone();
     target.b.sequence(&parts);
-    let (answer, _, _) = watched(&target.b.table(), &inputs(&[7, 9]), 50);
+    let (answer, _, _) = watched(&target.b.table(), &inputs(&[7, 9]), 200);
     let statement = if answer.number == 0 { 0 } else { HERE as u32 };
     assert_eq!(answer.record, statement);
     answer.number
@@ -53,6 +53,12 @@ impl Target {
         self.parts.push(self.b.take_new(place, size));
         let pointer = self.b.read_variable(0);
         self.parts.push(self.b.add(61, temporary, [pointer, 0, 0]));
+        self
+    }
+
+    /// So many names given and ended again, unknown to the observation memory.
+    pub fn names(&mut self, count: usize) -> &mut Target {
+        self.parts.push(self.b.give_names(count));
         self
     }
 
