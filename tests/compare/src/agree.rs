@@ -54,8 +54,19 @@ pub fn translate(table: &[u8], output: &[u8], margin: usize, what: Arguments) ->
     answer.number
 }
 
-/// What the plain run leaves of a case; the observation is not lent.
+/// What a run answered and left, alike in the library and in the second implementation.
+pub struct Left {
+    pub number: u32,
+    pub memory: Vec<u8>,
+    pub observation: Vec<u8>,
+}
+
 pub fn run_plain(case: &Case, margin: usize, what: Arguments) -> u32 {
+    plain_left(case, margin, what).number
+}
+
+/// What the plain run leaves of a case; the observation is not lent.
+pub fn plain_left(case: &Case, margin: usize, what: Arguments) -> Left {
     let table = Lent::new(&case.table, margin);
     let inputs = Lent::new(&case.inputs, margin);
     let mut memory = Lent::new(&case.memory, margin);
@@ -66,7 +77,11 @@ pub fn run_plain(case: &Case, margin: usize, what: Arguments) -> u32 {
     table.assert_is(&case.table, "table", what);
     inputs.assert_is(&case.inputs, "inputs", what);
     memory.assert_is(&expected, "memory", what);
-    answer.number
+    Left {
+        number: answer.number,
+        memory: expected,
+        observation: Vec::new(),
+    }
 }
 
 /// The pointer with which the plain run of an unrefused case ended 42 or 50, worked out again by the C host; none at
@@ -82,8 +97,12 @@ pub fn used_pointer(case: &Case, margin: usize, what: Arguments) -> u32 {
     answer.number
 }
 
-/// What the watched run leaves of a case.
 pub fn run_watched(case: &Case, margin: usize, what: Arguments) -> u32 {
+    watched_left(case, margin, what).number
+}
+
+/// What the watched run leaves of a case.
+pub fn watched_left(case: &Case, margin: usize, what: Arguments) -> Left {
     let Case {
         table,
         inputs,
@@ -109,5 +128,9 @@ pub fn run_watched(case: &Case, margin: usize, what: Arguments) -> u32 {
     lent_inputs.assert_is(inputs, "inputs", what);
     lent_memory.assert_is(&executed, "memory", what);
     lent_observation.assert_is(&observed, "observation memory", what);
-    answer.number
+    Left {
+        number: answer.number,
+        memory: executed,
+        observation: observed,
+    }
 }

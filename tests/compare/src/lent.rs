@@ -17,8 +17,8 @@ pub struct Lent {
 
 impl Lent {
     pub fn new(content: &[u8], margin: usize) -> Lent {
-        let mut bytes = vec![GUARD; content.len() + 2 * margin];
-        bytes[margin..margin + content.len()].copy_from_slice(content);
+        let guards = vec![GUARD; margin];
+        let bytes = [&guards, content, &guards].concat();
         Lent { bytes, margin }
     }
 

@@ -13,7 +13,7 @@ const KIB: usize = 1024;
 
 /// As the header has it: for a checker or the translator, for the plain run and for the watched run.
 const CHECK_STACK: usize = 128 * KIB;
-const PLAIN_STACK: usize = 256 * KIB;
+const PLAIN_STACK: usize = 384 * KIB;
 const WATCHED_STACK: usize = 2048 * KIB;
 
 /// Does the work in a thread with this much stack.
