@@ -67,6 +67,7 @@ fn the_order_of_refusals() {
         let mut case = generator.target_case();
         if generator.random.chance(50) {
             case.table = generator.damaged_target();
+            case.fuel = generator.fuel_for(&case.table);
         }
         if generator.random.chance(50) {
             case.inputs = generator.bad_inputs();
