@@ -5,13 +5,8 @@
 #include <stdio.h>
 #include <string.h>
 
+#include "layout.h"
 #include "number.h"
-#include "recorder.h"
-
-enum { BLOCKS_BYTES = RECORDER_NAMES * RECORDER_BLOCK_BYTES };
-
-_Static_assert(RECORDER_MEMORY_BYTES == BLOCKS_BYTES + RECORDER_CELLS * RECORDER_CELL_BYTES, "execution memory");
-_Static_assert(RECORDER_OBSERVATION_BYTES == BLOCKS_BYTES + RECORDER_CELLS, "observation memory");
 
 /* How a memory's parts are read: its states, and its units (cells or marks) behind the block records. */
 struct layout {
@@ -25,7 +20,7 @@ struct layout {
 
 static void print_cell(const uint8_t *cell)
 {
-    int64_t number = signed_from_bytes(cell + 8);
+    int64_t number = signed_from_bytes(cell + NUMBER_AT);
     switch (cell[0]) {
     case 0:
         printf("free");
@@ -37,7 +32,7 @@ static void print_cell(const uint8_t *cell)
         printf("%" PRId64, number);
         break;
     default:
-        printf("pointer to block %u, offset %" PRId64, cell[2], number);
+        printf("pointer to block %" PRIu64 ", offset %" PRId64, number_from_bytes(cell + POINTED_AT, 2), number);
     }
 }
 
@@ -55,7 +50,7 @@ static const struct layout OBSERVATION = {
 
 static const uint8_t *unit_at(const struct layout *layout, const uint8_t *memory, size_t index)
 {
-    return memory + BLOCKS_BYTES + index * layout->unit_bytes;
+    return memory + RECORDER_BLOCKS_BYTES + index * layout->unit_bytes;
 }
 
 /* "cell 3" or "cells 3 to 7", `end` being the first that no longer counts. */
@@ -91,7 +86,7 @@ static const uint8_t *block_of(const uint8_t *memory, size_t name)
 
 size_t block_length(const uint8_t *memory, size_t name)
 {
-    return number_from_bytes(block_of(memory, name) + 4, 2);
+    return number_from_bytes(block_of(memory, name) + LENGTH_AT, 2);
 }
 
 static void print_block(const struct layout *layout, const uint8_t *memory, size_t name)
@@ -100,7 +95,7 @@ static void print_block(const struct layout *layout, const uint8_t *memory, size
     const char *state = block[0] < 4 ? layout->states[block[0]] : NULL;
     if (state == NULL)
         return;
-    size_t first = number_from_bytes(block + 2, 2);
+    size_t first = number_from_bytes(block + FIRST_AT, 2);
     size_t end = first + block_length(memory, name);
     /* No run leaves a block that passes the end; nothing beyond it is read all the same. */
     if (first >= end || end > RECORDER_CELLS) {

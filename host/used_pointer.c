@@ -2,9 +2,10 @@
 
 #include <stddef.h>
 
+#include "layout.h"
 #include "number.h"
 
-enum { BLOCKS_BYTES = RECORDER_NAMES * RECORDER_BLOCK_BYTES, VARIABLES = 64, FIRST_LET_NAME = 3 };
+enum { VARIABLES = 64, FIRST_LET_NAME = 3 };
 
 enum state { UNUSED, FIXED, FREEABLE, DEAD };
 
@@ -53,7 +54,8 @@ static struct record record_at(const uint8_t *table, uint32_t number)
 static struct block block_at(const uint8_t *memory, uint32_t name)
 {
     const uint8_t *bytes = memory + (size_t)(name - 1) * RECORDER_BLOCK_BYTES;
-    return (struct block){bytes[0], number_from_bytes(bytes + 2, 2), number_from_bytes(bytes + 4, 2)};
+    size_t first = number_from_bytes(bytes + FIRST_AT, 2), length = number_from_bytes(bytes + LENGTH_AT, 2);
+    return (struct block){bytes[0], first, length};
 }
 
 static bool is_live(struct block block)
@@ -151,7 +153,7 @@ static const uint8_t *cell_at(const uint8_t *memory, struct value to)
     struct block block = block_at(memory, to.name);
     if (!is_live(block) || to.number < 0 || (uint64_t)to.number >= block.length)
         return NULL;
-    return memory + BLOCKS_BYTES + (block.first + (size_t)to.number) * RECORDER_CELL_BYTES;
+    return memory + RECORDER_BLOCKS_BYTES + (block.first + (size_t)to.number) * RECORDER_CELL_BYTES;
 }
 
 static struct value read_from(const uint8_t *memory, struct value place)
@@ -163,7 +165,8 @@ static struct value read_from(const uint8_t *memory, struct value place)
         return stopped_using(place);
     if (cell[0] == UNDEFINED)
         return stopped_otherwise();
-    return (struct value){cell[0], cell[2], signed_from_bytes(cell + 8)};
+    uint32_t name = (uint32_t)number_from_bytes(cell + POINTED_AT, 2);
+    return (struct value){cell[0], name, signed_from_bytes(cell + NUMBER_AT)};
 }
 
 /* Queries as kinds 21 to 23, 30 and 31 ask them. */

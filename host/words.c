@@ -21,8 +21,8 @@ static const struct {
     {RECORDER_TOO_DEEP, "term or predicate that needs a temporary above 63"},
     {RECORDER_BAD_INPUTS, "inputs no multiple of 8 bytes, none, or over 256"},
     {RECORDER_SHORT_OUTPUT, "output shorter than the translation"},
-    {RECORDER_BAD_MEMORY, "execution memory not 18424 bytes"},
-    {RECORDER_BAD_OBSERVATION, "observation memory not 3064 bytes"},
+    {RECORDER_BAD_MEMORY, "execution memory not"},
+    {RECORDER_BAD_OBSERVATION, "observation memory not"},
     {RECORDER_NO_CELLS, "no run of free cells long enough"},
     {RECORDER_NO_NAMES, "all names given"},
     {RECORDER_NO_FUEL, "no fuel at a while test"},
@@ -48,6 +48,16 @@ static const char *in_words(uint32_t number)
     return "a number that the header does not have";
 }
 
+/* Prints the words, with the length that 21 and 22 ask for. */
+static void print_words(uint32_t number)
+{
+    printf("%s", in_words(number));
+    if (number == RECORDER_BAD_MEMORY)
+        printf(" %d bytes", RECORDER_MEMORY_BYTES);
+    if (number == RECORDER_BAD_OBSERVATION)
+        printf(" %d bytes", RECORDER_OBSERVATION_BYTES);
+}
+
 bool is_refusal(recorder_answer answer)
 {
     return answer.number >= RECORDER_BAD_LENGTH && answer.number <= RECORDER_BAD_OBSERVATION;
@@ -59,7 +69,9 @@ int tell_refusal(const char *what, recorder_answer answer)
         printf("%s: refusal %" PRIu32, what, answer.number);
         if (answer.record != 0)
             printf(" at record %" PRIu32, answer.record);
-        printf(" (%s)\n", in_words(answer.number));
+        printf(" (");
+        print_words(answer.number);
+        printf(")\n");
     }
     return (int)answer.number;
 }
@@ -69,7 +81,7 @@ static void print_reason(recorder_answer answer, const uint8_t *table, const uin
 {
     struct used_pointer used;
     if (table == NULL || !used_pointer(table, answer, memory, &used)) {
-        printf("%s", in_words(answer.number));
+        print_words(answer.number);
     } else if (answer.number == RECORDER_DEAD_BLOCK) {
         printf("block %" PRIu32 " is dead; its offset %" PRId64 " was used", used.name, used.offset);
     } else {

@@ -4,8 +4,8 @@
  * the watched run runs that with an observation memory beside the execution memory. Link target/staticlib/librecorder.a
  * (`rt check recorder && rt staticlib recorder` write it; x86-64). host/ is a program over this header.
  *
- *     uint8_t target[RECORDER_TRANSLATION_BYTES];
- *     uint8_t memory[RECORDER_MEMORY_BYTES], observation[RECORDER_OBSERVATION_BYTES];
+ *     static uint8_t target[RECORDER_TRANSLATION_BYTES];
+ *     static uint8_t memory[RECORDER_MEMORY_BYTES], observation[RECORDER_OBSERVATION_BYTES];
  *     recorder_answer answer = recorder_translate(table, table_len, target, sizeof target);
  *     if (answer.number == RECORDER_DONE)
  *         answer = recorder_run_watched(target, (size_t)answer.record * RECORDER_RECORD_BYTES, inputs, inputs_len,
@@ -20,7 +20,7 @@
  *     does not matter. Lengths count bytes;
  *   - comes to an end: the work of a run is bounded by its table and its fuel.
  *
- * Stack: 128 KiB are enough for the checkers and the translator, 256 KiB for the plain run and 2 MiB for the watched
+ * Stack: 128 KiB are enough for the checkers and the translator, 384 KiB for the plain run and 2 MiB for the watched
  * run, whatever the table. Tests run the deepest tables in threads with so much; no proof speaks of the stack. A loop
  * takes no more stack for more turns.
  *
@@ -37,6 +37,12 @@
 extern "C" {
 #endif
 
+/* Rises with every change of a layout or a size below; 2 since block names take two bytes of a cell. A host that has
+ * layouts of its own can assert it, and one that keeps memories can write it beside them. At run time 20, 21 and 22
+ * refuse the buffers of a host that was built for other sizes.
+ */
+#define RECORDER_VERSION 2
+
 /* Sizes. */
 enum {
     RECORDER_RECORD_BYTES = 16,
@@ -45,12 +51,13 @@ enum {
     RECORDER_TRANSLATION_BYTES = 57344,  /* hold any translation: at most 14 records from each source record */
     RECORDER_INPUT_BYTES = 8,            /* an input is a signed 64-bit number */
     RECORDER_INPUTS = 256,               /* at most; at least 1 */
-    RECORDER_NAMES = 255,                /* block names run from 1 to 255 */
+    RECORDER_NAMES = 4095,               /* block names run from 1 to 4,095 */
     RECORDER_CELLS = 1024,               /* and as many marks */
     RECORDER_BLOCK_BYTES = 8,            /* a block record, in both memories */
     RECORDER_CELL_BYTES = 16,
-    RECORDER_MEMORY_BYTES = 18424,       /* 255 block records of 8, then 1,024 cells of 16 */
-    RECORDER_OBSERVATION_BYTES = 3064    /* 255 block records of 8, then 1,024 marks of 1 */
+    RECORDER_BLOCKS_BYTES = 32760,       /* 4,095 block records of 8: where the cells start, and the marks */
+    RECORDER_MEMORY_BYTES = 49144,       /* the block records, then 1,024 cells of 16 */
+    RECORDER_OBSERVATION_BYTES = 33784   /* the block records, then 1,024 marks of 1 */
 };
 
 /* A table: records of 16 bytes without a header, numbered from 1.
@@ -74,9 +81,10 @@ enum {
  *          bytes 4-5  length in cells    (0 unless live)
  *          bytes 6-7  0
  *   cell:  byte 0     kind: 0 free, 1 undefined, 2 integer, 3 pointer
- *          byte 1     owner: the name of its block       (0 when free)
- *          byte 2     the name pointed to                (0 unless a pointer)
- *          bytes 3-7  0
+ *          byte 1     0
+ *          bytes 2-3  owner: the name of its block       (0 when free)
+ *          bytes 4-5  the name pointed to                (0 unless a pointer)
+ *          bytes 6-7  0
  *          bytes 8-15 the integer, or the pointer's offset, signed
  *
  * Observation memory: block records with state 0 unused, 1 live, 2 dead, and otherwise alike, the first counting marks;
@@ -112,8 +120,8 @@ enum recorder_number {
 
     /* Refusals because of a lent buffer, tried after those. They name no record. */
     RECORDER_SHORT_OUTPUT = 20,    /* output shorter than the translation */
-    RECORDER_BAD_MEMORY = 21,      /* execution memory not 18,424 bytes */
-    RECORDER_BAD_OBSERVATION = 22, /* observation memory not 3,064 bytes */
+    RECORDER_BAD_MEMORY = 21,      /* execution memory not 49,144 bytes */
+    RECORDER_BAD_OBSERVATION = 22, /* observation memory not 33,784 bytes */
 
     /* Endings of a run. */
     RECORDER_NO_CELLS = 30,        /* no run of free cells long enough */
