@@ -114,7 +114,7 @@ static void start(machine *m, const uint8_t *inputs, unsigned count)
     memset(memory, 0, sizeof *memory);
     memory->blocks[0] = (block){.state = FIXED, .length = 1};
     memory->blocks[1] = (block){.state = FIXED, .first = 1, .length = count};
-    memory->cells[0] = (cell){POINTER | 1 << OWNER_AT | 2 << NAME_AT, 0};
+    memory->cells[0] = (cell){pointer(2, 0).word | 1 << OWNER_AT, 0};
     for (unsigned i = 0; i < count; i++) {
         memory->cells[i + 1].word = INTEGER | 2 << OWNER_AT;
         memcpy(&memory->cells[i + 1].number, inputs + i * 8, 8);
