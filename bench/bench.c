@@ -19,35 +19,42 @@ typedef struct lent {
     uint8_t memory[RECORDER_MEMORY_BYTES], observation[RECORDER_OBSERVATION_BYTES], out[OUTPUT];
 } lent;
 
-typedef recorder_answer call(const uint8_t *table, size_t length, lent *to);
+/* What a call gets, and the number that it has to answer. */
+typedef struct given {
+    const uint8_t *table;
+    size_t length;
+    uint32_t fuel, number;
+} given;
+
+typedef recorder_answer call(const given *g, lent *to);
 
 static const int64_t inputs[2] = {7, 9};
 #define INPUTS_LENT (const uint8_t *)inputs, sizeof inputs
 
 /* The five calls of one side, whose names begin alike. */
 #define SIDE(side, named)                                                                                              \
-    static recorder_answer side##_plain(const uint8_t *t, size_t length, lent *to)                                     \
+    static recorder_answer side##_plain(const given *g, lent *to)                                                      \
     {                                                                                                                  \
-        return named##_run_plain(t, length, INPUTS_LENT, FUEL, to->memory, sizeof to->memory);                         \
+        return named##_run_plain(g->table, g->length, INPUTS_LENT, g->fuel, to->memory, sizeof to->memory);            \
     }                                                                                                                  \
-    static recorder_answer side##_watched(const uint8_t *t, size_t length, lent *to)                                   \
+    static recorder_answer side##_watched(const given *g, lent *to)                                                    \
     {                                                                                                                  \
-        return named##_run_watched(t, length, INPUTS_LENT, FUEL, to->memory, sizeof to->memory, to->observation,       \
-                                   sizeof to->observation);                                                            \
+        return named##_run_watched(g->table, g->length, INPUTS_LENT, g->fuel, to->memory, sizeof to->memory,           \
+                                   to->observation, sizeof to->observation);                                           \
     }                                                                                                                  \
-    static recorder_answer side##_source(const uint8_t *t, size_t length, lent *to)                                    \
+    static recorder_answer side##_source(const given *g, lent *to)                                                     \
     {                                                                                                                  \
         (void)to;                                                                                                      \
-        return named##_check_source(t, length);                                                                        \
+        return named##_check_source(g->table, g->length);                                                              \
     }                                                                                                                  \
-    static recorder_answer side##_target(const uint8_t *t, size_t length, lent *to)                                    \
+    static recorder_answer side##_target(const given *g, lent *to)                                                     \
     {                                                                                                                  \
         (void)to;                                                                                                      \
-        return named##_check_target(t, length);                                                                        \
+        return named##_check_target(g->table, g->length);                                                              \
     }                                                                                                                  \
-    static recorder_answer side##_translate(const uint8_t *t, size_t length, lent *to)                                 \
+    static recorder_answer side##_translate(const given *g, lent *to)                                                  \
     {                                                                                                                  \
-        return named##_translate(t, length, to->out, sizeof to->out);                                                  \
+        return named##_translate(g->table, g->length, to->out, sizeof to->out);                                        \
     }
 
 SIDE(library, recorder)
@@ -71,17 +78,17 @@ static double seconds(void)
     return t.tv_sec + t.tv_nsec * 1e-9;
 }
 
-static double time_of(call *f, unsigned times, const uint8_t *t, size_t length)
+static double time_of(call *f, unsigned times, const given *g)
 {
     static lent to;
     double begin = seconds();
     for (unsigned i = 0; i < times; i++)
-        f(t, length, &to);
+        f(g, &to);
     return (seconds() - begin) / times;
 }
 
-/* Both give one answer, a 0, and write the same bytes. They get different ones where a run clears them. */
-static void compare(const char *name, unsigned which, const uint8_t *t, size_t length)
+/* Both give the answer asked for and write the same bytes. They get different ones where a run clears them. */
+static void compare(const char *name, unsigned which, const given *g)
 {
     static lent to[2];
     memset(to, 0xa5, sizeof to);
@@ -89,8 +96,8 @@ static void compare(const char *name, unsigned which, const uint8_t *t, size_t l
         memset(to[1].memory, 0x5a, sizeof to[1].memory);
     if (which == WATCHED)
         memset(to[1].observation, 0x5a, sizeof to[1].observation);
-    recorder_answer a = calls[which].library(t, length, &to[0]), b = calls[which].c(t, length, &to[1]);
-    if (a.number != 0 || memcmp(&a, &b, sizeof a) || memcmp(&to[0], &to[1], sizeof to[0])) {
+    recorder_answer a = calls[which].library(g, &to[0]), b = calls[which].c(g, &to[1]);
+    if (a.number != g->number || memcmp(&a, &b, sizeof a) || memcmp(&to[0], &to[1], sizeof to[0])) {
         fprintf(stderr, "%s, %s: they differ: library %u %u %u %u, C %u %u %u %u\n", calls[which].name, name, a.number,
                 a.record, a.fuel, a.free_cells, b.number, b.record, b.fuel, b.free_cells);
         exit(1);
@@ -98,14 +105,14 @@ static void compare(const char *name, unsigned which, const uint8_t *t, size_t l
 }
 
 /* The library's best time. */
-static double measure(const char *name, unsigned which, const uint8_t *t, size_t length)
+static double measure(const char *name, unsigned which, const given *g)
 {
     call *library = calls[which].library, *c = calls[which].c;
-    compare(name, which, t, length);
+    compare(name, which, g);
     double best[2] = {1e9, 1e9};
-    unsigned times = 1 + 0.002 / time_of(c, 10, t, length);
+    unsigned times = 1 + 0.002 / time_of(c, 10, g);
     for (int turn = 0; turn < TURNS; turn++) {
-        double x = time_of(library, times, t, length), y = time_of(c, times, t, length);
+        double x = time_of(library, times, g), y = time_of(c, times, g);
         best[0] = x < best[0] ? x : best[0];
         best[1] = y < best[1] ? y : best[1];
     }
@@ -115,19 +122,23 @@ static double measure(const char *name, unsigned which, const uint8_t *t, size_t
     return best[0];
 }
 
-/* The table for a call: watched runs and the target checker get the translation. */
-static size_t build(const program *p, unsigned which, const uint8_t **bytes)
+/* What a row's call gets: watched runs and the target checker the translation. */
+static given build(const program *p, unsigned which)
 {
     static uint8_t out[OUTPUT];
     table_records = 0;
     p->build();
-    *bytes = (const uint8_t *)table;
-    size_t length = table_records * sizeof(record);
+    given g = {(const uint8_t *)table, table_records * sizeof(record), FUEL, RECORDER_DONE};
+    if (p->turns != 0) {
+        g.fuel = p->turns;
+        g.number = RECORDER_NO_FUEL;
+    }
     if ((which != WATCHED && which != TARGET) || p->calls == CALL(TARGET))
-        return length;
-    recorder_answer made = recorder_translate(*bytes, length, out, sizeof out);
-    *bytes = out;
-    return made.record * sizeof(record);
+        return g;
+    recorder_answer made = recorder_translate(g.table, g.length, out, sizeof out);
+    g.table = out;
+    g.length = made.record * sizeof(record);
+    return g;
 }
 
 #define EACH_ROW(p, which)                                                                                             \
@@ -145,24 +156,22 @@ static int list_rows(void)
 static int call_once(const char *side, const char *call_name, const char *name)
 {
     static lent to;
-    const uint8_t *bytes;
     EACH_ROW(p, which)
         if (strcmp(call_name, calls[which].name) == 0 && strcmp(name, p->name) == 0) {
-            size_t length = build(p, which, &bytes);
+            given g = build(p, which);
             call *f = strcmp(side, "c") == 0 ? calls[which].c : calls[which].library;
-            return f(bytes, length, &to).number;
+            return f(&g, &to).number != g.number;
         }
     return 2;
 }
 
 static int time_rows(void)
 {
-    const uint8_t *bytes;
     double best[PROGRAM_COUNT][CALLS];
     printf("%-9s %-31s %12s %12s %8s\n", "call", "table", "library µs", "C µs", "ratio");
     EACH_ROW(p, which) {
-        size_t length = build(p, which, &bytes);
-        best[p - programs][which] = measure(p->name, which, bytes, length);
+        given g = build(p, which);
+        best[p - programs][which] = measure(p->name, which, &g);
     }
     printf("\n%-41s %8s\n", "the library's watched run / plain run", "ratio");
     EACH_ROW(p, which)

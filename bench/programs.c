@@ -212,27 +212,42 @@ static void new_beside_blocks(void)
     let(1, let(2, then(blocks, new_and_free_in_a_loop(50))));
 }
 
+/* Loops for ever, so that next to nothing is counted but what makes a block and ends it. */
+static void lets_for_ever(void)
+{
+    unsigned test = literal(1);
+    repeat(test, let(1, add(40, 0, 0, 0, 0, 0)));
+}
+
+static void new_and_free_for_ever(void)
+{
+    unsigned test = literal(1), made = make(1, 8);
+    let(1, repeat(test, then(made, release(value_of(1)))));
+}
+
 #define RUNS (CALL(PLAIN) | CALL(WATCHED))
 
 const program programs[PROGRAM_COUNT] = {
-    {"one call (skip)", skip, RUNS},
-    {"counting loop", count, RUNS},
-    {"fill and sum, 200 cells", fill_and_sum, RUNS},
-    {"lets in a loop", lets, RUNS},
-    {"lets around loops", lets_around_loops, RUNS},
-    {"new and free", new_and_free, RUNS},
-    {"new, fill and free", new_fill_and_free, RUNS},
-    {"assertions on *p", assertions, RUNS},
-    {"linked list", list, RUNS},
-    {"lets beside 1,000 cells", lets_beside_cells, RUNS},
-    {"lets beside a low hole", lets_beside_hole, RUNS},
-    {"lets beside 200 blocks", lets_beside_blocks, RUNS},
-    {"new and free beside 900 cells", new_beside_cells, RUNS},
-    {"new and free beside a low hole", new_beside_hole, RUNS},
-    {"new and free beside 200 blocks", new_beside_blocks, RUNS},
-    {"check one skip", skip, CALL(SOURCE) | CALL(TARGET)},
-    {"check source, 256 records", build_source, CALL(SOURCE)},
-    {"check target, 4,096 records", build_target, CALL(TARGET)},
-    {"translate, 256 records", build_source, CALL(TRANSLATE)},
-    {"translate, into 3,493 records", build_most_lets, CALL(TRANSLATE)},
+    {"one call (skip)", skip, .calls = RUNS},
+    {"counting loop", count, .calls = RUNS},
+    {"fill and sum, 200 cells", fill_and_sum, .calls = RUNS},
+    {"lets in a loop", lets, .calls = RUNS},
+    {"lets around loops", lets_around_loops, .calls = RUNS},
+    {"new and free", new_and_free, .calls = RUNS},
+    {"new, fill and free", new_fill_and_free, .calls = RUNS},
+    {"assertions on *p", assertions, .calls = RUNS},
+    {"linked list", list, .calls = RUNS},
+    {"lets beside 1,000 cells", lets_beside_cells, .calls = RUNS},
+    {"lets beside a low hole", lets_beside_hole, .calls = RUNS},
+    {"lets beside 200 blocks", lets_beside_blocks, .calls = RUNS},
+    {"new and free beside 900 cells", new_beside_cells, .calls = RUNS},
+    {"new and free beside a low hole", new_beside_hole, .calls = RUNS},
+    {"new and free beside 200 blocks", new_beside_blocks, .calls = RUNS},
+    {"4,090 lets", lets_for_ever, .calls = RUNS, .turns = 4090},
+    {"4,090 new and free", new_and_free_for_ever, .calls = RUNS, .turns = 4090},
+    {"check one skip", skip, .calls = CALL(SOURCE) | CALL(TARGET)},
+    {"check source, 256 records", build_source, .calls = CALL(SOURCE)},
+    {"check target, 4,096 records", build_target, .calls = CALL(TARGET)},
+    {"translate, 256 records", build_source, .calls = CALL(TRANSLATE)},
+    {"translate, into 3,493 records", build_most_lets, .calls = CALL(TRANSLATE)},
 };

@@ -11,9 +11,10 @@ typedef struct program {
     const char *name;
     void (*build)(void);
     unsigned calls;
+    unsigned turns; /* of a loop for ever: its run gets so much fuel and ends 32; 0 where a run finishes by itself */
 } program;
 
-#define PROGRAM_COUNT 20
+#define PROGRAM_COUNT 22
 
 extern const program programs[PROGRAM_COUNT];
 
