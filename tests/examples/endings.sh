@@ -78,7 +78,27 @@ shows $'  block 4: live and freeable\n    cells 3 to 7: undefined\n  dead names:
 shows $'  block 5: live\n    mark 4: initialised\n    mark 5: not initialised\n  dead names: 4\n' \
     watch examples/two-assertions.txt
 shows $'observation memory\n  block 1: live\n    mark 0: initialised\n' watch examples/P1.txt
+
+# Names above 255: of a let, of what it points to, of dead blocks.
+shows $'  dead names: 3 to 302\n' run examples/R1.txt --fuel 300
 shows $'  dead names: 3 to 4095\n' run examples/R1.txt --fuel 5000
+shows $'  block 304: live and fixed\n    cell 4: pointer to block 305, offset 0\n' run examples/many-names.txt
+shows $'  block 305: live and freeable\n    cell 5: 7\n    cell 6: undefined\n  dead names: 4 to 303\n' \
+    run examples/many-names.txt
+shows $'  block 304: live\n    mark 4: initialised\n  block 305: live\n    mark 5: initialised\n' \
+    watch examples/many-names.txt
+shows $'    mark 6: not initialised\n  dead names: 4 to 303\n' watch examples/many-names.txt
+
+# They are told whole where they end a run. In place of the example's second assertion: a store to *(p + 2).
+outside=$(sed 's/^36 .*/36 1 0 0 0 0 2/; s/^38 .*/38 11 0 37 0 0 0/; s/^39 .*/39 1 0 0 0 0 5/
+    s/^40 .*/40 41 0 38 39 0 0/' examples/many-names.txt | table names-outside)
+# And a free of p in place of the first.
+dead=$(sed 's/^31 .*/31 43 0 30 0 0 0/; s/^32 .*/32 40 0 0 0 0 0/; s/^33 .*/33 44 0 31 32 0 0/' \
+    "$outside" | table names-dead)
+for run in run watch; do
+    expect 50 'ending 50 (offset 2 is outside block 305, which has 2 cells) at statement 40' "$run" "$outside"
+    expect 42 'ending 42 (block 305 is dead; its offset 2 was used) at statement 40' "$run" "$dead"
+done
 
 # Endings that only a hand-made target has: a block stored twice, and an empty temporary.
 stored_twice=$(table stored-twice <<'END'
