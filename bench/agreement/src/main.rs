@@ -5,6 +5,7 @@ mod c;
 mod deep;
 
 use reference::generator::{Case, Generator};
+use reference::high_names::{self, Counts};
 use reference::plain::run_plain;
 use reference::translator::{translate, translation};
 use reference::watched::run_watched;
@@ -74,6 +75,24 @@ fn compare_accepted(what: &str, watched: bool, make: fn(&mut Generator) -> Vec<u
     })
 }
 
+/// Accepted tables that give many names first; the memories have shown all that such names may do to them.
+fn compare_many_names(what: &str, watched: bool, make: fn(&mut Generator) -> Vec<u8>) -> Numbers {
+    let mut shown = Counts::new();
+    let numbers = compare_all(what, |generator| {
+        let table = make(generator);
+        let case = unrefused(table, generator);
+        let expected = run_reference(&case, watched);
+        high_names::count(&expected.1, &mut shown);
+        if watched {
+            high_names::count_recorded(&expected.2, &mut shown);
+        }
+        (expected, run_c(&case, watched))
+    });
+    assert!(shown.values().all(|&count| count > 0), "{what}: shown by none of the memories: {shown:?}");
+    println!("{what}: memories that show names above a byte: {shown:?}");
+    numbers
+}
+
 type Check = fn(&[u8]) -> Answer;
 
 fn compare_checks(what: &str, expected: Check, found: Check, make: fn(&mut Generator) -> Vec<u8>) -> Numbers {
@@ -108,12 +127,14 @@ fn compare_plain() {
     let mut met = compare_accepted("accepted programs, plain run", false, Generator::accepted_source);
     met.extend(compare_runs("source tables, plain run", false, |generator| generator.source_case()));
     met.extend(compare_accepted("programs that compare pointers, plain run", false, Generator::comparing_source));
+    met.extend(compare_many_names("programs after many names, plain run", false, Generator::many_names_source));
     all_met("plain run", met, &[0..=9, 21..=21, 30..=33, 40..=47, 50..=50]);
 }
 
 fn compare_watched() {
     let mut met = compare_runs("target tables, watched run", true, |generator| generator.target_case());
     met.extend(compare_accepted("targets that compare pointers, watched run", true, Generator::comparing_target));
+    met.extend(compare_many_names("targets after many names, watched run", true, Generator::many_names_target));
     all_met("watched run", met, &[0..=7, 9..=9, 21..=22, 30..=33, 40..=50]);
 }
 
