@@ -30,6 +30,7 @@ fn compiled(root: &Path, name: &str, out: &Path) -> PathBuf {
     run(gcc.arg("-o").arg(&object).arg(&source));
     rerun_if_changed(&source);
     rerun_if_changed(&source.with_extension("h"));
+    rerun_if_changed(&host.join("layout.h"));
     rerun_if_changed(&include.join("recorder.h"));
     object
 }

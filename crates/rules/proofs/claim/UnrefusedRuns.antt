@@ -4,7 +4,8 @@ use Prim.Native.Nat.{ℕ}
 use mathlib.Core.Bool.{Bool, true, false, not}
 use mathlib.Core.List.{List}
 use mathlib.Core.Path.{_≡_, refl, ap, _∙_}
-use borrow.Author.Tests.{eq-eqb}
+use native.Mathlib.Omega.{arith}
+use borrow.Author.Tests.{eq-eqb, ne-eqb}
 use lib.Dec.{eqb}
 use lib.ListN.{length}
 use Rattle.rules.specs.Sizes.{memoryLength, observationLength}
@@ -21,6 +22,20 @@ use Rattle.rules.proofs.acceptance.CheckLaws.{Numbered, check-numbered}
 -- a buffer of the right length is not refused
 right-length : (l : List ℕ) (n : ℕ) → length l ≡ n → not (eqb (length l) n) ≡ false
 right-length l n e = ap not (eq-eqb (length l) n e)
+
+-- 02 §5: "21 tests for 49,144 bytes and 22 for 33,784"
+pub lengths-tested : (memory observation : List ℕ)
+    → (memoryFault memory ≡ not (eqb (length memory) 49144))
+    × (observationFault observation ≡ not (eqb (length observation) 33784))
+lengths-tested memory observation = (refl, refl)
+
+-- 02 §5: "Old images are not read."
+pub old-images-refused : (memory observation : List ℕ) → length memory ≡ 18424 → length observation ≡ 3064
+    → (memoryFault memory ≡ true) × (observationFault observation ≡ true)
+old-images-refused memory observation e h = (
+  ap not (ne-eqb (length memory) memoryLength (λ q. omega (arith, e, q))),
+  ap not (ne-eqb (length observation) observationLength (λ q. omega (arith, h, q))),
+)
 
 -- a run that is not refused
 pub plain-runs : (t i : List ℕ) (f : ℕ) (memory : List ℕ) → check source t ≡ Checked.Accepted → inputsFault i ≡ false
