@@ -7,8 +7,9 @@ ghost use Rattle.rules.specs.Nodes.{targetProgram, targetStatementAt};
 ghost use Rattle.rules.specs.Flow.{ending};
 ghost use Rattle.rules.specs.Plain.{startVariables};
 ghost use Rattle.rules.specs.Watched.{watching, watch, startTemporaries};
-ghost use Rattle.rules.specs.Layout.{memoryOf, observationOf};
-ghost use Rattle.rules.specs.Answers.{watchedEnded, watchedOutcome, watchedBy, runWatched};
+ghost use Rattle.rules.specs.Layout.{memoryOf, memoryImage, observationOf};
+ghost use Rattle.rules.specs.Memory.{startMemory};
+ghost use Rattle.rules.specs.Answers.{inputsOf, watchedEnded, watchedOutcome, watchedBy, runWatched};
 ghost use Rattle.rules.specs.declared.{Checked.Checked};
 ghost use Rattle.memory_counts.specs.Counted.{Counted};
 ghost use Rattle.watched_statements.specs.Watching.{Beside, Ready, Leaves, AnsweredBy};
@@ -78,7 +79,7 @@ fn run_table(
     run_from_start(&whole, table.len() / 16, mem, obs, owners, counts, fuel)
 }
 
-// Lays out the inputs in both memories and runs an accepted table.
+// Records the inputs in the observation memory and runs an accepted table.
 fn run_memories(
     table: &[u8],
     inputs: &[u8],
@@ -86,11 +87,11 @@ fn run_memories(
     mem: &mut ExecutionMemory,
     obs: &mut ObservationMemory,
 ) -> Answer
-    requires { ⌜ (check target (now table) ≡ Checked.Accepted) × (inputsFault (now inputs) ≡ false) ⌝ }
+    requires { ⌜ (check target (now table) ≡ Checked.Accepted) × (inputsFault (now inputs) ≡ false)
+        × (now mem ≡ memoryImage (startMemory (inputsOf (now inputs)))) ⌝ }
     ensures { λ r. ⌜ AnsweredBy (watchedEnded (ending (watchedOutcome (now (table .entry)) (now (inputs .entry)) fuel))) r
         (now (mem .exit)) (now (obs .exit)) ⌝ }
 {
-    memory_start::start(mem, inputs);
     let mut owners = [0u16; OWNERS_LENGTH];
     watched_noting::start_observation(obs, &mut owners, inputs.len() / 8);
     let mut counts = memory_counts::start(inputs.len() / 8);
@@ -103,7 +104,8 @@ fn run_memories(
     }
 }
 
-// The same; what it leaves in both memories is copied out.
+// Lays out the inputs first; what the run leaves in both memories is copied out. Each memory is made just before it is
+// cleared, so that the compiler clears it once.
 fn run_inputs(
     table: &[u8],
     inputs: &[u8],
@@ -117,6 +119,7 @@ fn run_inputs(
         (now (memory .exit)) (now (observation .exit)) ⌝ }
 {
     let mut mem = [0u8; MEMORY_LENGTH];
+    memory_start::start(&mut mem, inputs);
     let mut obs = [0u8; OBSERVATION_LENGTH];
     let answer = run_memories(table, inputs, fuel, &mut mem, &mut obs);
     run_buffers::copy(memory, &mem[..]);

@@ -8,49 +8,42 @@ use borrow.Author.Needs.{needs}
 use Rattle.watched.proofs.run_memories.Statement.{statement}
 use Rattle.watched.proofs.run_memories.Tie as tie
 
-start-requires : tie.Need-start-requires
-start-requires c κs =
-    let s = c .before .before .before in
-    inputs-short (s .args .inputs .now) (s .pre .1)
-
 start-observation-requires : tie.Need-start-observation-requires
 start-observation-requires c κs =
-    let s = c .before .before .before .before .before .before in
+    let s = c .before .before .before .before in
     (omega (arith, inputs-short (s .args .inputs .now) (s .pre .1)), refl)
 
-start-requires-2 : tie.Need-start-requires-2
-start-requires-2 c κs =
-    let s = c .before .before .before .before .before .before .before in
+start-requires : tie.Need-start-requires
+start-requires c κs =
+    let s = c .before .before .before .before .before in
     omega (arith, inputs-short (s .args .inputs .now) (s .pre .1))
 
 run-table-requires : tie.Need-run-table-requires
 run-table-requires c κs =
-    let after-start2 = c .before .before .before .before in
-    let after-start-observation = after-start2 .before in
-    let after-start = after-start-observation .before .before .before in
-    let s = after-start .before .before .before .before in
-    let i = s .args .inputs .now in
-    let l = after-start .start .last .0 in (
+    let after-start = c .before .before .before .before in
+    let after-start-observation = after-start .before in
+    let s = after-start-observation .before .before .before .before .before in (
       s .pre .0,
       record {
-        counted = counted-start i l (s .pre .1) (after-start .start .ensures) (after-start2 .start2 .ensures);
+        counted =
+            counted-start (s .args .inputs .now) (s .args .mem .now) (s .pre .1) (s .pre .2)
+            (after-start .start .ensures);
         owned = after-start-observation .start-observation .ensures .1;
       },
     )
 
-array-read-t13 : tie.Need-array-read-t13
-array-read-t13 c = search needs
+array-read-t12 : tie.Need-array-read-t12
+array-read-t12 c = search needs
 
-cast-t22 : tie.Need-cast-t22
-cast-t22 c = free-fits (c .run-table .ensures .1)
+cast-t21 : tie.Need-cast-t21
+cast-t21 c = free-fits (c .run-table .ensures .1)
 
 returns : tie.Need-returns
 returns c =
     let after-start-observation = c .before .before .before .before .before .before in
-    let after-start = after-start-observation .before .before .before in
-    let s = after-start .before .before .before .before in
-    entry-ends (s .args .inputs .now) (s .pre .1) (after-start .start .last .0)
-    (after-start-observation .start-observation .last .0) (after-start .start .ensures)
+    let s = after-start-observation .before .before .before .before .before in
+    entry-ends (s .args .inputs .now) (s .pre .1) (s .args .mem .now)
+    (after-start-observation .start-observation .last .0) (s .pre .2)
     (after-start-observation .start-observation .ensures .0) (s .args .table .now) (s .args .fuel)
     (c .run-table .result) _ _ (freeIn (c .run-table .last .1 .1 .1 .1 .0)) (c .run-table .ensures .0)
     (c .run-table .ensures .1 .free)
@@ -58,11 +51,4 @@ returns c =
 pub run-memories-spec : {M : Type 1} → statement M
 run-memories-spec =
     tie.close
-    (tie.spec
-    start-requires
-    start-observation-requires
-    start-requires-2
-    run-table-requires
-    array-read-t13
-    cast-t22
-    returns)
+    (tie.spec start-observation-requires start-requires run-table-requires array-read-t12 cast-t21 returns)
