@@ -184,3 +184,22 @@ pub fn find_place(
         )),
     }
 }
+
+// The value of expression n of a statement. A literal, as most sizes are, takes no call.
+pub fn evaluate_expression(
+    table: &Table,
+    n: usize,
+    variables: &Variables,
+    temporaries: &Temporaries,
+    mem: &ExecutionMemory,
+) -> Evaluated
+    requires { ⌜ sortOfNode target (nodeAt target (now table) n) ≡ sortNumber expression ⌝ }
+    ensures { λ r. ⌜ r ≡ evaluate (asExpression (nodeAt target (now (table .entry)) n))
+        (temporaryOf (temporariesOf (now (temporaries .entry)))) (variablesOf (now (variables .entry)))
+        (memoryOf (now (mem .entry))) ⌝ }
+{
+    if table::kind(&table[..], n) == 1 {
+        return Evaluated::Value(Value::Integer(table::literal(&table[..], n)));
+    }
+    evaluate(table, n, variables, temporaries, mem)
+}

@@ -45,7 +45,7 @@ pub fn evaluate_a(
         (now (variables .entry)) (now (temporaries .entry)) (now (mem .entry)) ⌝ }
 {
     let first = table::child_a(&table[..], n);
-    evaluation::evaluate_operand(table, first, variables, temporaries, mem)
+    evaluation::evaluate_expression(table, first, variables, temporaries, mem)
 }
 
 pub fn evaluate_b(
@@ -61,7 +61,7 @@ pub fn evaluate_b(
         (now (variables .entry)) (now (temporaries .entry)) (now (mem .entry)) ⌝ }
 {
     let second = table::child_b(&table[..], n);
-    evaluation::evaluate_operand(table, second, variables, temporaries, mem)
+    evaluation::evaluate_expression(table, second, variables, temporaries, mem)
 }
 
 // What condition A says.

@@ -13,16 +13,16 @@ use Rattle.run_children.proofs.evaluate_b.Tie as tie
 child-b-requires : tie.Need-child-b-requires
 child-b-requires c κs = c .before .pre .0
 
-evaluate-operand-requires : tie.Need-evaluate-operand-requires
-evaluate-operand-requires c κs = rw (c .child-b .ensures) (c .before .before .pre .1)
+evaluate-expression-requires : tie.Need-evaluate-expression-requires
+evaluate-expression-requires c κs = rw (c .child-b .ensures) (c .before .before .pre .1)
 
 returns : tie.Need-returns
 returns c =
     let s = c .before .before .before .args in
-    c .evaluate-operand .ensures
+    c .evaluate-expression .ensures
     ∙ ap (λ (x : ℕ). evaluate (asExpression (nodeAt target (s .table .now) x))
     (temporaryOf (temporariesOf (s .temporaries .now))) (variablesOf (s .variables .now)) (memoryOf (s .mem .now)))
     (c .before .child-b .ensures)
 
 pub evaluate-b-spec : {M : Type 1} → statement M
-evaluate-b-spec = tie.close (tie.spec child-b-requires evaluate-operand-requires returns)
+evaluate-b-spec = tie.close (tie.spec child-b-requires evaluate-expression-requires returns)
