@@ -2,17 +2,15 @@
 use Prim.Native.Nat.{ℕ, zero, suc, _+_, _-_, _*_, _<_, _≤_}
 use native.Mathlib.Nat.{add-zero, le-trans, le-of-eq}
 use native.Mathlib.Omega.{arith}
-use mathlib.Core.Path.{_≡_, refl, sym, ap, ap₂, _∙_, subst}
+use mathlib.Core.Path.{_≡_, refl, sym, ap, _∙_, subst}
 use mathlib.Core.Logic.{_≢_, _⊎_, inl, inr, ⊎-elim}
-use mathlib.Core.List.{List, [], _∷_, _++_}
+use mathlib.Core.List.{List}
 use lib.IntN.{pos}
 use lib.ListN.{length, getD, set}
 use lib.Seq.{set-out}
-use mir.Syntax.{w64}
-use mir.Val.{toZ}
 use Rattle.rules.specs.Sizes.{nameCount, cellCount, memoryLength}
-use Rattle.rules.specs.Words.{little, digits, part, put, wordAt, integerAt}
-use Rattle.rules.specs.Memory.{Memory, setCell, setNamed}
+use Rattle.rules.specs.Words.{little, put, wordAt}
+use Rattle.rules.specs.Memory.{Memory, setCell}
 use Rattle.rules.specs.Layout.{memoryOf, memoryImage, blockBytes, cellBytes, blockPlace, cellPlace, blockAt, cellAt}
 use Rattle.rules.specs.Layout.{cellFrom, nameLimit}
 use Rattle.rules.proofs.lists.WordLaws.{part-put-in, getD-put-in, getD-put-apart}
@@ -22,7 +20,7 @@ use Rattle.rules.specs.Fits.{FitsBlock, FitsCell}
 use Rattle.rules.proofs.layout.LayoutLaws.{length-blockBytes, length-cellBytes, block-back, cell-back}
 use Rattle.rules.proofs.layout.ImagePuts.{image-put-block, image-put-cell}
 use Rattle.rules.specs.declared.{Value.Value, Block.Block, Cell.Cell}
-use Rattle.memory_cells.specs.Changes.{Exact, Becomes, setBlock, CellHeld, BlockHeld}
+use Rattle.memory_cells.specs.Changes.{Becomes, setBlock, CellHeld, BlockHeld}
 use Rattle.memory_cells.proofs.Reading.{count-blocks, count-cells}
 use Rattle.memory_cells.proofs.Apart.{rows-apart}
 

@@ -1,2 +1,2 @@
--- Facts about live blocks and about the queries by their numbers.
+-- Facts about the queries by their numbers.
 pub mod Queries

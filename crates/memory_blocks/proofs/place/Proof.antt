@@ -1,7 +1,7 @@
 -- `memory_blocks::place` meets its contract. Assumes nothing.
 use mathlib.Core.Path.{_≡_, refl, sym, ap, _∙_, subst}
 use Rattle.rules.specs.Layout.{memoryOf}
-use Rattle.rules.specs.declared.{Value.Value, Block.Block, Cell.Cell}
+use Rattle.rules.specs.declared.{Value.Value, Cell.Cell}
 use Rattle.rules.specs.Memory.{Memory}
 use Rattle.memory_cells.specs.Changes.{setBlock}
 use Rattle.memory_cell_fills.specs.Filling.{fillCells}

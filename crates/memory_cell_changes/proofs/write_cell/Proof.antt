@@ -1,7 +1,6 @@
 -- `memory_cell_changes::write_cell` meets its contract. Assumes nothing.
 use mathlib.Core.Path.{_≡_, refl, sym, ap, _∙_, subst}
 use Prim.Native.Nat.{ℕ, suc, _+_, _-_, _*_, _≤_, _<_}
-use native.Mathlib.Omega.{arith}
 use Rattle.rules.specs.declared.{Value.Value, Cell.Cell}
 use mir.Syntax.{w64}
 use mir.Val.{SFits}

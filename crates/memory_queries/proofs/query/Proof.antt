@@ -1,7 +1,7 @@
 -- `memory_queries::query` meets its contract. Assumes nothing.
 use mathlib.Core.Path.{_≡_, refl, sym, ap, _∙_, subst}
 use Prim.Native.Nat.{ℕ, suc, _+_, _-_, _*_, _≤_, _<_}
-use mathlib.Core.Bool.{Bool, true, false}
+use mathlib.Core.Bool.{Bool}
 use Rattle.rules.specs.Layout.{memoryOf}
 use Rattle.rules.specs.Numbers.{truthValue}
 use Rattle.rules.specs.Memory.{blockOf, recordedOf, cellOf}

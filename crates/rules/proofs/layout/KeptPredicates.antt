@@ -1,5 +1,5 @@
--- What runs keep of memories: a predicate that every change of a memory keeps. To fit is one, and to fit with live
--- blocks inside the cells another.
+-- What runs keep of memories: a predicate that every change of a memory keeps. To fit, with live blocks inside the
+-- cells, is one.
 use Prim.Native.Nat.{ℕ, _+_, _≤_}
 use native.Mathlib.Omega.{arith}
 use mathlib.Core.Bool.{false}
@@ -16,9 +16,9 @@ use Rattle.rules.proofs.lists.Lists.{all-replicate}
 use Rattle.rules.specs.Fits.{FitsName, FitsCell, FitsMemory, FitsObservation, InsideMemory}
 use Rattle.rules.specs.Fits.{InsideObservation}
 use Rattle.rules.proofs.lists.RunLaws.{run-bound}
-use Rattle.rules.proofs.layout.FitsLaws.{nextName-fits, setCell-fits, setCell-inside}
-use Rattle.rules.proofs.layout.FitsLaws.{withBlock-fits, withBlock-inside, endBlock-fits, endBlock-inside}
-use Rattle.rules.proofs.layout.FitsLaws.{withMarks-fits, withMarks-inside, marked-fits}
+use Rattle.rules.proofs.layout.FitsLaws.{nextName-fits, setCell-inside}
+use Rattle.rules.proofs.layout.FitsLaws.{withBlock-inside, endBlock-inside}
+use Rattle.rules.proofs.layout.FitsLaws.{withMarks-inside, marked-fits}
 use Rattle.rules.specs.Types.{Search, Recorded, Cell}
 
 pub record MemoryInvariant (J : Memory → Type 0) : Type 0 where
@@ -32,14 +32,6 @@ pub record ObservationInvariant (O : Observation → Type 0) : Type 0 where
   pub fitting : (o : Observation) → O o → FitsObservation o
   pub calls : CallsKeep O
 
-pub fits-invariant : MemoryInvariant FitsMemory
-fits-invariant = record {
-  fitting = λ m h. h;
-  storing = setCell-fits;
-  making = λ m u k first n h l r. withBlock-fits m u k first n h l (omega arith, omega arith);
-  ending = endBlock-fits;
-}
-
 pub inside-invariant : MemoryInvariant InsideMemory
 inside-invariant = record {
   fitting = λ m h. h .memory-fits;
@@ -50,18 +42,6 @@ inside-invariant = record {
 
 markRun-places : (o : Observation) (n first : ℕ) → markRun o n ≡ Search.At first → first + n ≤ cellCount
 markRun-places o n first e = run-bound _ n first e
-
-pub fits-observation-invariant : ObservationInvariant FitsObservation
-fits-observation-invariant = record {
-  fitting = λ o h. h;
-  calls = record {
-    storing = λ o k first n h d e.
-        let r = markRun-places o n first e in
-        withMarks-fits o k (Recorded.Live first n) first n h (omega arith, omega arith);
-    deleting = λ o k first n h d. withMarks-fits o k Recorded.Dead first n h tt;
-    marking = λ o p i h d. marked-fits o i h;
-  };
-}
 
 pub inside-observation-invariant : ObservationInvariant InsideObservation
 inside-observation-invariant = record {

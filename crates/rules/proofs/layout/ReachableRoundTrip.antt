@@ -13,21 +13,20 @@ use Rattle.rules.specs.Words.{wordAt}
 use Rattle.rules.specs.Checker.{inputsFault}
 use Rattle.rules.specs.Nodes.{sourceProgram, targetProgram}
 use Rattle.rules.specs.Memory.{Memory, startMemory}
-use Rattle.rules.specs.Observation.{Observation, startObservation}
+use Rattle.rules.specs.Observation.{Observation}
 use Rattle.rules.specs.Flow.{Outcome, ending}
 use Rattle.rules.specs.Plain.{startVariables}
-use Rattle.rules.specs.Watched.{WatchedState, startTemporaries}
+use Rattle.rules.specs.Watched.{WatchedState}
 use Rattle.rules.specs.Layout.{memoryImage, memoryOf, observationImage, observationOf, cellPlace}
 use Rattle.rules.specs.Answers.{numbersIn, inputsOf, plainOutcome, watchedStart, watchedOutcome}
 use Rattle.rules.proofs.acceptance.Sound.{startScope, SoundStatement, SoundTarget}
 use Rattle.rules.proofs.runs.Keeping.{AnyNumber}
 use Rattle.rules.proofs.lists.WordLaws.{integer-range, Bytes}
 use Rattle.rules.proofs.runs.Outcomes.{Reaches, outcomes-state}
-use Rattle.rules.specs.Fits.{FitsTemporary, FitsMemory, FitsObservation, InsideMemory, InsideObservation, All}
-use Rattle.rules.specs.Fits.{none, also}
+use Rattle.rules.specs.Fits.{FitsMemory, FitsObservation, InsideMemory, InsideObservation, All, none, also}
 use Rattle.rules.proofs.layout.FitsLaws.{InRange, startMemory-inside}
-use Rattle.rules.proofs.layout.KeptPredicates.{inside-invariant}
-use Rattle.rules.proofs.layout.KeptPredicates.{inside-observation-invariant, startObservation-inside}
+use Rattle.rules.proofs.layout.KeptPredicates.{inside-invariant, inside-observation-invariant}
+use Rattle.rules.proofs.layout.KeptPredicates.{startObservation-inside}
 use Rattle.rules.proofs.layout.LayoutLaws.{length-memoryImage, length-observationImage, memory-back}
 use Rattle.rules.proofs.layout.LayoutLaws.{observation-back, ZeroBytes, image-zeros}
 use Rattle.rules.proofs.layout.LayoutLaws.{bytes-memoryImage, bytes-observationImage}

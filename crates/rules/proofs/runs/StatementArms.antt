@@ -70,12 +70,6 @@ sound-as l t n h σ s k e =
     subst (λ (x : NodeOf l). SoundAs l statement x σ 0) (statement-form l t n h k e .node) s
 
 -- what the children keep
-pub sound-assign : (l : Language) (t : List ℕ) (n : ℕ) → HasSort l statement t n → (σ : Scope)
-    → SoundIn l statement t n σ → kindOf t n ≡ 41
-    → SoundIn l place t (childA t n) σ × SoundIn l expression t (childB t n) σ
-sound-assign source t n h σ s e = let w = sound-as source t n h σ s 41 e in (w .1, w .2)
-sound-assign target t n h σ s e = let w = sound-as target t n h σ s 41 e in (w .1, w .2)
-
 pub sound-sequence : (l : Language) (t : List ℕ) (n : ℕ) → HasSort l statement t n → (σ : Scope)
     → SoundIn l statement t n σ → kindOf t n ≡ 44
     → SoundIn l statement t (childA t n) σ × SoundIn l statement t (childB t n) σ
