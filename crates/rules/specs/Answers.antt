@@ -29,8 +29,7 @@ abbrev pub isIn : ℕ → List ℕ → Bool
 isIn k [] = false
 isIn k (j ∷ js) = eqb k j || isIn k js
 
--- the numbers of what is turned away: 1 to 9, and "20 output shorter than the translation; 21 execution memory not" of
--- its length, "22 observation memory not"
+-- the numbers of what is turned away: 1 to 9 because of table and inputs, 20 to 22 because of another lent buffer
 abbrev pub refusals : List ℕ
 refusals = 1 ∷ 2 ∷ 3 ∷ 4 ∷ 5 ∷ 6 ∷ 7 ∷ 8 ∷ 9 ∷ 20 ∷ 21 ∷ 22 ∷ []
 
