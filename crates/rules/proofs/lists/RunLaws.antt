@@ -4,7 +4,7 @@ use native.Mathlib.Omega.{arith}
 use native.Mathlib.Nat.{eq-or-lt-of-le}
 use native.Mathlib.Decide.{decLt}
 use mathlib.Core.Path.{_≡_, refl, sym, ap, ap₂, _∙_}
-use mathlib.Core.Logic.{⊎-elim, _⊎_, inl, inr}
+use mathlib.Core.Logic.{⊎-elim, _≢_, _⊎_, inl, inr}
 use mathlib.Core.Bool.{Bool, true, false, cond}
 use lib.Dec.{eqb, ltb}
 use borrow.Author.Tests.{eqb-true, ltb-true, ltb-false}
@@ -276,3 +276,82 @@ module _ (p : ℕ → Bool) (n : ℕ) where
     where
       under : (j : ℕ) → j < 0 + (suc cellCount - n) → j < cellCount - run
       under j b = omega (arith, s .some, s .short)
+
+-- ---- the search in two loops: one passes the free places of a run, the other starts it anew behind a held one
+-- the places from i on pass up to j, which is no place past e
+pub record Passed (p : ℕ → Bool) (i e j : ℕ) : Type 0 where
+  pub further : i ≤ j
+  pub within : j ≤ e
+  pub passed : (k : ℕ) → i ≤ k → k < j → p k ≡ true
+
+-- and j is e, or does not pass: the first place from i on, below e, that does not pass, else e
+pub record FreeTo (p : ℕ → Bool) (i e j : ℕ) : Type 0 where
+  pub free : Passed p i e j
+  pub stopped : j ≢ e → p j ≡ false
+
+module _ (p : ℕ → Bool) (i e : ℕ) where
+  -- nothing is passed at the start
+  pub pass-none : i ≤ e → Passed p i e i
+  pass-none h = record {
+    further = omega arith;
+    within = h;
+    passed = λ k a b. absurd (no k a b);
+  }
+    where
+      no : (k : ℕ) → i ≤ k → k < i → ⊥
+      no k a b = omega arith
+
+  module _ (j : ℕ) (s : Passed p i e j) where
+    -- one place more passes
+    pub pass-more : j < e → p j ≡ true → Passed p i e (j + 1)
+    pass-more h t = record {
+      further = omega (arith, s .further);
+      within = omega arith;
+      passed = λ k a b. ⊎-elim (λ q. ap p q ∙ t) (λ l. s .passed k a l) (last-of k b);
+    }
+      where
+        last-of : (k : ℕ) → k < j + 1 → (k ≡ j) ⊎ (k < j)
+        last-of k b = let m : k ≤ j = omega arith in eq-or-lt-of-le m
+
+    -- the places pass up to one that does not
+    pub free-to-held : p j ≡ false → FreeTo p i e j
+    free-to-held f = record { free = s; stopped = λ d. f }
+
+    -- the places pass up to the last
+    pub free-to-end : e ≤ j → FreeTo p i e j
+    free-to-end h = record { free = s; stopped = λ d. absurd (d (omega (arith, s .within))) }
+
+-- no run of n places that pass starts below i
+abbrev pub NoRunBelow : (ℕ → Bool) → ℕ → ℕ → Type 0
+NoRunBelow p n i = (j : ℕ) → j < i → allFree p j n ≡ false
+
+module _ (p : ℕ → Bool) (n i : ℕ) where
+  -- no run starts below a place below which none passes
+  pub run-start : 0 < n → NoneBelow p i → NoRunBelow p n i
+  run-start h low j b = blocked p n j j (omega arith) (omega arith) (low j b)
+
+  module _ (s : NoRunBelow p n i) where
+    -- a held place among the n from i on: no run starts below the end of what holds it
+    pub run-over : (j : ℕ) {e : ℕ} → i ≤ j → j < i + n → Held p j e → NoRunBelow p n e
+    run-over j {e} a b o k c = go (lt-or-le k i) (lt-or-le k j)
+      where
+        go : (k < i) ⊎ (i ≤ k) → (k < j) ⊎ (j ≤ k) → allFree p k n ≡ false
+        go (inl l) d = s k l
+        go (inr l) (inl d) = blocked p n k j (omega arith) (omega arith) (o .held j (omega arith) (o .further))
+        go (inr l) (inr d) = blocked p n k k (omega arith) (omega arith) (o .held k d c)
+
+    -- all n places from i on pass: the lowest run starts at i
+    pub run-found : {j : ℕ} → i + n ≤ cellCount → FreeTo p i (i + n) j → j ≡ i + n → Search.At i ≡ lowestRun p n
+    unfolding lowestRun
+    run-found h f e =
+        sym (lowest-at (λ (j : ℕ). allFree p j n) (suc cellCount - n) 0 i (λ k a b. s k b)
+        (all-free p n i (λ k a b. f .free .passed k a (omega arith))) (omega arith) (omega arith))
+
+    -- fewer than n places from i on: there is no run
+    pub run-none : cellCount < i + n → Search.Nothing ≡ lowestRun p n
+    unfolding lowestRun
+    run-none h =
+        sym (lowest-none (λ (j : ℕ). allFree p j n) (suc cellCount - n) 0 (λ k a b. s k (under k b)))
+      where
+        under : (k : ℕ) → k < 0 + (suc cellCount - n) → k < i
+        under k b = omega arith
