@@ -1,9 +1,9 @@
--- A mark that has an owner: its name, and the end of its block.
+-- Marks without an owner; and of a mark that has one, its owner's name and the end of its block.
 use Prim.Native.Nat.{ℕ, _+_, _-_, _≤_, _<_}
 use native.Mathlib.Omega.{arith}
 use mathlib.Core.Path.{_≡_, sym, ap, _∙_}
 use mathlib.Core.Logic.{_≢_}
-use mathlib.Core.Bool.{true, true≢false}
+use mathlib.Core.Bool.{Bool, true, true≢false}
 use mathlib.Core.List.{List}
 use lib.Dec.{eqb}
 use lib.ListN.{getD}
@@ -18,6 +18,9 @@ use Rattle.rules.proofs.memory.BlockEnds.{record-covers}
 use Rattle.rules.proofs.memory.MarkOwners.{MarksOwned, owner-covers, owner-held}
 use Rattle.observation_records.proofs.ObservationLaws.{record-count, record-of-name}
 use Rattle.block_places.specs.Ends.{endAt}
+
+abbrev pub unowned : List ℕ → ℕ → Bool
+unowned owners i = eqb (getD owners i 0) 0
 
 module _ (l owners : List ℕ) (i : ℕ) (h : MarksOwned (observationOf l) owners) (b : i < cellCount)
     (f : getD owners i 0 ≢ 0) where
@@ -34,7 +37,7 @@ module _ (l owners : List ℕ) (i : ℕ) (h : MarksOwned (observationOf l) owner
       (r .0, omega (arith, r .1, record-count l))
 
   -- every mark from there to the end of that block has an owner
-  pub owner-end : Held (λ j. eqb (getD owners j 0) 0) i (endAt l owner)
+  pub owner-end : Held (unowned owners) i (endAt l owner)
   unfolding recordedAt
   owner-end = owner-held h owner i first n live (ap (λ x. covers x i) (sym live) ∙ has)
     where

@@ -3,11 +3,10 @@ use native.Mathlib.Omega.{arith}
 use Prim.Native.Nat.{_≤_}
 use mathlib.Core.Path.{sym, subst}
 use denote.Ref.{now}
-use lib.Dec.{eqb}
 use lib.ListN.{getD}
 use Rattle.rules.specs.Sizes.{nameCount}
 use Rattle.rules.proofs.lists.RunLaws.{Held}
-use Rattle.observation_free_marks.proofs.OwnerEnds.{owner-named, owner-end}
+use Rattle.observation_free_marks.proofs.OwnerEnds.{unowned, owner-named, owner-end}
 use borrow.Author.Needs.{needs}
 use Rattle.observation_free_marks.proofs.end_of.Statement.{statement}
 use Rattle.observation_free_marks.proofs.end_of.Tie as tie
@@ -33,7 +32,7 @@ end-requires c κs = let n = named (c .before) in (omega (arith, n .0), omega (a
 returns : tie.Need-returns
 returns c =
     let s = c .before .before .before in
-    subst (Held (λ j. eqb (getD (now (s .args .owners)) j 0) 0) (s .args .i)) (sym (c .end .ensures))
+    subst (Held (unowned (now (s .args .owners))) (s .args .i)) (sym (c .end .ensures))
     (owner-end (now (s .args .obs)) (now (s .args .owners)) (s .args .i) (s .pre .0) (s .pre .1) (s .pre .2))
 
 pub end-of-spec : {M : Type 1} → statement M
