@@ -1,7 +1,16 @@
-// Bytes filled with one number.
+// One byte put, and bytes filled with one number.
 ghost use mathlib.Core.Path.{_≡_};
 ghost use Prim.Native.Nat.{_+_, _<_, _^_, min};
+ghost use lib.ListN.{length, set};
 ghost use Rattle.rules.specs.Memory.{fill};
+
+// Byte `at` takes x.
+pub fn put_byte(d: &mut [u8], at: usize, x: u8)
+    requires { ⌜ at < length (now d) ⌝ }
+    ensures { λ _. ⌜ now (d .exit) ≡ set (now (d .entry)) at x ⌝ }
+{
+    d[at] = x;
+}
 
 // Bytes first, first + 1, .. take x, n times or to the end.
 pub fn fill_bytes(d: &mut [u8], first: usize, n: usize, x: u8)

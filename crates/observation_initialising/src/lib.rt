@@ -1,7 +1,4 @@
 // The observation memory's initialise: the mark that a pointer leads to becomes 1.
-ghost use mathlib.Core.Path.{_≡_};
-ghost use Prim.Native.Nat.{_<_};
-ghost use lib.ListN.{length, set};
 ghost use Rattle.rules.specs.Observation.{markAt, initialise};
 ghost use Rattle.rules.specs.Layout.{observationOf};
 ghost use Rattle.observation_blocks.specs.Changes.{ObservationBecomes, withMark};
@@ -13,19 +10,12 @@ use rules::Located;
 use rules::ObservationMemory;
 use rules::Value;
 
-fn put_byte(d: &mut [u8], at: usize, x: u8)
-    requires { ⌜ at < length (now d) ⌝ }
-    ensures { λ _. ⌜ now (d .exit) ≡ set (now (d .entry)) at x ⌝ }
-{
-    d[at] = x;
-}
-
 fn write_mark(obs: &mut ObservationMemory, i: usize)
     ensures { λ _. ⌜ ObservationBecomes (now (obs .entry)) (now (obs .exit))
         (withMark (observationOf (now (obs .entry))) i) ⌝ }
 {
     if i < CELL_COUNT {
-        put_byte(&mut obs[..], BLOCKS_LENGTH + i, 1);
+        byte_fills::put_byte(&mut obs[..], BLOCKS_LENGTH + i, 1);
     }
 }
 
