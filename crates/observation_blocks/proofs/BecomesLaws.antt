@@ -170,11 +170,13 @@ module _ (l : List ℕ) (long : length l ≡ observationLength) (first n : ℕ) 
         ∙ image-fill (observationOf l) first n b (record-count l) ∙ ap observationImage (sym view-fill);
   }
 
+pub becomes-byte : (l : List ℕ) (i : ℕ) (b : Bool) → length l ≡ observationLength
+    → ObservationBecomes l (set l (markPlace i) (one b)) (markRange (observationOf l) i 1 b)
+becomes-byte l i b long = rw (fill-one (one b) l (markPlace i)) at (becomes-fill l long i 1 b)
+
 pub becomes-mark : (l : List ℕ) (i : ℕ) → length l ≡ observationLength
     → ObservationBecomes l (set l (markPlace i) 1) (withMark (observationOf l) i)
-becomes-mark l i long =
-    let o : Observation = observationOf l in
-    rw (fill-one 1 l (markPlace i), fill-one true (o .marks) i) at (becomes-fill l long i 1 true)
+becomes-mark l i long = rw (fill-one true (observationOf l .marks) i) at (becomes-byte l i true long)
 
 pub becomes-as : {l l′ l″ : List ℕ} {o : Observation} → l′ ≡ l″ → ObservationBecomes l l″ o → ObservationBecomes l l′
     o

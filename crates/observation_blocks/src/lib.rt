@@ -1,8 +1,8 @@
 // Blocks of the observation memory, placed and removed: their records and their marks.
 ghost use mathlib.Core.Path.{_≡_};
 ghost use mathlib.Core.Bool.{false};
-ghost use Prim.Native.Nat.{_<_, _≤_};
-ghost use Rattle.rules.specs.Sizes.{nameCount};
+ghost use Prim.Native.Nat.{_+_, _<_, _≤_};
+ghost use Rattle.rules.specs.Sizes.{nameCount, cellCount};
 ghost use Rattle.rules.specs.Observation.{withMarks};
 ghost use Rattle.rules.specs.Layout.{blockRecord, recordedBytes, recordedFrom, observationOf};
 ghost use Rattle.observation_blocks.specs.Changes.{ObservationBecomes, withRecord, markRange};
@@ -21,19 +21,24 @@ fn write_record(obs: &mut ObservationMemory, k: usize, state: u8, first: u16, n:
     byte_words::write_word(&mut obs[..], k * 8, 8, s + f * 65536 + l * 4294967296);
 }
 
-// Marks first, first + 1, .. are 0, n times or to the end.
+// n marks from first on are 0. A variable's block has one mark, and a byte costs less than a fill.
 fn clear_marks(obs: &mut ObservationMemory, first: u16, n: u16)
+    requires { ⌜ first + n ≤ cellCount ⌝ }
     ensures { λ _. ⌜ ObservationBecomes (now (obs .entry)) (now (obs .exit))
         (markRange (observationOf (now (obs .entry))) first n false) ⌝ }
 {
-    let at = first as usize;
+    let at = BLOCKS_LENGTH + first as usize;
     let count = n as usize;
-    byte_fills::fill_bytes(&mut obs[..], BLOCKS_LENGTH + at, count, 0);
+    if count == 1 {
+        byte_fills::put_byte(&mut obs[..], at, 0);
+    } else {
+        byte_fills::fill_bytes(&mut obs[..], at, count, 0);
+    }
 }
 
 // A name's block is live at n marks from first on, which are 0.
 pub fn place_block(obs: &mut ObservationMemory, name: u16, first: u16, n: u16)
-    requires { ⌜ (0 < name) × (name ≤ nameCount) ⌝ }
+    requires { ⌜ (0 < name) × (name ≤ nameCount) × (first + n ≤ cellCount) ⌝ }
     ensures { λ _. ⌜ ObservationBecomes (now (obs .entry)) (now (obs .exit))
         (withMarks (observationOf (now (obs .entry))) name (Recorded.Live first n) first n) ⌝ }
 {
@@ -43,7 +48,7 @@ pub fn place_block(obs: &mut ObservationMemory, name: u16, first: u16, n: u16)
 
 // A name's block is dead, and n marks from first on are 0.
 pub fn remove_block(obs: &mut ObservationMemory, name: u16, first: u16, n: u16)
-    requires { ⌜ (0 < name) × (name ≤ nameCount) ⌝ }
+    requires { ⌜ (0 < name) × (name ≤ nameCount) × (first + n ≤ cellCount) ⌝ }
     ensures { λ _. ⌜ ObservationBecomes (now (obs .entry)) (now (obs .exit))
         (withMarks (observationOf (now (obs .entry))) name Recorded.Dead first n) ⌝ }
 {

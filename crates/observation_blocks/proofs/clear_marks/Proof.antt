@@ -1,5 +1,4 @@
 -- `observation_blocks::clear_marks` meets its contract. Assumes nothing.
-use Rattle.rules.specs.Sizes.{observationLength}
 use borrow.Author.Needs.{needs}
 use Rattle.observation_blocks.proofs.clear_marks.Statement.{statement}
 use Rattle.observation_blocks.proofs.clear_marks.Tie as tie
@@ -7,20 +6,32 @@ use mathlib.Core.Path.{_≡_}
 use denote.Ref.{now}
 use lib.ListN.{length}
 use mathlib.Core.Bool.{false}
-use Rattle.observation_blocks.proofs.BecomesLaws.{becomes-fill, becomes-as}
+use Rattle.rules.specs.Sizes.{observationLength}
+use Rattle.observation_blocks.proofs.BecomesLaws.{becomes-byte, becomes-fill, becomes-as}
 
-add-fill-bytes : tie.Need-add-fill-bytes
-add-fill-bytes c = search needs
+add-at : tie.Need-add-at
+add-at c = search needs
+
+put-byte-requires : tie.Need-put-byte-requires
+put-byte-requires c κs = search needs
 
 fill-bytes-requires : tie.Need-fill-bytes-requires
 fill-bytes-requires c κs = search needs
 
 returns : tie.Need-returns
 returns c =
-    let s = c .before .before in
+    let s = c .before .before .before in
+    let l = now (s .args .obs) in
+    let long : length l ≡ observationLength = search needs in
+    rw (c .before .before .if1 .taken) (becomes-as (c .put-byte .ensures) (becomes-byte l (s .args .first) false long))
+
+returns-2 : tie.Need-returns-2
+returns-2 c =
+    let s = c .before .before .before in
     let l = now (s .args .obs) in
     let long : length l ≡ observationLength = search needs in
     becomes-as (c .fill-bytes .ensures) (becomes-fill l long (s .args .first) (s .args .n) false)
 
 pub clear-marks-spec : {M : Type 1} → statement M
-clear-marks-spec = tie.close (tie.spec add-fill-bytes fill-bytes-requires returns)
+clear-marks-spec =
+    tie.close (tie.spec add-at put-byte-requires fill-bytes-requires returns returns-2)

@@ -37,7 +37,8 @@ cast-place-block-2 c = search needs
 place-block-requires : tie.Need-place-block-requires
 place-block-requires c κs =
     let s = c .before .before .before .before .before .before .before in
-    alive-named (now (s .args .obs)) (s .args .name) _ (s .pre .1) refl
+    let named = alive-named (now (s .args .obs)) (s .args .name) _ (s .pre .1) refl in
+    (named .0, named .1, low (c .before .before))
 
 cast-take : tie.Need-cast-take
 cast-take c = omega (arith, low (c .before .before .before .before))
