@@ -1,8 +1,9 @@
--- Laws of `fill`: one place more, places past the end, what stands where, and a fill behind other places.
+-- Laws of `fill`: one place more, places past the end, what stands where, a fill that changes nothing, and one behind
+-- other places.
 use Prim.Native.Nat.{ℕ, zero, suc, _+_, _≤_, _<_}
 use native.Mathlib.Nat.{le-of-suc-le-suc}
 use native.Mathlib.Omega.{arith}
-use mathlib.Core.Path.{_≡_, refl, sym, ap}
+use mathlib.Core.Path.{_≡_, refl, sym, ap, ap₂}
 use mathlib.Core.Bool.{Bool, true, false, _&&_, cond}
 use mathlib.Core.List.{List, [], _∷_, _++_}
 use lib.Dec.{ltb, leb}
@@ -43,6 +44,16 @@ module _ {A : Type 0} (x : A) where
   fill-past (y ∷ ys) zero (suc m) (suc n) h k =
       ap (λ (t : List A). x ∷ t) (fill-past ys zero m n (omega arith) (le-of-suc-le-suc k))
   fill-past (y ∷ ys) (suc s) m n h k = ap (λ (t : List A). y ∷ t) (fill-past ys s m n (omega arith) k)
+
+  -- a fill with what stands there changes nothing
+  pub fill-same : (l : List A) (s n : ℕ) (d : A) → ((i : ℕ) → s ≤ i → i < s + n → getD l i d ≡ x) → fill l s n x ≡ l
+  fill-same [] s n d f = refl
+  fill-same (y ∷ ys) zero zero d f = refl
+  fill-same (y ∷ ys) zero (suc n) d f =
+      ap₂ (λ (h : A) (t : List A). h ∷ t) (sym (f zero (omega arith) (omega arith)))
+      (fill-same ys zero n d (λ i a b. f (suc i) (omega arith) (omega arith)))
+  fill-same (y ∷ ys) (suc s) n d f =
+      ap (λ (t : List A). y ∷ t) (fill-same ys s n d (λ i a b. f (suc i) (omega arith) (omega arith)))
 
   pub fill-all : (l : List A) (n : ℕ) → length l ≤ n → fill l 0 n x ≡ replicate (length l) x
   fill-all [] n h = refl

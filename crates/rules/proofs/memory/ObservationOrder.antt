@@ -12,11 +12,12 @@ use lib.ListN.{length, set, replicate, length-set, length-replicate}
 use lib.Seq.{getD-set-other}
 use borrow.Author.Tests.{ltb-true}
 use Rattle.rules.specs.Sizes.{nameCount, cellCount}
-use Rattle.rules.specs.Memory.{locatedIn, lowestRun, one, setNamed}
+use Rattle.rules.specs.Memory.{locatedIn, lowestRun, one, fill, setNamed}
 use Rattle.rules.specs.Observation.{Observation, recordOf, covers, covered, markRun, noted, withMarks, isMarked}
 use Rattle.rules.specs.Observation.{storeAt, storeSized, storeBlock, locateMark, emptyObservation}
 use Rattle.rules.proofs.lists.SearchLaws.{Outcome, lowest-outcome}
 use Rattle.rules.proofs.lists.RunLaws.{run-bound}
+use Rattle.rules.proofs.lists.FillLaws.{fill-same}
 use Rattle.rules.proofs.lists.Lists.{all-getD, all-named, all-replicate, length-setNamed, length-fill}
 use Rattle.rules.proofs.memory.MemoryLaws.{named-in, named-setNamed-same, named-setNamed, fill-inside}
 use Rattle.rules.proofs.memory.MemoryLaws.{fill-below}
@@ -84,6 +85,13 @@ unfolding lowestRun
 markRun-free o n first i e p q =
     let h = subst (Outcome _ 0 _) e (lowest-outcome _ 0 _) in
     coverage-none (o .blocks) i (not-true (covered (o .blocks) i) (allFree-at _ first n i (h .2) p q))
+
+-- its marks are 0 already
+pub markRun-clear : (o : Observation) (n first : ℕ) → OrderlyObservation o → markRun o n ≡ Search.At first
+    → fill (o .marks) first n false ≡ o .marks
+markRun-clear o n first y e =
+    fill-same false (o .marks) first n false
+    (λ i a b. y .outside i (uncovered (o .blocks) i (markRun-free o n first i e a b)))
 
 pub dead-is-not-unused : Recorded.Dead ≡ Recorded.Unused → ⊥
 dead-is-not-unused e = let z : _≡_ {A = ℕ} 0 1 = cc in omega arith
