@@ -22,7 +22,7 @@ use Rattle.rules.proofs.layout.LayoutLaws.{length-recordedBytes, records-length
 use Rattle.rules.proofs.layout.ImagePuts.{image-put-recorded}
 use Rattle.rules.proofs.lists.FillLaws.{fill-one, fill-right, getD-fill, flat-marks-fill}
 use Rattle.rules.proofs.lists.RecordLaws.{length-record, record-put-same, record-put-other}
-use Rattle.observation_blocks.specs.Changes.{ObservationBecomes, withRecord, withMark, markRange}
+use Rattle.observation_blocks.specs.Changes.{ObservationBecomes, withRecord, withNamed, withMark, markRange}
 use Rattle.observation_records.proofs.ObservationLaws.{record-count, mark-count}
 
 pub becomes-same : (l : List ℕ) → ObservationBecomes l l (observationOf l)
@@ -195,18 +195,21 @@ becomes-out l i h =
       exact = λ x. x;
     }
 
+-- the record of a name
+pub becomes-named : {l l′ : List ℕ} (k : ℕ) (b : Recorded) → 0 < k
+    → ObservationBecomes l l′ (withRecord (observationOf l) (k - 1) b)
+    → ObservationBecomes l l′ (withNamed (observationOf l) k b)
+becomes-named zero b h y = absurd (omega arith)
+becomes-named {l} {l′} (suc k) b h y =
+    subst (λ (j : ℕ). ObservationBecomes l l′ (withRecord (observationOf l) j b)) (before k) y
+  where
+    before : (k : ℕ) → suc k - 1 ≡ k
+    before k = omega arith
+
 -- marks cleared, then the record of a name
 pub becomes-replaced : (l : List ℕ) {l′ l″ : List ℕ} (k : ℕ) (b : Recorded) (first n : ℕ) → 0 < k
     → ObservationBecomes l l′ (markRange (observationOf l) first n false)
     → ObservationBecomes l′ l″ (withRecord (observationOf l′) (k - 1) b)
     → ObservationBecomes l l″ (withMarks (observationOf l) k b first n)
-becomes-replaced l zero b first n h x y = absurd (omega arith)
-becomes-replaced l (suc k) b first n h x y =
-    becomes-then (λ (o : Observation). withRecord o k b) x (place y)
-  where
-    before : (k : ℕ) → suc k - 1 ≡ k
-    before k = omega arith
-
-    place : {l′ l″ : List ℕ} → ObservationBecomes l′ l″ (withRecord (observationOf l′) (suc k - 1) b)
-        → ObservationBecomes l′ l″ (withRecord (observationOf l′) k b)
-    place {l′} {l″} y = subst (λ (j : ℕ). ObservationBecomes l′ l″ (withRecord (observationOf l′) j b)) (before k) y
+becomes-replaced l k b first n h x y =
+    becomes-then (λ (o : Observation). withNamed o k b) x (becomes-named k b h y)

@@ -4,7 +4,7 @@ use mathlib.Core.Path.{_≡_}
 use mathlib.Core.Bool.{Bool, true}
 use mathlib.Core.List.{List}
 use lib.ListN.{set}
-use Rattle.rules.specs.Memory.{fill}
+use Rattle.rules.specs.Memory.{fill, setNamed}
 use Rattle.rules.specs.Observation.{Observation}
 use Rattle.rules.specs.Layout.{observationOf, observationImage}
 use Rattle.rules.specs.declared.{Recorded.Recorded}
@@ -18,6 +18,10 @@ pub record ObservationBecomes (entry exit : List ℕ) (o : Observation) : Type 0
 -- record k, counted from 0, is b
 abbrev pub withRecord : Observation → ℕ → Recorded → Observation
 withRecord o k b = record { blocks = set (o .blocks) k b; marks = o .marks }
+
+-- the record of name k is b
+abbrev pub withNamed : Observation → ℕ → Recorded → Observation
+withNamed o k b = record { blocks = setNamed (o .blocks) k b; marks = o .marks }
 
 -- n marks from first on are b
 abbrev pub markRange : Observation → ℕ → ℕ → Bool → Observation

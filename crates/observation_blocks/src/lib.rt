@@ -5,7 +5,7 @@ ghost use Prim.Native.Nat.{_+_, _<_, _≤_};
 ghost use Rattle.rules.specs.Sizes.{nameCount, cellCount};
 ghost use Rattle.rules.specs.Observation.{withMarks};
 ghost use Rattle.rules.specs.Layout.{blockRecord, recordedBytes, recordedFrom, observationOf};
-ghost use Rattle.observation_blocks.specs.Changes.{ObservationBecomes, withRecord, markRange};
+ghost use Rattle.observation_blocks.specs.Changes.{ObservationBecomes, withRecord, withNamed, markRange};
 use rules::BLOCKS_LENGTH;
 use rules::ObservationMemory;
 use rules::Recorded;
@@ -36,13 +36,12 @@ fn clear_marks(obs: &mut ObservationMemory, first: u16, n: u16)
     }
 }
 
-// A name's block is live at n marks from first on, which are 0.
+// A name's block is live at n marks from first on.
 pub fn place_block(obs: &mut ObservationMemory, name: u16, first: u16, n: u16)
-    requires { ⌜ (0 < name) × (name ≤ nameCount) × (first + n ≤ cellCount) ⌝ }
+    requires { ⌜ (0 < name) × (name ≤ nameCount) ⌝ }
     ensures { λ _. ⌜ ObservationBecomes (now (obs .entry)) (now (obs .exit))
-        (withMarks (observationOf (now (obs .entry))) name (Recorded.Live first n) first n) ⌝ }
+        (withNamed (observationOf (now (obs .entry))) name (Recorded.Live first n)) ⌝ }
 {
-    clear_marks(obs, first, n);
     write_record(obs, name as usize - 1, 1, first, n);
 }
 

@@ -1,8 +1,9 @@
--- The tests of offsets and sizes that storing makes.
+-- The tests of offsets and sizes that storing makes; and that it has no marks to clear.
 use Prim.Native.Nat.{ℕ, zero, suc, _-_, _<_, _≤_}
 use native.Mathlib.Omega.{arith}
 use mathlib.Core.Path.{_≡_, refl, ap, _∙_, subst}
 use mathlib.Core.Bool.{Bool, true, false}
+use mathlib.Core.List.{List}
 use lib.Dec.{T}
 use lib.IntN.{ℤ, pos, negsuc, natAbs}
 use lib.Signed.{ltZ, nonNeg}
@@ -12,8 +13,11 @@ use Rattle.number.proofs.Integers.{ltZ-true, ltZ-false, of-bits}
 use Rattle.rules.specs.Sizes.{cellCount}
 use Rattle.rules.specs.Checker.{lowest}
 use Rattle.rules.specs.Memory.{lowestRun}
-use Rattle.rules.specs.Observation.{Observation, refused, recordOf, markRun, storeAt, storeSized}
+use Rattle.rules.specs.Observation.{Observation, refused, recordOf, markRun, withMarks, storeAt, storeSized}
+use Rattle.rules.specs.Layout.{observationOf}
 use Rattle.rules.specs.declared.{Search.Search, Recorded.Recorded}
+use Rattle.rules.proofs.memory.ObservationOrder.{OrderlyObservation, markRun-clear}
+use Rattle.observation_blocks.specs.Changes.{ObservationBecomes, withNamed}
 
 -- ---- sizes
 pub size-positive : (w : ℤ) → ltZ w (pos 1) ≡ false → T (nonNeg w)
@@ -67,3 +71,10 @@ module _ (o : Observation) (k : ℕ) where
       size (pos zero) h = absurd (omega (arith, ltZ-false (pos 0) (pos 1) h))
       size (pos (suc n)) h = refl
       size (negsuc n) h = absurd (subst T h tt)
+
+-- ---- the marks of the run that is found are 0, so the block's record is all that is written
+pub becomes-stored : {l l′ : List ℕ} (k first n : ℕ) → OrderlyObservation (observationOf l)
+    → markRun (observationOf l) n ≡ Search.At first
+    → ObservationBecomes l l′ (withNamed (observationOf l) k (Recorded.Live first n))
+    → ObservationBecomes l l′ (withMarks (observationOf l) k (Recorded.Live first n) first n)
+becomes-stored {l} k first n y e b = rw (markRun-clear (observationOf l) n first y e) b

@@ -19,7 +19,8 @@ use rules::Value;
 
 const MOST_MARKS: i64 = CELL_COUNT as i64;
 
-// A new block of n marks goes to the lowest run that holds it, if there is one.
+// A new block of n marks goes to the lowest run that holds it, if there is one. Its marks are 0 already, as all outside
+// live blocks are.
 fn store_new(obs: &mut ObservationMemory, owners: &mut MarkOwners, name: u16, n: usize) -> Noting
     requires { ⌜ MarksOwned (observationOf (now obs)) (now owners)
         × (recordOf (observationOf (now obs)) name ≡ Recorded.Unused) × (0 < n) × (n ≤ cellCount) ⌝ }

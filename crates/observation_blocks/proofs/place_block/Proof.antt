@@ -4,13 +4,9 @@ use Rattle.observation_blocks.proofs.place_block.Statement.{statement}
 use Rattle.observation_blocks.proofs.place_block.Tie as tie
 use native.Mathlib.Omega.{arith}
 use mathlib.Core.Path.{refl}
-use denote.Ref.{now}
 use Rattle.rules.specs.Layout.{recordedBytes}
 use Rattle.rules.specs.declared.{Recorded.Recorded}
-use Rattle.observation_blocks.proofs.BecomesLaws.{becomes-replaced}
-
-clear-marks-requires : tie.Need-clear-marks-requires
-clear-marks-requires c κs = search needs
+use Rattle.observation_blocks.proofs.BecomesLaws.{becomes-named}
 
 sub-write-record : tie.Need-sub-write-record
 sub-write-record c = search needs
@@ -21,11 +17,9 @@ write-record-requires c κs = (omega arith, refl)
 
 returns : tie.Need-returns
 returns c =
-    let s = c .before .before .before .before in
-    becomes-replaced (now (s .args .obs)) (s .args .name) (Recorded.Live (s .args .first) (s .args .n))
-    (s .args .first) (s .args .n) (omega arith) (c .before .before .clear-marks .ensures)
+    let s = c .before .before in
+    becomes-named (s .args .name) (Recorded.Live (s .args .first) (s .args .n)) (omega arith)
     (c .write-record .ensures)
 
 pub place-block-spec : {M : Type 1} → statement M
-place-block-spec =
-    tie.close (tie.spec clear-marks-requires sub-write-record write-record-requires returns)
+place-block-spec = tie.close (tie.spec sub-write-record write-record-requires returns)

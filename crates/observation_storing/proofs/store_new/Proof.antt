@@ -14,6 +14,7 @@ use Rattle.rules.proofs.memory.MarkOwners.{owned-is, store-owned}
 use Rattle.rules.specs.declared.{Search.Search, Recorded.Recorded}
 use Rattle.observation_records.proofs.ObservationLaws.{alive-named}
 use Rattle.observation_answers.proofs.ArmLaws.{answers-refused, answers-noted}
+use Rattle.observation_storing.proofs.StoreLaws.{becomes-stored}
 
 run-is : (c : tie.After-first) → let s = c .before .before .before .before .before in
     markRun (observationOf (now (s .args .obs))) (s .args .n) ≡ Search.At (c .first .given .0 .0)
@@ -37,19 +38,18 @@ cast-place-block-2 c = search needs
 place-block-requires : tie.Need-place-block-requires
 place-block-requires c κs =
     let s = c .before .before .before .before .before .before .before in
-    let named = alive-named (now (s .args .obs)) (s .args .name) _ (s .pre .1) refl in
-    (named .0, named .1, low (c .before .before))
+    alive-named (now (s .args .obs)) (s .args .name) _ (s .pre .1) refl
 
 cast-take : tie.Need-cast-take
 cast-take c = omega (arith, low (c .before .before .before .before))
 
 cast-take-2 : tie.Need-cast-take-2
-cast-take-2 c = search needs
+cast-take-2 c = omega (arith, low (c .before .before .before .before))
 
 take-requires : tie.Need-take-requires
 take-requires c κs =
     let s = c .before .before .before .before .before .before .before .before .before in
-    (s .pre .0 .size, low (c .before .before .before .before), s .pre .0 .within)
+    (s .pre .0 .size, omega (arith, low (c .before .before .before .before)), s .pre .0 .within)
 
 enum-told : tie.Need-enum-told
 enum-told c = search needs
@@ -59,11 +59,12 @@ returns c =
     let found = c .before .before .before .before .before in
     let s = found .before .before .before .before .before in
     let placed = c .before .before .place-block in
-    let l = now (s .args .obs) in (
+    let l = now (s .args .obs) in
+    let stored = becomes-stored (s .args .name) (found .first .given .0 .0) (s .args .n) (s .pre .0 .orderly)
+    (run-is found) (placed .ensures) in (
       answers-noted l (placed .last .0)
-          (ap (storeAt (observationOf l) (s .args .name) (s .args .n) Recorded.Unused) (run-is found))
-          (placed .ensures),
-      owned-is (placed .ensures .view) (c .take .ensures)
+          (ap (storeAt (observationOf l) (s .args .name) (s .args .n) Recorded.Unused) (run-is found)) stored,
+      owned-is (stored .view) (c .take .ensures)
           (store-owned (s .pre .0) (s .args .name) (found .first .given .0 .0) (s .args .n) (s .pre .1) (run-is found)),
     )
 
