@@ -1,4 +1,4 @@
-// What a run counts beside its execution memory: the free cells, the next name, and a cell below which none is free.
+// What a run counts beside its execution memory: the free cells, a cell below which none is free, and the next name.
 ghost use mathlib.Core.Path.{_≡_};
 ghost use Prim.Native.Nat.{_+_, _≤_};
 ghost use Rattle.rules.specs.Sizes.{nameCount, cellCount, inputLimit};
@@ -14,14 +14,14 @@ pub fn start(inputs: usize) -> Counts
     requires { ⌜ inputs ≤ inputLimit ⌝ }
     ensures { λ r. ⌜ r ≡ startCounts inputs ⌝ }
 {
-    [CELL_COUNT - 1 - inputs, 3, 1 + inputs]
+    [CELL_COUNT - 1 - inputs, 1 + inputs, 3]
 }
 
 // The next name, unless all are given.
 pub fn next_name(counts: &Counts) -> Search
     ensures { λ r. ⌜ r ≡ nameFrom (nextIn (now (counts .entry))) ⌝ }
 {
-    let k = counts[1];
+    let k = counts[2];
     if NAME_COUNT < k {
         Search::Nothing
     } else {
@@ -34,8 +34,8 @@ pub fn take(counts: &mut Counts, first: usize, n: usize)
     requires { ⌜ (n ≤ freeIn (now counts)) × (nextIn (now counts) ≤ nameCount) × (first + n ≤ cellCount) ⌝ }
     ensures { λ _. ⌜ now (counts .exit) ≡ afterNew (now (counts .entry)) first n ⌝ }
 {
-    let lowest = block_places::lowest_taken(first, n, counts[2]);
-    *counts = [counts[0] - n, counts[1] + 1, lowest];
+    let lowest = block_places::lowest_taken(first, n, counts[1]);
+    *counts = [counts[0] - n, lowest, counts[2] + 1];
 }
 
 // An ended block has given back its n cells from first on.
@@ -43,6 +43,6 @@ pub fn give_back(counts: &mut Counts, first: usize, n: usize)
     requires { ⌜ freeIn (now counts) + n ≤ cellCount ⌝ }
     ensures { λ _. ⌜ now (counts .exit) ≡ afterEnd (now (counts .entry)) first n ⌝ }
 {
-    let lowest = block_places::lowest_given(first, counts[2]);
-    *counts = [counts[0] + n, counts[1], lowest];
+    let lowest = block_places::lowest_given(first, counts[1]);
+    *counts = [counts[0] + n, lowest, counts[2]];
 }

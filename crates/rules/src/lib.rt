@@ -42,9 +42,13 @@ pub const VARIABLE_COUNT: usize = 64;
 
 pub type Variables = [u16; VARIABLE_COUNT];
 
-// What a run counts as it goes: the free cells; the next name, one past the last where all names are given; and a cell
-// below which none is free.
+// What a run counts as it goes: the free cells; a cell below which none is free; and the next name, one past the last
+// where all names are given. The order keeps the two that a new block adjusts alike apart, so that the compiler does not
+// read both at once just after one was written.
 pub type Counts = [usize; 3];
+
+// How far a run is: the fuel left; and the statement that it stopped at, once it has stopped.
+pub type Progress = [u32; 2];
 
 // The live block that has each mark, by its name, 0 where none has; and last a mark below which each has an owner.
 pub const OWNERS_LENGTH: usize = CELL_COUNT + 1;
