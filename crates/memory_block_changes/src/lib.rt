@@ -1,6 +1,6 @@
 // The execution memory's block records, written in their bytes.
 ghost use mathlib.Core.Path.{_≡_};
-ghost use Prim.Native.Nat.{_+_, _*_, _<_};
+ghost use Prim.Native.Nat.{_+_, _*_, _<_, _≤_};
 ghost use lib.ListN.{length};
 ghost use Rattle.rules.specs.Sizes.{nameCount, memoryLength};
 ghost use Rattle.rules.specs.Layout.{memoryOf, blockPlace, blockRecord, blockBytes};
@@ -8,7 +8,6 @@ ghost use Rattle.rules.specs.Words.{put};
 ghost use Rattle.memory_cells.specs.Changes.{Becomes, setBlock, BlockHeld};
 use rules::Block;
 use rules::ExecutionMemory;
-use rules::LAST_NAME;
 
 fn write_record(mem: &mut ExecutionMemory, k: usize, state: u8, first: u16, n: u16)
     requires { ⌜ k < nameCount ⌝ }
@@ -34,12 +33,9 @@ fn write_block(mem: &mut ExecutionMemory, k: usize, b: Block)
 }
 
 // The block of a name that has a record becomes b.
-pub fn put_block(mem: &mut ExecutionMemory, name: u16, b: Block)
+pub fn replace_block(mem: &mut ExecutionMemory, name: u16, b: Block)
+    requires { ⌜ (0 < name) × (name ≤ nameCount) ⌝ }
     ensures { λ _. ⌜ Becomes (now (mem .entry)) (now (mem .exit)) (setBlock (memoryOf (now (mem .entry))) name b) ⌝ }
 {
-    if 0 < name {
-        if name <= LAST_NAME {
-            write_block(mem, name as usize - 1, b);
-        }
-    }
+    write_block(mem, name as usize - 1, b);
 }

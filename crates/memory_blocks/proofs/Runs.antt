@@ -2,7 +2,7 @@
 use Prim.Native.Nat.{ℕ, zero, suc, _+_, _-_, _<_, _≤_}
 use native.Mathlib.Omega.{arith}
 use mathlib.Core.Path.{_≡_, refl, sym, ap, _∙_, subst}
-use mathlib.Core.Bool.{true, false, true≢false}
+use mathlib.Core.Bool.{Bool, true, false, true≢false}
 use mathlib.Core.List.{List}
 use lib.IntN.{ℤ}
 use lib.ListN.{getD}
@@ -21,10 +21,14 @@ use Rattle.rules.proofs.memory.BlockEnds.{held-to-end, block-covers}
 use Rattle.memory_cells.proofs.Reading.{cell-in, block-named, count-blocks}
 use Rattle.block_places.specs.Ends.{endAt}
 
-pub name-bound : (m : Memory) (k : ℕ) → nextName m ≡ Search.At k → k ≤ nameCount
+-- the test of a cell, by the bytes
+abbrev pub freeIn : List ℕ → ℕ → Bool
+freeIn l i = isFree (cellOf (memoryOf l) i)
+
+pub name-bound : (m : Memory) (k : ℕ) → nextName m ≡ Search.At k → (0 < k) × (k ≤ nameCount)
 name-bound m k e =
     let w = subst (Outcome (λ (j : ℕ). isUnused (blockOf m j)) 1 nameCount) e (lowest-outcome _ 1 nameCount) in
-    omega (arith, w .1)
+    (omega (arith, w .0), omega (arith, w .1))
 
 pub run-of-none : (m : Memory) → Search.At 0 ≡ freeRun m 0
 unfolding lowestRun allFree

@@ -1,11 +1,11 @@
 // New blocks of the execution memory.
 ghost use mathlib.Core.Path.{_≡_};
 ghost use mathlib.Core.Bool.{false};
-ghost use Prim.Native.Nat.{_≤_, _<_};
-ghost use Rattle.rules.specs.Sizes.{cellCount};
+ghost use Prim.Native.Nat.{_+_, _≤_, _<_};
+ghost use Rattle.rules.specs.Sizes.{nameCount, cellCount};
 ghost use Rattle.rules.specs.Memory.{cellOf, isFree, freeRun, makeBlock, withBlock, blockFor};
 ghost use Rattle.rules.specs.Layout.{memoryOf};
-ghost use Rattle.rules.proofs.lists.RunLaws.{NoneBelow, Held};
+ghost use Rattle.rules.proofs.lists.RunLaws.{NoneBelow, Held, FreeTo};
 ghost use Rattle.rules.proofs.memory.Invariant.{Invariant};
 ghost use Rattle.memory_counts.specs.Counted.{Counted};
 ghost use Rattle.memory_cells.specs.Changes.{Becomes};
@@ -40,6 +40,22 @@ fn end_of(mem: &ExecutionMemory, i: usize) -> usize
     block_places::end(&mem[..], owner as usize)
 }
 
+// The first cell from a cell on, below an end, that is not free; the end where all are.
+fn free_to(mem: &ExecutionMemory, from: usize, end: usize) -> usize
+    requires { ⌜ (from ≤ end) × (end ≤ cellCount) ⌝ }
+    ensures { λ r. ⌜ FreeTo (λ i. isFree (cellOf (memoryOf (now (mem .entry))) i)) from end r ⌝ }
+{
+    let mut i = from;
+    while i < end {
+        if is_free(mem, i) {
+            i += 1;
+        } else {
+            return i;
+        }
+    }
+    i
+}
+
 // The lowest run of n free cells, n from 1 on, looked for from a cell below which none is free. A cell that is not free
 // is left by the end of its owner's block.
 fn find_run(mem: &ExecutionMemory, from: usize, n: usize) -> Search
@@ -47,19 +63,18 @@ fn find_run(mem: &ExecutionMemory, from: usize, n: usize) -> Search
         × NoneBelow (λ i. isFree (cellOf (memoryOf (now mem)) i)) from ⌝ }
     ensures { λ r. ⌜ r ≡ freeRun (memoryOf (now (mem .entry))) n ⌝ }
 {
-    let mut run: usize = 0;
+    if CELL_COUNT < n {
+        return Search::Nothing;
+    }
+    let last = CELL_COUNT - n;
     let mut i = from;
-    while i < CELL_COUNT {
-        if is_free(mem, i) {
-            run += 1;
-            i += 1;
-            if run == n {
-                return Search::At(i - n);
-            }
-        } else {
-            run = 0;
-            i = end_of(mem, i);
+    while i <= last {
+        let end = i + n;
+        let j = free_to(mem, i, end);
+        if j == end {
+            return Search::At(i);
         }
+        i = end_of(mem, j);
     }
     Search::Nothing
 }
@@ -87,11 +102,12 @@ fn live(freeable: bool, first: u16, n: u16) -> Block
 
 // Block k has the n cells from first on, undefined.
 fn place(mem: &mut ExecutionMemory, freeable: bool, k: u16, first: u16, n: u16)
+    requires { ⌜ (first + n ≤ cellCount) × (0 < k) × (k ≤ nameCount) ⌝ }
     ensures { λ _. ⌜ Becomes (now (mem .entry)) (now (mem .exit))
         (withBlock (memoryOf (now (mem .entry))) (useOf freeable) k first n) ⌝ }
 {
     memory_cell_fills::fill_undefined(mem, first, n, k);
-    memory_block_changes::put_block(mem, k, live(freeable, first, n));
+    memory_block_changes::replace_block(mem, k, live(freeable, first, n));
 }
 
 // A new block of n cells: 31 where all names are given, then 30 where no run of free cells is long enough.
@@ -104,7 +120,7 @@ pub fn make(mem: &mut ExecutionMemory, counts: &mut Counts, freeable: bool, n: u
 {
     match memory_counts::next_name(&*counts) {
         Search::Nothing => Making::Stopped(31),
-        Search::At(k) => match free_run(&*mem, counts[2], n) {
+        Search::At(k) => match free_run(&*mem, counts[1], n) {
             Search::Nothing => Making::Stopped(30),
             Search::At(first) => {
                 place(mem, freeable, k as u16, first as u16, n as u16);

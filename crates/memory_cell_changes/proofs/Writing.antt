@@ -192,18 +192,6 @@ becomes-block l (suc k) b e p h s =
     let d : suc k - 1 ≡ k = omega arith in
     rw d (becomes-record l k b e (omega arith) s)
 
-pub block-outside : (l : List ℕ) (k : ℕ) (b : Block) → nameCount < k → Becomes l l (setBlock (memoryOf l) k b)
-block-outside l zero b h = absurd (omega arith)
-block-outside l (suc k) b h =
-    let p : nameCount ≤ k = omega arith in
-    let e : set (memoryOf l .blocks) k b ≡ memoryOf l .blocks =
-    set-out (memoryOf l .blocks) k b (le-trans (le-of-eq (count-blocks l)) p) in
-    unchanged l (setBlock (memoryOf l) (suc k) b) (λ t. record { blocks = sym e t; cells = memoryOf l .cells })
-
-pub block-none : (l : List ℕ) (k : ℕ) (b : Block) → k ≤ 0 → Becomes l l (setBlock (memoryOf l) k b)
-block-none l zero b h = unchanged l (setBlock (memoryOf l) 0 b) refl
-block-none l (suc k) b h = absurd (omega arith)
-
 -- one change after the other
 pub becomes-then : {l l′ l″ : List ℕ} {m : Memory} (f : Memory → Memory) → Becomes l l′ m
     → Becomes l′ l″ (f (memoryOf l′)) → Becomes l l″ (f m)

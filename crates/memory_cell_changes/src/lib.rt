@@ -51,15 +51,13 @@ pub fn put_cell(mem: &mut ExecutionMemory, i: usize, c: Cell)
     }
 }
 
-// Cell i, where there is one, becomes a cell without a value, undefined or free, as its kind says.
+// Cell i becomes a cell without a value, undefined or free, as its kind says.
 pub fn put_without_value(mem: &mut ExecutionMemory, i: usize, kind: u8, owner: u16)
-    requires { ⌜ cellBytes (cellFrom kind owner 0 (pos 0)) ≡ cellRecord kind owner 0 (pos 0) ⌝ }
+    requires { ⌜ (i < cellCount) × (cellBytes (cellFrom kind owner 0 (pos 0)) ≡ cellRecord kind owner 0 (pos 0)) ⌝ }
     ensures { λ _. ⌜ Becomes (now (mem .entry)) (now (mem .exit))
         (setCell (memoryOf (now (mem .entry))) i (cellFrom kind owner 0 (pos 0))) ⌝ }
 {
-    if i < CELL_COUNT {
-        write_parts(mem, i, kind, owner, 0, 0);
-    }
+    write_parts(mem, i, kind, owner, 0, 0);
 }
 
 fn clear_bytes(bytes: &mut [u8])

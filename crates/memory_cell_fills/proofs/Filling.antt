@@ -1,8 +1,7 @@
 -- Filling, one cell more.
-use Prim.Native.Nat.{ℕ, zero, suc, _+_}
+use Prim.Native.Nat.{ℕ, zero, suc, _+_, _-_, _≤_}
 use native.Mathlib.Omega.{arith}
-use native.Mathlib.Numerals.{add-one}
-use mathlib.Core.Path.{_≡_, refl, sym, ap}
+use mathlib.Core.Path.{_≡_, refl, sym, ap, _∙_}
 use mathlib.Core.List.{List, [], _∷_}
 use lib.ListN.{set}
 use Rattle.rules.specs.Memory.{Memory, setCell, fill}
@@ -24,10 +23,23 @@ fill-more (y ∷ ys) (suc s) n x =
     let e : suc s + n ≡ suc (s + n) = omega arith in
     rw e (ap (λ (t : List _). y ∷ t) (fill-more ys s n x))
 
-pub fill-cells-none : (m : Memory) (s : ℕ) (c : Cell) → m ≡ fillCells m s 0 c
-fill-cells-none m s c = λ t. record { blocks = m .blocks; cells = sym (fill-none (m .cells) s c) t }
+-- the cells from s up to i
+pub fill-cells-none : (m : Memory) (s : ℕ) (c : Cell) → m ≡ fillCells m s (s - s) c
+fill-cells-none m s c =
+    let e : s - s ≡ 0 = omega arith in
+    rw e (λ t. record { blocks = m .blocks; cells = sym (fill-none (m .cells) s c) t })
 
-pub fill-cells-more : (m : Memory) (s n : ℕ) (c : Cell)
-    → setCell (fillCells m s n c) (s + n) c ≡ fillCells m s (n + 1) c
-fill-cells-more m s n c =
-    rw (add-one n) (λ t. record { blocks = m .blocks; cells = sym (fill-more (m .cells) s n c) t })
+pub fill-cells-more : (m : Memory) (s i : ℕ) (c : Cell) → s ≤ i
+    → setCell (fillCells m s (i - s) c) i c ≡ fillCells m s (i + 1 - s) c
+fill-cells-more m s i c h =
+    let e : i + 1 - s ≡ suc (i - s) = omega arith in
+    let f : i ≡ s + (i - s) = omega arith in
+    let more : set (fill (m .cells) s (i - s) c) i c ≡ fill (m .cells) s (i + 1 - s) c =
+    ap (λ (k : ℕ). set (fill (m .cells) s (i - s) c) k c) f ∙ rw e (sym (fill-more (m .cells) s (i - s) c)) in
+    λ t. record { blocks = m .blocks; cells = more t }
+
+pub fill-one : (m : Memory) (i : ℕ) (c : Cell) → setCell m i c ≡ fillCells m i 1 c
+fill-one m i c =
+    let e : i + 1 - i ≡ 1 = omega arith in
+    ap (λ (x : Memory). setCell x i c) (fill-cells-none m i c) ∙ fill-cells-more m i i c (omega arith)
+    ∙ ap (λ (n : ℕ). fillCells m i n c) e

@@ -3,16 +3,17 @@ use Prim.Native.Nat.{ℕ, zero, suc, _+_, _-_, _*_, _<_, _≤_}
 use native.Mathlib.Nat.{zero-add, le-trans, le-of-eq}
 use native.Mathlib.Omega.{arith}
 use mathlib.Core.Path.{_≡_, refl, sym, ap, _∙_}
-use mathlib.Core.Bool.{Bool, true, false}
 use mathlib.Core.List.{List}
 use lib.Dec.{eqb, eqb·suc-zero}
 use lib.IntN.{ℤ}
 use lib.ListN.{length, getD, List·getD-eq-default}
 use Rattle.rules.specs.Sizes.{nameCount, cellCount}
-use Rattle.rules.specs.Memory.{Memory, blockOf, cellOf, isFree, isUnused}
+use Rattle.rules.specs.Words.{wordAt}
+use Rattle.rules.specs.Memory.{blockOf, cellOf, recordedOf, isFree, isUnused}
 use Rattle.rules.specs.Layout.{memoryOf, blockAt, cellAt, blockFrom, cellFrom, blockPlace, cellPlace}
 use Rattle.rules.proofs.lists.Rows.{length-tabulate, getD-tabulate}
-use Rattle.rules.specs.declared.{Value.Value, Block.Block, Cell.Cell}
+use Rattle.rules.specs.declared.{Value.Value, Block.Block, Cell.Cell, Recorded.Recorded}
+use Rattle.memory_cells.specs.Starts.{StartsAt}
 
 pub count-blocks : (l : List ℕ) → length (memoryOf l .blocks) ≡ nameCount
 unfolding memoryOf
@@ -58,6 +59,21 @@ other-block zero f n a b d = absurd (a refl)
 other-block (suc zero) f n a b d = absurd (b refl)
 other-block (suc (suc zero)) f n a b d = absurd (d refl)
 other-block (suc (suc (suc s))) f n a b d = refl
+
+-- where the block of a record starts, if it is live
+live-first : (s f n first k : ℕ) → recordedOf (blockFrom s f n) ≡ Recorded.Live first k → f ≡ first
+live-first zero f n first k e = let z : _≡_ {A = ℕ} 0 1 = cc in absurd (omega arith)
+live-first (suc zero) f n first k e = cc
+live-first (suc (suc zero)) f n first k e = cc
+live-first (suc (suc (suc s))) f n first k e = let z : _≡_ {A = ℕ} 0 1 = cc in absurd (omega arith)
+
+pub starts-at : (l : List ℕ) (k : ℕ) → 0 < k → k ≤ nameCount → StartsAt (memoryOf l) k (wordAt 2 l (k * 8 - 6))
+unfolding blockAt
+starts-at l k a b first n e =
+    let at : k * 8 - 6 ≡ blockPlace (k - 1) + 2 = omega arith in
+    ap (wordAt 2 l) at
+    ∙ live-first (getD l (blockPlace (k - 1)) 0) (wordAt 2 l (blockPlace (k - 1) + 2))
+    (wordAt 2 l (blockPlace (k - 1) + 4)) first n (ap recordedOf (block-named l k a b) ∙ e)
 
 -- a free cell and an unused record, by the first byte
 free-kind : (k o n : ℕ) (z : ℤ) → eqb k 0 ≡ isFree (cellFrom k o n z)

@@ -1,9 +1,10 @@
 // The bytes of the execution memory, read: block records of 8 bytes, then cells of 16.
 ghost use mathlib.Core.Path.{_≡_};
-ghost use Prim.Native.Nat.{_+_, _*_, _<_};
+ghost use Prim.Native.Nat.{_+_, _*_, _<_, _≤_};
 ghost use Rattle.rules.specs.Sizes.{nameCount, cellCount};
 ghost use Rattle.rules.specs.Memory.{blockOf, cellOf};
 ghost use Rattle.rules.specs.Layout.{memoryOf, blockAt, cellAt};
+ghost use Rattle.memory_cells.specs.Starts.{StartsAt};
 use rules::BLOCKS_LENGTH;
 use rules::Block;
 use rules::CELL_COUNT;
@@ -40,6 +41,14 @@ pub fn block(mem: &ExecutionMemory, name: u16) -> Block
         return Block::Dead;
     }
     read_block(mem, name as usize - 1)
+}
+
+// The first cell of a name's block, where the block is live.
+pub fn first_cell(mem: &ExecutionMemory, name: u16) -> usize
+    requires { ⌜ (0 < name) × (name ≤ nameCount) ⌝ }
+    ensures { λ r. ⌜ StartsAt (memoryOf (now (mem .entry))) name r ⌝ }
+{
+    byte_words::read_word(&mem[..], name as usize * 8 - 6, 2) as usize
 }
 
 fn read_cell(mem: &ExecutionMemory, i: usize) -> Cell

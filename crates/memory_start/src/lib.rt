@@ -32,8 +32,8 @@ fn put_inputs(mem: &mut ExecutionMemory, inputs: &[u8], n: usize)
 fn put_start(mem: &mut ExecutionMemory, n: u16)
     ensures { λ _. ⌜ Becomes (now (mem .entry)) (now (mem .exit)) (withStart (memoryOf (now (mem .entry))) n) ⌝ }
 {
-    memory_block_changes::put_block(mem, 1, Block::Fixed(0, 1));
-    memory_block_changes::put_block(mem, 2, Block::Fixed(1, n));
+    memory_block_changes::replace_block(mem, 1, Block::Fixed(0, 1));
+    memory_block_changes::replace_block(mem, 2, Block::Fixed(1, n));
     let p = Pointer { name: 2, offset: 0 };
     memory_cell_changes::put_cell(mem, 0, Cell::Holds(1, Value::Pointer(p)));
 }

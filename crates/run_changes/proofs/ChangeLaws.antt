@@ -8,14 +8,17 @@ use borrow.Author.Tests.{leb-true}
 use lib.Dec.{T}
 use lib.IntN.{ℤ, pos, negsuc, natAbs}
 use lib.Signed.{ltZ, nonNeg}
-use Rattle.rules.specs.Memory.{Memory, Change, stopped, Made, made, unmade, freeable, makeBlock}
+use Rattle.rules.specs.Memory.{Memory, Change, stopped, Made, made, unmade, fixed, freeable, makeBlock}
 use Rattle.rules.specs.Memory.{storeCell, storeNew, newOfSize}
 use Rattle.rules.specs.Layout.{memoryOf}
 use Rattle.rules.specs.declared.{Pointer.Pointer, Value.Value}
+use Rattle.rules.proofs.memory.Invariant.{Invariant}
 use Rattle.memory_cells.specs.Changes.{Becomes}
 use Rattle.memory_blocks.specs.Blocks.{makingOf, madeMemory}
 use Rattle.memory_blocks.specs.declared.Making.{Making}
 use Rattle.memory_blocks.specs.declared.Making.the-variants as making
+use Rattle.memory_freeing.specs.LetBlocks.{LetBlock}
+use Rattle.memory_freeing.proofs.LetBlockLaws.{let-made}
 use Rattle.run_changes.specs.Changing.{Does}
 
 -- ---- changes of the bytes, one after the other
@@ -60,6 +63,14 @@ pub unmade-by : (x : Made Memory) (c : ℕ) → making.Stopped c ≡ makingOf x 
 unfolding nameOf isName
 unmade-by (made j m₁) c e = absurd (false≢true (ap isName e))
 unmade-by (unmade d) c e = ap unmade (sym (ap nameOf e))
+
+-- the block that a let makes
+pub let-block : {l l₁ : List ℕ} {k : ℕ} → Invariant (memoryOf l)
+    → Becomes l l₁ (madeMemory (memoryOf l) (makeBlock (memoryOf l) fixed 1))
+    → making.Name k ≡ makingOf (makeBlock (memoryOf l) fixed 1) → LetBlock (memoryOf l₁) k
+let-block {l} {l₁} {k} v w e =
+    subst (λ (m : Memory). LetBlock m k) (sym (w .view))
+    (let-made (memoryOf l) k _ v (made-by (makeBlock (memoryOf l) fixed 1) k (memoryOf l) e))
 
 module _ (p : Pointer) (x : Made Memory) (l l₁ : List ℕ) (w : Becomes l l₁ (madeMemory (memoryOf l) x)) where
   pub does-new : (k r : ℕ) (l₂ : List ℕ) → making.Name k ≡ makingOf x

@@ -1,81 +1,65 @@
 -- `memory_blocks::find_run` meets its contract. Assumes nothing.
-use Prim.Native.Nat.{ℕ, _-_}
+use Prim.Native.Nat.{_-_}
 use native.Mathlib.Omega.{arith}
-use mathlib.Core.Path.{_≡_, sym, _∙_}
-use mathlib.Core.Bool.{Bool}
-use mathlib.Core.List.{List}
 use Rattle.rules.specs.Sizes.{cellCount}
-use Rattle.rules.specs.Layout.{memoryOf}
-use Rattle.rules.specs.Memory.{isFree, cellOf}
-use Rattle.rules.proofs.lists.RunLaws.{Scanned, scan-start, scan-free, scan-over, scan-found, scan-none}
+use Rattle.rules.proofs.lists.RunLaws.{NoRunBelow, run-start, run-over, run-found, run-none}
+use Rattle.memory_blocks.proofs.Runs.{freeIn}
 use Rattle.memory_blocks.proofs.find_run.Statement.{statement}
 use Rattle.memory_blocks.proofs.find_run.Tie as tie
 
-abbrev free-in : List ℕ → ℕ → Bool
-free-in l i = isFree (cellOf (memoryOf l) i)
-
 abbrev Inv-loop : tie.InvT-loop
-Inv-loop mem from n run₀ i₀ run i = Scanned (free-in mem) n i run
+Inv-loop mem from n last i₀ i = NoRunBelow (freeIn mem) n i
 
 abbrev μ-loop : tie.MeasureT-loop
-μ-loop mem from n run₀ i₀ run i = cellCount - i
-
-loop-holds : tie.Need-loop-holds Inv-loop μ-loop
-loop-holds c =
-    scan-start (free-in (c .args .mem .now)) (c .args .n) (c .args .from) (c .pre .0) (c .pre .2) (c .pre .3)
-
-is-free-requires : tie.Need-is-free-requires Inv-loop μ-loop
-is-free-requires c κs = c .loop-test .taken
-
-add-run : tie.Need-add-run Inv-loop μ-loop
-add-run c = omega arith
-
-add-i : tie.Need-add-i Inv-loop μ-loop
-add-i c = omega arith
-
-sub-t9 : tie.Need-sub-t9 Inv-loop μ-loop
-sub-t9 c = omega arith
+μ-loop mem from n last i₀ i = cellCount - i
 
 returns : tie.Need-returns Inv-loop μ-loop
 returns c =
-    let s = c .before .before .before .before .before in
-    let l = c .before .before .before .before .loop in
-    scan-found (free-in (s .args .mem .now)) (s .args .n) (l .i) (l .run) (l .inv)
-    (c .before .before .before .loop-test .taken)
-    (sym (c .before .before .is-free .ensures) ∙ c .before .if1 .taken) (c .if2 .taken)
+    let s = c .before in
+    let p = freeIn (s .args .mem .now) in
+    run-none p (s .args .n) (s .args .from) (run-start p (s .args .n) (s .args .from) (s .pre .0) (s .pre .3)) (omega arith)
 
-loop-less : tie.Need-loop-less Inv-loop μ-loop
-loop-less c = omega arith
+loop-holds : tie.Need-loop-holds Inv-loop μ-loop
+loop-holds c =
+    let s = c .before in
+    run-start (freeIn (s .args .mem .now)) (s .args .n) (s .args .from) (s .pre .0) (s .pre .3)
 
-loop-again : tie.Need-loop-again Inv-loop μ-loop
-loop-again c =
-    let s = c .before .before .before .before .before in
-    let l = c .before .before .before .before .loop in
-    scan-free (free-in (s .args .mem .now)) (s .args .n) (l .i) (l .run) (l .inv)
-    (c .before .before .before .loop-test .taken)
-    (sym (c .before .before .is-free .ensures) ∙ c .before .if1 .taken) (c .if2 .left)
+add-end : tie.Need-add-end Inv-loop μ-loop
+add-end c = omega arith
 
-end-of-requires : tie.Need-end-of-requires Inv-loop μ-loop
-end-of-requires c κs =
-    let s = c .before .before .before .before in
-    (s .pre .1, c .before .before .loop-test .taken, sym (c .before .is-free .ensures) ∙ c .if1 .left)
-
-loop-less-2 : tie.Need-loop-less-2 Inv-loop μ-loop
-loop-less-2 c = omega (arith, c .end-of .ensures .further, c .end-of .ensures .within)
-
-loop-again-2 : tie.Need-loop-again-2 Inv-loop μ-loop
-loop-again-2 c =
-    let s = c .before .before .before .before .before in
-    let l = c .before .before .before .before .loop in
-    scan-over (free-in (s .args .mem .now)) (s .args .n) (l .i) (l .run) (l .inv)
-    (c .before .before .before .loop-test .taken) (c .end-of .ensures)
+free-to-requires : tie.Need-free-to-requires Inv-loop μ-loop
+free-to-requires c κs = (omega arith, omega arith)
 
 returns-2 : tie.Need-returns-2 Inv-loop μ-loop
 returns-2 c =
-    let s = c .before .before in
+    let s = c .before .before .before .before .before in
+    let l = c .before .before .before .loop in
+    run-found (freeIn (s .args .mem .now)) (s .args .n) (l .i) (l .inv) (omega arith) (c .before .free-to .ensures)
+    (c .if2 .taken)
+
+end-of-requires : tie.Need-end-of-requires Inv-loop μ-loop
+end-of-requires c κs =
+    let s = c .before .before .before .before .before in
+    let f = c .before .free-to .ensures in
+    (s .pre .1, omega (arith, f .free .within, c .if2 .left), f .stopped (c .if2 .left))
+
+loop-less : tie.Need-loop-less Inv-loop μ-loop
+loop-less c =
+    omega (arith, c .end-of .ensures .further, c .end-of .ensures .within, c .before .before .free-to .ensures .free .further)
+
+loop-again : tie.Need-loop-again Inv-loop μ-loop
+loop-again c =
+    let s = c .before .before .before .before .before .before in
+    let l = c .before .before .before .before .loop in
+    let f = c .before .before .free-to in
+    run-over (freeIn (s .args .mem .now)) (s .args .n) (l .i) (l .inv) (f .result) (f .ensures .free .further)
+    (omega (arith, f .ensures .free .within, c .before .if2 .left)) (c .end-of .ensures)
+
+returns-3 : tie.Need-returns-3 Inv-loop μ-loop
+returns-3 c =
+    let s = c .before .before .before in
     let l = c .before .loop in
-    let all : l .i ≡ cellCount = omega (arith, l .inv .within) in
-    scan-none (free-in (s .args .mem .now)) (s .args .n) (l .run) (rw all at (l .inv))
+    run-none (freeIn (s .args .mem .now)) (s .args .n) (l .i) (l .inv) (omega arith)
 
 pub find-run-spec : {M : Type 1} → statement M
 find-run-spec =
@@ -83,15 +67,12 @@ find-run-spec =
     (tie.spec
     Inv-loop
     μ-loop
-    loop-holds
-    is-free-requires
-    add-run
-    add-i
-    sub-t9
     returns
+    loop-holds
+    add-end
+    free-to-requires
+    returns-2
+    end-of-requires
     loop-less
     loop-again
-    end-of-requires
-    loop-less-2
-    loop-again-2
-    returns-2)
+    returns-3)

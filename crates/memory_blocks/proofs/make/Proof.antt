@@ -84,7 +84,7 @@ enum-known-first c = search needs
 cast-place : tie.Need-cast-place
 cast-place c =
     let after-k = c .before .before .before .before .before .before .before .before in
-    omega (arith, name-bound (memoryOf (now (after-k .before .before .before .before .args .mem))) _ (name after-k))
+    omega (arith, name-bound (memoryOf (now (after-k .before .before .before .before .args .mem))) _ (name after-k) .1)
 
 cast-place-2 : tie.Need-cast-place-2
 cast-place-2 c =
@@ -97,7 +97,11 @@ cast-place-3 c =
     omega (arith, run-bound _ (s .args .n) _ (run c))
 
 place-requires : tie.Need-place-requires
-place-requires c κs = tt
+place-requires c κs =
+    let after-k = c .before .before .before .before .before .before .before .before in
+    let s = after-k .before .before .before .before in
+    let named = name-bound (memoryOf (now (s .args .mem))) _ (name after-k) in
+    (run-bound _ (s .args .n) _ (run c), named .0, named .1)
 
 take-requires : tie.Need-take-requires
 take-requires c κs =
@@ -110,7 +114,7 @@ take-requires c κs =
 cast-t20 : tie.Need-cast-t20
 cast-t20 c =
     let after-k = c .before .before .before .before .before .before .before .before .before .before .before in
-    omega (arith, name-bound (memoryOf (now (after-k .before .before .before .before .args .mem))) _ (name after-k))
+    omega (arith, name-bound (memoryOf (now (after-k .before .before .before .before .args .mem))) _ (name after-k) .1)
 
 returns : tie.Need-returns
 returns c =

@@ -1,5 +1,5 @@
 -- `memory_blocks::place` meets its contract. Assumes nothing.
-use mathlib.Core.Path.{_≡_, refl, sym, ap, _∙_, subst}
+use mathlib.Core.Path.{ap}
 use Rattle.rules.specs.Layout.{memoryOf}
 use Rattle.rules.specs.declared.{Value.Value, Cell.Cell}
 use Rattle.rules.specs.Memory.{Memory}
@@ -9,11 +9,6 @@ use Rattle.memory_cell_changes.proofs.Writing.{becomes-then, becomes-as}
 use borrow.Author.Needs.{needs}
 use Rattle.memory_blocks.proofs.place.Statement.{statement}
 use Rattle.memory_blocks.proofs.place.Tie as tie
-use Rattle.memory_blocks.proofs.place.Reads as reads
-use Rattle.memory_blocks.proofs.place.Lts as lts
-use Rattle.memory_cell_fills.proofs.fill_undefined.Reads as fill-undefined-reads
-use Rattle.memory_blocks.proofs.live.Reads as live-reads
-use Rattle.memory_block_changes.proofs.put_block.Reads as put-block-reads
 
 fill-undefined-requires : tie.Need-fill-undefined-requires
 fill-undefined-requires c κs = search needs
@@ -21,8 +16,8 @@ fill-undefined-requires c κs = search needs
 live-requires : tie.Need-live-requires
 live-requires c κs = search needs
 
-put-block-requires : tie.Need-put-block-requires
-put-block-requires c κs = search needs
+replace-block-requires : tie.Need-replace-block-requires
+replace-block-requires c κs = search needs
 
 returns : tie.Need-returns
 returns c =
@@ -32,7 +27,7 @@ returns c =
     becomes-as (ap (setBlock m (a .k)) (c .before .live .ensures))
     (becomes-then (λ (x : Memory). setBlock x (a .k) (c .before .live .result))
     (c .before .before .before .fill-undefined .ensures)
-    (c .put-block .ensures))
+    (c .replace-block .ensures))
 
 pub place-spec : {M : Type 1} → statement M
-place-spec = tie.close (tie.spec fill-undefined-requires live-requires put-block-requires returns)
+place-spec = tie.close (tie.spec fill-undefined-requires live-requires replace-block-requires returns)

@@ -7,7 +7,7 @@ use Rattle.memory_cell_fills.proofs.fill_free.Tie as tie
 
 fill-requires : tie.Need-fill-requires
 unfolding cellBytes
-fill-requires c κs = refl
+fill-requires c κs = (c .before .pre, refl)
 
 returns : tie.Need-returns
 returns c = search needs

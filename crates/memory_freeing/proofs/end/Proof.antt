@@ -1,86 +1,74 @@
 -- `memory_freeing::end` meets its contract. Assumes nothing.
+use Prim.Native.Nat.{ℕ, _+_, _≤_}
+use native.Mathlib.Omega.{arith}
 use mathlib.Core.Path.{_≡_, refl, sym, ap, _∙_}
-use Rattle.rules.specs.Layout.{memoryOf}
-use Rattle.rules.specs.Memory.{recordedOf, blockOf}
-use Rattle.rules.specs.declared.{Block.Block}
-use Rattle.memory_cell_changes.proofs.Writing.{unchanged}
-use borrow.Author.Needs.{needs}
+use Rattle.rules.specs.Sizes.{cellCount}
+use Rattle.rules.specs.Layout.{memoryOf, cellBytes}
+use Rattle.rules.specs.Memory.{Memory, recordedOf, blockOf, setCell, withoutCells}
+use Rattle.rules.specs.declared.{Block.Block, Cell.Cell, Recorded.Recorded}
+use Rattle.memory_counts.specs.Counted.{afterEnd}
+use Rattle.memory_counts.proofs.CountLaws.{counted-is, end-counted, counted-end}
+use Rattle.memory_cells.specs.Changes.{setBlock}
+use Rattle.memory_cell_changes.proofs.Writing.{becomes-then, becomes-as}
+use Rattle.memory_freeing.proofs.Steps.{live-name, without-one}
 use Rattle.memory_freeing.proofs.end.Statement.{statement}
 use Rattle.memory_freeing.proofs.end.Tie as tie
 
-block-requires : tie.Need-block-requires
-block-requires c κs = search needs
+-- the let's block, and its cell
+live : (s : tie.Start)
+    → recordedOf (blockOf (memoryOf (s .args .mem .now)) (s .args .name)) ≡ Recorded.Live (s .pre .1 .first) 1
+live s = ap recordedOf (s .pre .1 .is)
 
-enum-told : tie.Need-enum-told
-enum-told c = search needs
+inside : (s : tie.Start) → s .pre .1 .first + 1 ≤ cellCount
+inside s = s .pre .0 .invariant .within (s .args .name) (s .pre .1 .first) 1 (live s)
 
-enum-known-first : tie.Need-enum-known-first
-enum-known-first c = search needs
+found : (c : tie.After-first-cell) → c .first-cell .result ≡ c .before .before .pre .1 .first
+found c = c .first-cell .ensures (c .before .before .pre .1 .first) 1 (live (c .before .before))
 
-release-requires : tie.Need-release-requires
-release-requires c κs =
+first-cell-requires : tie.Need-first-cell-requires
+first-cell-requires c κs =
+    let s = c .before in
+    live-name (memoryOf (s .args .mem .now)) (s .args .name) (s .pre .1 .first) 1 (s .pre .0 .invariant) (live s)
+
+put-without-value-requires : tie.Need-put-without-value-requires
+unfolding cellBytes
+put-without-value-requires c κs =
+    let f = c .before in
+    (omega (arith, found f, inside (f .before .before)), refl)
+
+replace-block-requires : tie.Need-replace-block-requires
+replace-block-requires c κs =
+    let s = c .before .before .before .before .before in
+    live-name (memoryOf (s .args .mem .now)) (s .args .name) (s .pre .1 .first) 1 (s .pre .0 .invariant) (live s)
+
+give-back-requires : tie.Need-give-back-requires
+give-back-requires c κs =
     let s = c .before .before .before .before .before .before .before in
-    let b = c .before .before .before .first .given in
-    (s .pre, ap recordedOf (sym (c .before .before .before .before .before .block .ensures) ∙ b .1))
-
-enum-known-first-2 : tie.Need-enum-known-first-2
-enum-known-first-2 c = search needs
-
-release-requires-2 : tie.Need-release-requires-2
-release-requires-2 c κs =
-    let s = c .before .before .before .before .before .before .before in
-    let b = c .before .before .before .first2 .given in
-    (s .pre, ap recordedOf (sym (c .before .before .before .before .before .block .ensures) ∙ b .1))
-
-enum-told-2 : tie.Need-enum-told-2
-enum-told-2 c = search needs
+    omega (arith, end-counted (s .pre .0) (s .args .name) (s .pre .1 .first) 1 (live s))
 
 returns : tie.Need-returns
 returns c =
-    let s = c .before .before .before .before in
-    let l = s .args .mem .now in
-    let e : blockOf (memoryOf l) (s .args .name) ≡ Block.Unused =
-    sym (c .before .before .block .ensures) ∙ c .enum-told .given .1 in
-    (rw e (unchanged l (memoryOf l) refl), s .pre)
-
-returns-2 : tie.Need-returns-2
-returns-2 c =
-    let s = c .before .before .before .before .before .before .before .before in
-    let l = s .args .mem .now in
-    let b = c .before .before .before .before .first .given in
-    let e : blockOf (memoryOf l) (s .args .name) ≡ Block.Fixed (b .0 .0) (b .0 .1 .0) =
-    sym (c .before .before .before .before .before .before .block .ensures) ∙ b .1 in
-    (rw e (c .release .ensures .0), c .release .ensures .1)
-
-returns-3 : tie.Need-returns-3
-returns-3 c =
-    let s = c .before .before .before .before .before .before .before .before in
-    let l = s .args .mem .now in
-    let b = c .before .before .before .before .first2 .given in
-    let e : blockOf (memoryOf l) (s .args .name) ≡ Block.Freeable (b .0 .0) (b .0 .1 .0) =
-    sym (c .before .before .before .before .before .before .block .ensures) ∙ b .1 in
-    (rw e (c .release2 .ensures .0), c .release2 .ensures .1)
-
-returns-4 : tie.Need-returns-4
-returns-4 c =
-    let s = c .before .before .before .before in
-    let l = s .args .mem .now in
-    let e : blockOf (memoryOf l) (s .args .name) ≡ Block.Dead =
-    sym (c .before .before .block .ensures) ∙ c .enum-told2 .given .1 in
-    (rw e (unchanged l (memoryOf l) refl), s .pre)
+    let f = c .before .before .before .before .before .before in
+    let s = f .before .before in
+    let m = memoryOf (s .args .mem .now) in
+    let k = s .args .name in
+    let first = s .pre .1 .first in
+    let one = becomes-as
+    (ap (λ (i : ℕ). setBlock (setCell m i Cell.Free) k Block.Dead) (found f) ∙ without-one m k first)
+    (becomes-then (λ (x : Memory). setBlock x k Block.Dead)
+    (c .before .before .before .before .put-without-value .ensures) (c .before .before .replace-block .ensures)) in (
+      becomes-as (ap (withoutCells m k) (sym (live s))) one,
+      counted-is (one .view)
+          (c .give-back .ensures ∙ ap (λ (i : ℕ). afterEnd (s .args .counts .now) i 1) (found f))
+          (counted-end (s .pre .0) k first 1 (live s)),
+    )
 
 pub end-spec : {M : Type 1} → statement M
 end-spec =
     tie.close
     (tie.spec
-    block-requires
-    enum-told
-    enum-known-first
-    release-requires
-    enum-known-first-2
-    release-requires-2
-    enum-told-2
-    returns
-    returns-2
-    returns-3
-    returns-4)
+    first-cell-requires
+    put-without-value-requires
+    replace-block-requires
+    give-back-requires
+    returns)

@@ -7,16 +7,12 @@ use Rattle.memory_cell_changes.proofs.Writing.{becomes-then}
 use borrow.Author.Needs.{needs}
 use Rattle.memory_start.proofs.put_start.Statement.{statement}
 use Rattle.memory_start.proofs.put_start.Tie as tie
-use Rattle.memory_start.proofs.put_start.Reads as reads
-use Rattle.memory_start.proofs.put_start.Lts as lts
-use Rattle.memory_block_changes.proofs.put_block.Reads as put-block-reads
-use Rattle.memory_cell_changes.proofs.put_cell.Reads as put-cell-reads
 
-put-block-requires : tie.Need-put-block-requires
-put-block-requires c κs = search needs
+replace-block-requires : tie.Need-replace-block-requires
+replace-block-requires c κs = search needs
 
-put-block-requires-2 : tie.Need-put-block-requires-2
-put-block-requires-2 c κs = search needs
+replace-block-requires-2 : tie.Need-replace-block-requires-2
+replace-block-requires-2 c κs = search needs
 
 put-cell-requires : tie.Need-put-cell-requires
 put-cell-requires c κs = search needs
@@ -27,10 +23,10 @@ returns c =
     becomes-then
     (λ (x : Memory). setCell x 0 (Cell.Holds 1 (Value.Pointer (record { name = 2; offset = pos 0 }))))
     (becomes-then (λ (x : Memory). setBlock x 2 (Block.Fixed 1 (s .args .n)))
-    (c .before .before .before .before .put-block .ensures)
-    (c .before .before .put-block2 .ensures))
+    (c .before .before .before .before .replace-block .ensures)
+    (c .before .before .replace-block2 .ensures))
     (c .put-cell .ensures)
 
 pub put-start-spec : {M : Type 1} → statement M
 put-start-spec =
-    tie.close (tie.spec put-block-requires put-block-requires-2 put-cell-requires returns)
+    tie.close (tie.spec replace-block-requires replace-block-requires-2 put-cell-requires returns)

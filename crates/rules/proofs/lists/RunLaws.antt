@@ -1,4 +1,4 @@
--- Laws of `allFree`, `lowest` and `lowestRun`, and of the loop that looks for the lowest run.
+-- Laws of `allFree`, `lowest` and `lowestRun`, and of the loops that look for the lowest run.
 use Prim.Native.Nat.{ℕ, zero, suc, _+_, _-_, _<_, _≤_}
 use native.Mathlib.Omega.{arith}
 use native.Mathlib.Nat.{eq-or-lt-of-le}
@@ -136,14 +136,7 @@ pub run-bound : (p : ℕ → Bool) (n first : ℕ) → lowestRun p n ≡ Search.
 unfolding lowestRun
 run-bound p n first e = omega (arith, lowest-bound (λ s. allFree p s n) (suc cellCount - n) 0 first e)
 
--- ---- the loop that looks for a run: of the places below i the last `run` pass, and no run of n starts before those
-pub record Scanned (p : ℕ → Bool) (n i run : ℕ) : Type 0 where
-  pub within : i ≤ cellCount
-  pub some : run ≤ i
-  pub short : run < n
-  pub passed : (j : ℕ) → i - run ≤ j → j < i → p j ≡ true
-  pub nowhere : (j : ℕ) → j < i - run → allFree p j n ≡ false
-
+-- ---- where a search starts
 -- no place below i passes
 abbrev pub NoneBelow : (ℕ → Bool) → ℕ → Type 0
 NoneBelow p i = (j : ℕ) → j < i → p j ≡ false
@@ -198,84 +191,6 @@ pub record Held (p : ℕ → Bool) (i e : ℕ) : Type 0 where
   pub further : i < e
   pub within : e ≤ cellCount
   pub held : (j : ℕ) → i ≤ j → j < e → p j ≡ false
-
-module _ (p : ℕ → Bool) (n : ℕ) where
-  -- from a place below which none passes
-  pub scan-start : (i : ℕ) → 0 < n → i ≤ cellCount → NoneBelow p i → Scanned p n i 0
-  scan-start i h within low = record {
-    within = within;
-    some = omega arith;
-    short = h;
-    passed = λ j a b. absurd (no j a b);
-    nowhere = λ j b. blocked p n j j (omega arith) (omega arith) (low j (under j b));
-  }
-    where
-      no : (j : ℕ) → i - 0 ≤ j → j < i → ⊥
-      no j a b = omega arith
-
-      under : (j : ℕ) → j < i - 0 → j < i
-      under j b = omega arith
-
-  module _ (i run : ℕ) (s : Scanned p n i run) (h : i < cellCount) where
-    pub scan-free : p i ≡ true → (run + 1 ≡ n → ⊥) → Scanned p n (i + 1) (run + 1)
-    scan-free t d = record {
-      within = omega arith;
-      some = omega (arith, s .some);
-      short = omega (arith, s .short, d);
-      passed = λ j a b. ⊎-elim (λ e. ap p e ∙ t) (λ l. s .passed j (start j a) l) (last-of j b);
-      nowhere = λ j b. s .nowhere j (before j b);
-    }
-      where
-        last-of : (j : ℕ) → j < i + 1 → (j ≡ i) ⊎ (j < i)
-        last-of j b = let k : j ≤ i = omega arith in eq-or-lt-of-le k
-
-        start : (j : ℕ) → i + 1 - (run + 1) ≤ j → i - run ≤ j
-        start j a = omega arith
-
-        before : (j : ℕ) → j < i + 1 - (run + 1) → j < i - run
-        before j b = omega arith
-
-    -- an occupied place is left by the end of what has it
-    pub scan-over : {e : ℕ} → Held p i e → Scanned p n e 0
-    scan-over {e} o = record {
-      within = o .within;
-      some = omega arith;
-      short = omega (arith, s .short);
-      passed = λ j a b. absurd (empty j a b);
-      nowhere = λ j b. go j b (lt-or-le j (i - run)) (lt-or-le j i);
-    }
-      where
-        empty : (j : ℕ) → e - 0 ≤ j → j < e → ⊥
-        empty j a b = omega arith
-
-        reach : (j : ℕ) → i - run ≤ j → i < j + n
-        reach j l = omega (arith, s .short, s .some)
-
-        go : (j : ℕ) → j < e - 0 → (j < i - run) ⊎ (i - run ≤ j) → (j < i) ⊎ (i ≤ j) → allFree p j n ≡ false
-        go j b (inl l) d = s .nowhere j l
-        go j b (inr l) (inl d) = blocked p n j i (omega arith) (reach j l) (o .held i (omega arith) (o .further))
-        go j b (inr l) (inr d) = blocked p n j j (omega arith) (omega (arith, s .short)) (o .held j d (omega arith))
-
-    pub scan-found : p i ≡ true → run + 1 ≡ n → Search.At (i + 1 - n) ≡ lowestRun p n
-    unfolding lowestRun
-    scan-found t e =
-        let m : i + 1 - n ≡ i - run = omega (arith, s .some) in
-        rw m (sym (lowest-at (λ (j : ℕ). allFree p j n) (suc cellCount - n) 0 (i - run) (λ j a b. s .nowhere j b)
-        (all-free p n (i - run) (λ j a b. full j a b)) (omega arith) (omega (arith, s .some))))
-      where
-        last-of : (j : ℕ) → i - run ≤ j → j < i - run + n → (j ≡ i) ⊎ (j < i)
-        last-of j a b = let k : j ≤ i = omega (arith, s .some) in eq-or-lt-of-le k
-
-        full : (j : ℕ) → i - run ≤ j → j < i - run + n → p j ≡ true
-        full j a b = ⊎-elim (λ q. ap p q ∙ t) (λ l. s .passed j a l) (last-of j a b)
-
-  pub scan-none : (run : ℕ) → Scanned p n cellCount run → Search.Nothing ≡ lowestRun p n
-  unfolding lowestRun
-  scan-none run s =
-      sym (lowest-none (λ (j : ℕ). allFree p j n) (suc cellCount - n) 0 (λ j a b. s .nowhere j (under j b)))
-    where
-      under : (j : ℕ) → j < 0 + (suc cellCount - n) → j < cellCount - run
-      under j b = omega (arith, s .some, s .short)
 
 -- ---- the search in two loops: one passes the free places of a run, the other starts it anew behind a held one
 -- the places from i on pass up to j, which is no place past e

@@ -167,7 +167,7 @@ make-given m u n k first r y =
 pub dead-is-not-live : (a n : ℕ) → Recorded.Dead ≡ Recorded.Live a n → ⊥
 dead-is-not-live a n e = let z : _≡_ {A = ℕ} 0 1 = cc in omega arith
 
-live-named : (l : List Block) (k a n : ℕ) → recordedOf (named l k Block.Dead) ≡ Recorded.Live a n
+pub live-named : (l : List Block) (k a n : ℕ) → recordedOf (named l k Block.Dead) ≡ Recorded.Live a n
     → (1 ≤ k) × (k ≤ length l)
 live-named l k a n e = named-in l k Block.Dead (λ h. dead-is-not-live a n (sym (ap recordedOf h) ∙ e))
 

@@ -1,0 +1,2 @@
+-- What the code that ends blocks is held to.
+pub mod LetBlocks
