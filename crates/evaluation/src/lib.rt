@@ -1,6 +1,7 @@
 // Evaluating expressions and finding places, on the execution memory.
 ghost use mathlib.Core.Path.{_≡_};
 ghost use Rattle.rules.specs.Kinds.{target, sortNumber, expression, place};
+ghost use Rattle.rules.specs.Records.{kindOf};
 ghost use Rattle.rules.specs.Nodes.{asExpression, asPlace, sortOfNode, nodeAt};
 ghost use Rattle.rules.specs.Memory.{onPlace, readCell};
 ghost use Rattle.rules.specs.Layout.{memoryOf};
@@ -25,7 +26,7 @@ pub enum Settled {
 }
 
 // The value at a place.
-fn fetch(mem: &ExecutionMemory, f: Found) -> Evaluated
+pub fn fetch(mem: &ExecutionMemory, f: Found) -> Evaluated
     ensures { λ r. ⌜ r ≡ onPlace f Evaluated.Stopped (readCell (memoryOf (now (mem .entry)))) ⌝ }
 {
     match f {
@@ -183,6 +184,25 @@ pub fn find_place(
             table::mark(&table[..], n) as usize,
         )),
     }
+}
+
+// The place whose value expression n is, where it is a read.
+pub fn find_read(
+    table: &Table,
+    n: usize,
+    variables: &Variables,
+    temporaries: &Temporaries,
+    mem: &ExecutionMemory,
+) -> Found
+    requires { ⌜ (sortOfNode target (nodeAt target (now table) n) ≡ sortNumber expression)
+        × (kindOf (now table) n ≡ 2) ⌝ }
+    ensures { λ r. ⌜ onPlace r Evaluated.Stopped (readCell (memoryOf (now (mem .entry))))
+        ≡ evaluate (asExpression (nodeAt target (now (table .entry)) n))
+        (temporaryOf (temporariesOf (now (temporaries .entry)))) (variablesOf (now (variables .entry)))
+        (memoryOf (now (mem .entry))) ⌝ }
+{
+    let place = table::child_a(&table[..], n);
+    find_place(table, place, variables, temporaries, mem)
 }
 
 // The value of expression n of a statement. A literal, as most sizes are, takes no call.

@@ -32,7 +32,7 @@ pub fn find_a(
 }
 
 // The value of child A, and of child B.
-pub fn evaluate_a(
+fn evaluate_a(
     table: &Table,
     n: usize,
     variables: &Variables,

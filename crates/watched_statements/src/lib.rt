@@ -1,12 +1,13 @@
 // The statements of the target language that run no other.
 ghost use mathlib.Core.Path.{_≡_};
-ghost use Rattle.rules.specs.Kinds.{statement, target};
+ghost use Rattle.rules.specs.Kinds.{expression, statement, target, sortNumber};
 ghost use Rattle.rules.specs.Records.{kindOf, markOf, childA, childB};
 ghost use Rattle.rules.specs.Memory.{assigned, allocated, freed};
 ghost use Rattle.rules.specs.Evaluation.{addressOf, condition};
 ghost use Rattle.rules.specs.Watched.{heldIn};
 ghost use Rattle.rules.specs.Layout.{memoryOf};
-ghost use Rattle.rules.specs.Nodes.{HasSort};
+ghost use Rattle.rules.specs.Nodes.{HasSort, nodeAt, sortOfNode};
+ghost use Rattle.table.specs.Within.{Within};
 ghost use Rattle.memory_counts.specs.Counted.{Counted};
 ghost use Rattle.evaluation.specs.State.{variablesOf};
 ghost use Rattle.evaluation_temporaries.specs.Bytes.{temporariesOf};
@@ -16,6 +17,7 @@ ghost use Rattle.run_changes.specs.Changing.{Does};
 ghost use Rattle.watched_steps.specs.Steps.{Takes};
 ghost use Rattle.watched_statements.specs.Watching.{lent, Beside, Ready, IsAct, Runs, Acts};
 use rules::Counts;
+use rules::Evaluated;
 use rules::ExecutionMemory;
 use rules::MarkOwners;
 use rules::ObservationMemory;
@@ -69,6 +71,28 @@ fn allocate(
     run_allocation::new_at(mem, counts, f, e)
 }
 
+// What 43 frees: the value of child A. Most often it is a read, whose place is found here and not by a call. The compiler
+// takes in a function that has one caller, so 43 and 61 have one each.
+fn freed_value(
+    table: &Table,
+    n: usize,
+    variables: &Variables,
+    temporaries: &Temporaries,
+    mem: &ExecutionMemory,
+) -> Evaluated
+    requires { ⌜ Within (now table) n
+        × (sortOfNode target (nodeAt target (now table) (childA (now table) n)) ≡ sortNumber expression) ⌝ }
+    ensures { λ r. ⌜ r ≡ valueIn (now (table .entry)) (childA (now (table .entry)) n)
+        (now (variables .entry)) (now (temporaries .entry)) (now (mem .entry)) ⌝ }
+{
+    let a = table::child_a(&table[..], n);
+    if table::kind(&table[..], a) == 2 {
+        let f = evaluation::find_read(table, a, variables, temporaries, mem);
+        return evaluation::fetch(mem, f);
+    }
+    evaluation::evaluate_expression(table, a, variables, temporaries, mem)
+}
+
 // 43: what A points to is freed.
 fn release(
     table: &Table,
@@ -86,7 +110,7 @@ fn release(
         r (now (mem .entry)) (now (mem .exit)) ⌝ }
     ensures counts { λ _. ⌜ Counted (memoryOf (now (mem .exit))) (now (counts .exit)) ⌝ }
 {
-    let e = run_children::evaluate_a(table, n, variables, temporaries, &*mem);
+    let e = freed_value(table, n, variables, temporaries, &*mem);
     run_changes::free_at(mem, counts, e)
 }
 
@@ -108,6 +132,27 @@ fn take_address(
     watched_steps::take_evaluated(temporaries, table::mark(&table[..], n) as usize, e)
 }
 
+// What 61 takes, in the same way.
+fn taken_value(
+    table: &Table,
+    n: usize,
+    variables: &Variables,
+    temporaries: &Temporaries,
+    mem: &ExecutionMemory,
+) -> Evaluated
+    requires { ⌜ Within (now table) n
+        × (sortOfNode target (nodeAt target (now table) (childA (now table) n)) ≡ sortNumber expression) ⌝ }
+    ensures { λ r. ⌜ r ≡ valueIn (now (table .entry)) (childA (now (table .entry)) n)
+        (now (variables .entry)) (now (temporaries .entry)) (now (mem .entry)) ⌝ }
+{
+    let a = table::child_a(&table[..], n);
+    if table::kind(&table[..], a) == 2 {
+        let f = evaluation::find_read(table, a, variables, temporaries, mem);
+        return evaluation::fetch(mem, f);
+    }
+    evaluation::evaluate_expression(table, a, variables, temporaries, mem)
+}
+
 // 61: the temporary takes expression A.
 fn take_value(
     table: &Table,
@@ -121,7 +166,7 @@ fn take_value(
         (valueIn (now (table .entry)) (childA (now (table .entry)) n) (now (variables .entry))
         (now (temporaries .entry)) (now (mem .entry))) ⌝ }
 {
-    let e = run_children::evaluate_a(table, n, variables, &*temporaries, mem);
+    let e = taken_value(table, n, variables, &*temporaries, mem);
     watched_steps::take_evaluated(temporaries, table::mark(&table[..], n) as usize, e)
 }
 

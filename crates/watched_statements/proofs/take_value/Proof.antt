@@ -5,8 +5,8 @@ use borrow.Author.Needs.{needs}
 use Rattle.watched_statements.proofs.take_value.Statement.{statement}
 use Rattle.watched_statements.proofs.take_value.Tie as tie
 
-evaluate-a-requires : tie.Need-evaluate-a-requires
-evaluate-a-requires c κs =
+taken-value-requires : tie.Need-taken-value-requires
+taken-value-requires c κs =
     let s = c .before in
     let T = s .args .table .now in
     (statement-within target T (s .args .n) (s .pre .0), value-fields T (s .args .n) (s .pre .0) (s .pre .1) .1 .2)
@@ -26,14 +26,14 @@ take-evaluated-requires c κs =
 
 returns : tie.Need-returns
 returns c =
-    let after-evaluate-a = c .before .before .before .before in
-    rw (c .before .mark .ensures, after-evaluate-a .evaluate-a .ensures) at (c .take-evaluated .ensures)
+    let after-taken-value = c .before .before .before .before in
+    rw (c .before .mark .ensures, after-taken-value .taken-value .ensures) at (c .take-evaluated .ensures)
 
 pub take-value-spec : {M : Type 1} → statement M
 take-value-spec =
     tie.close
     (tie.spec
-    evaluate-a-requires
+    taken-value-requires
     mark-requires
     cast-take-evaluated
     take-evaluated-requires
