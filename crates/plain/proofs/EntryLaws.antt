@@ -26,7 +26,7 @@ use Rattle.rules.proofs.layout.LayoutLaws.{memory-back}
 use Rattle.rules.proofs.layout.ReachableRoundTrip.{start-inside, plain-round-trip}
 use Rattle.rules.proofs.acceptance.Padding.{node-padded}
 use Rattle.run_endings.specs.declared.Ended.{Ended}
-use Rattle.plain_runs.specs.Running.{Ready, Ran}
+use Rattle.plain_runs.specs.Running.{Ready, EndsSo}
 use Rattle.plain_runs.proofs.Laws.{ran-is}
 use Rattle.plain.specs.Answering.{AnsweredBy}
 
@@ -54,21 +54,21 @@ module _ (i : List ℕ) (e : inputsFault i ≡ false) (l : List ℕ) (s : l ≡ 
 
   -- what a run leaves has its length
   pub exit-length : (t : List ℕ) (f : ℕ) (r : Ended) (l₁ : List ℕ) → check source t ≡ Checked.Accepted
-      → Ran (run (sourceProgram t) startVariables (memoryOf l) f) r l l₁ → length l₁ ≡ memoryLength
+      → EndsSo (ending (run (sourceProgram t) startVariables (memoryOf l) f)) r l l₁ → length l₁ ≡ memoryLength
   exit-length t f r l₁ h w =
       let o = plainOutcome t i f in
-      let v : Ran o r l l₁ = ran-is
+      let v : EndsSo (ending o) r l l₁ = ran-is
       (ap (λ (m : Memory). ending (run (sourceProgram t) startVariables m f)) (sym start-view)) w in
       ap length (v .memory .exact (s ∙ ap memoryImage (sym start-view)) ∙ ap memoryImage (v .memory .view))
       ∙ plain-round-trip t i f (accepted-program source t h .last .sound) e .image-length
 
   pub entry-ends : (t : List ℕ) (f : ℕ) (r : Ended) (l₁ : List ℕ) (k : ℕ) (exit : List ℕ)
-      → Ran (run (sourceProgram t) startVariables (memoryOf l) f) r l l₁ → k ≡ countFree (memoryOf l₁ .cells)
+      → EndsSo (ending (run (sourceProgram t) startVariables (memoryOf l) f)) r l l₁ → k ≡ countFree (memoryOf l₁ .cells)
       → exit ≡ l₁
       → AnsweredBy (plainEnded (ending (plainOutcome t i f))) (answer (r .number) (r .statement) (r .fuel) k) exit
   entry-ends t f r l₁ k exit w g x =
       let o = plainOutcome t i f in
-      let v : Ran o r l l₁ = ran-is
+      let v : EndsSo (ending o) r l l₁ = ran-is
       (ap (λ (m : Memory). ending (run (sourceProgram t) startVariables m f)) (sym start-view)) w in
       record {
         answer =

@@ -10,7 +10,7 @@ ghost use Rattle.rules.specs.Flow.{ending};
 ghost use Rattle.rules.specs.Plain.{run, startVariables};
 ghost use Rattle.rules.specs.Layout.{memoryOf};
 ghost use Rattle.memory_counts.specs.Counted.{Counted};
-ghost use Rattle.plain_runs.specs.Running.{Ready, Ran};
+ghost use Rattle.plain_runs.specs.Running.{Ready, EndsSo};
 ghost use Rattle.plain.specs.Answering.{AnsweredBy};
 use rules::Answer;
 use rules::Checked;
@@ -31,21 +31,31 @@ fn run_from_start(
     fuel: u32,
 ) -> Ended
     requires { ⌜ Ready (now table) n × Counted (memoryOf (now mem)) (now counts) ⌝ }
-    ensures outcome { λ r. ⌜ Ran (run (statementAt (now (table .entry)) n) startVariables (memoryOf (now (mem .entry))) fuel) r
-        (now (mem .entry)) (now (mem .exit)) ⌝ }
+    ensures outcome { λ r. ⌜ EndsSo (ending (run (statementAt (now (table .entry)) n) startVariables
+        (memoryOf (now (mem .entry))) fuel)) r (now (mem .entry)) (now (mem .exit)) ⌝ }
     ensures counts { λ _. ⌜ Counted (memoryOf (now (mem .exit))) (now (counts .exit)) ⌝ }
 {
     let variables = run_variables::start_variables();
     let temporaries = [0u8; TEMPORARIES_LENGTH];
-    plain_runs::run(table, n, &variables, &temporaries, mem, counts, fuel)
+    let mut progress = [fuel, 0];
+    let number = plain_runs::run(
+        table,
+        n,
+        &variables,
+        &temporaries,
+        mem,
+        counts,
+        &mut progress,
+    );
+    run_endings::conclude(number, progress[1], progress[0])
 }
 
 // Runs an accepted table from a memory that holds the inputs.
 fn run_table(table: &[u8], mem: &mut ExecutionMemory, counts: &mut Counts, fuel: u32) -> Ended
     requires { ⌜ (check source (now table) ≡ Checked.Accepted)
         × Counted (memoryOf (now mem)) (now counts) ⌝ }
-    ensures outcome { λ r. ⌜ Ran (run (sourceProgram (now (table .entry))) startVariables (memoryOf (now (mem .entry))) fuel) r
-        (now (mem .entry)) (now (mem .exit)) ⌝ }
+    ensures outcome { λ r. ⌜ EndsSo (ending (run (sourceProgram (now (table .entry))) startVariables
+        (memoryOf (now (mem .entry))) fuel)) r (now (mem .entry)) (now (mem .exit)) ⌝ }
     ensures counts { λ _. ⌜ Counted (memoryOf (now (mem .exit))) (now (counts .exit)) ⌝ }
 {
     let mut whole = [0u8; TABLE_LENGTH];

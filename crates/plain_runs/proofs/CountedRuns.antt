@@ -14,7 +14,6 @@ use Rattle.rules.proofs.runs.PlainArms.{run-assign, run-assert}
 use Rattle.memory_counts.specs.Counted.{Counted}
 use Rattle.memory_counts.proofs.CountLaws.{counted-is}
 use Rattle.memory_cells.specs.Changes.{changeMemory}
-use Rattle.run_endings.specs.declared.Ended.{Ended}
 use Rattle.run_changes.proofs.ChangeLaws.{becomes-is}
 use Rattle.run_changes.proofs.CountedChanges.{counted-assigned}
 use Rattle.plain_runs.specs.Running.{Ready, Ran}
@@ -34,17 +33,17 @@ module _ {t : List ℕ} {n : ℕ} (ρ : Variables) (l : List ℕ) (f : ℕ) (h :
       → ending (run (statementAt t n) ρ (memoryOf l) f) .state ≡ changeMemory x
   changes x e = ap (λ (o : Outcome Memory). ending o .state) e ∙ after-state n ρ f x
 
-  pub assign-counted : {l₁ c : List ℕ} {r : Ended} → kindOf t n ≡ 41 → Counted (memoryOf l) c
-      → Ran (run (statementAt t n) ρ (memoryOf l) f) r l l₁ → Counted (memoryOf l₁) c
-  assign-counted q k w =
-      let p = findSource (placeAt t (childA t n)) ρ (memoryOf l) in
+  pub assign-counted : (r : ℕ) (p : List ℕ) {l₁ c : List ℕ} → kindOf t n ≡ 41 → Counted (memoryOf l) c
+      → Ran (run (statementAt t n) ρ (memoryOf l) f) r p l l₁ → Counted (memoryOf l₁) c
+  assign-counted r p q k w =
+      let place = findSource (placeAt t (childA t n)) ρ (memoryOf l) in
       let e = evaluateSource (expressionAt t (childB t n)) ρ (memoryOf l) in
-      counted-assigned k p e
-      (becomes-is (changes (assigned (memoryOf l) p e) (run-assign t n (h .is) ρ (memoryOf l) f q)) (w .memory))
+      counted-assigned k place e
+      (becomes-is (changes (assigned (memoryOf l) place e) (run-assign t n (h .is) ρ (memoryOf l) f q)) (w .memory))
 
-  pub assert-counted : {l₁ c : List ℕ} {r : Ended} → kindOf t n ≡ 48 → Counted (memoryOf l) c
-      → Ran (run (statementAt t n) ρ (memoryOf l) f) r l l₁ → Counted (memoryOf l₁) c
-  assert-counted q k w =
+  pub assert-counted : (r : ℕ) (p : List ℕ) {l₁ c : List ℕ} → kindOf t n ≡ 48 → Counted (memoryOf l) c
+      → Ran (run (statementAt t n) ρ (memoryOf l) f) r p l l₁ → Counted (memoryOf l₁) c
+  assert-counted r p q k w =
       let x = condition (evaluatePredicate (predicateAt t (childA t n)) ρ (memoryOf l)) in
       counted-is
       (w .memory .view ∙ changes (asserted (memoryOf l) x) (run-assert t n (h .is) ρ (memoryOf l) f q)

@@ -1,9 +1,9 @@
 -- From what the parts of a statement with parts do to what it does.
 use Prim.Native.Nat.{ℕ, suc, _-_, _<_, _≤_}
 use native.Mathlib.Omega.{arith}
-use mathlib.Core.List.{List}
+use mathlib.Core.List.{List, []}
 use mathlib.Core.Logic.{_≢_}
-use mathlib.Core.Path.{_≡_, refl, sym, ap, _∙_}
+use mathlib.Core.Path.{_≡_, refl, sym, ap, _∙_, subst}
 use Rattle.rules.specs.Records.{kindOf, markOf, childA, childB, childC}
 use Rattle.rules.specs.Memory.{Memory, fixed, Made, made, makeBlock, endBlock}
 use Rattle.rules.specs.Trees.{Statement}
@@ -17,16 +17,20 @@ use Rattle.rules.proofs.runs.Fuel.{run-fuel}
 use Rattle.rules.proofs.runs.Outcomes.{into-ending, next-ending, decide-ending}
 use Rattle.rules.proofs.runs.PlainArms.{run-sequence, run-branch, run-while-zero}
 use Rattle.rules.proofs.runs.PlainArms.{run-while-suc, run-let}
+use Rattle.rules.proofs.memory.Invariant.{Invariant}
+use Rattle.rules.proofs.memory.PlainKept.{plain-onward}
 use Rattle.memory_cells.specs.Changes.{Becomes}
+use Rattle.memory_freeing.specs.LetBlocks.{LetBlock}
+use Rattle.memory_freeing.proofs.LetBlockLaws.{let-kept}
 use Rattle.memory_blocks.specs.Blocks.{makingOf, madeMemory}
 use Rattle.memory_blocks.specs.declared.Making.the-variants as making
 use Rattle.run_endings.specs.declared.Ended.{Ended}
-use Rattle.run_endings.specs.Ending.{result}
+use Rattle.run_endings.specs.Ending.{fuelIn, afterStatement, endedWith}
 use Rattle.run_children.specs.Children.{firstOf, restOf}
 use Rattle.run_children.proofs.Sequences.{first-is, rest-is}
 use Rattle.plain_runs.specs.Running.{Ready, enclosed, EndsSo, Ran}
 use Rattle.run_changes.proofs.ChangeLaws.{becomes-same, becomes-is, becomes-then, made-by, unmade-by}
-use Rattle.plain_runs.proofs.Laws.{ran-is, run-finished, next-goes, next-stays}
+use Rattle.plain_runs.proofs.Laws.{ran-is, ran-stops, run-finished, next-goes, next-stays}
 
 -- what came before counts for the bytes alone
 pub ran-from : {e : Ending Memory} {r : Ended} {m : Memory} {a b c : List ℕ} → Becomes a b m → EndsSo e r b c
@@ -34,12 +38,8 @@ pub ran-from : {e : Ending Memory} {r : Ended} {m : Memory} {a b c : List ℕ} �
 ran-from p h = record { answer = h .answer; memory = becomes-then p (h .memory) }
 
 -- nothing changed
-pub ran-finished : (l : List ℕ) (f : ℕ) → Ran (finished (memoryOf l) f) (result 0 0 f) l l
-ran-finished l f = record { answer = refl; memory = becomes-same refl }
-
-pub ran-ended : (l : List ℕ) (c s f : ℕ)
-    → EndsSo (record { number = c; statement = s; state = memoryOf l; fuel = f }) (result c s f) l l
-ran-ended l c s f = record { answer = refl; memory = becomes-same refl }
+pub ran-finished : (l p : List ℕ) → Ran (finished (memoryOf l) (fuelIn p)) 0 p l l
+ran-finished l p = record { answer = refl; memory = becomes-same refl }
 
 module _ {t : List ℕ} {n : ℕ} (ρ : Variables) (h : Ready t n) where
   abbrev conditionIn : Memory → Test
@@ -57,6 +57,13 @@ module _ {t : List ℕ} {n : ℕ} (ρ : Variables) (h : Ready t n) where
       (into-ending 2 (run (statementAt t (childC t n)) ρ m f))
       ∙ ap (λ (y : Test). ending (deciding m y f)) e
 
+  pub branch-stops : kindOf t n ≡ 45 → (m : Memory) (f k : ℕ) → conditionIn m ≡ Test.Stopped k
+      → run (statementAt t n) ρ m f ≡ ended k n ρ [] m f
+  branch-stops q m f k e =
+      run-branch t n (h .is) ρ m f q
+      ∙ ap (λ (y : Test). decide n ρ y m f (into 1 (run (statementAt t (childB t n)) ρ m f))
+      (into 2 (run (statementAt t (childC t n)) ρ m f))) e
+
   -- a turn of a while, in memory m₁
   abbrev turning : Memory → Test → ℕ → Outcome Memory
   turning m₁ x f =
@@ -73,11 +80,20 @@ module _ {t : List ℕ} {n : ℕ} (ρ : Variables) (h : Ready t n) where
       (next-ending 1 (run (statementAt t (childB t n)) ρ m₁ (f - 1)) _ _ (λ m₂ f₁. refl)) refl
       ∙ ap (λ (y : Test). ending (turning m₁ y (f - 1))) e
 
-  pub turn-out : kindOf t n ≡ 46 → (m₁ : Memory) (f : ℕ) → f ≤ 0
-      → ending (run (statementAt t n) ρ m₁ f) ≡ record { number = 32; statement = n; state = m₁; fuel = 0 }
+  pub turn-stops : kindOf t n ≡ 46 → (m₁ : Memory) (f : ℕ) → 0 < f → (k : ℕ) → conditionIn m₁ ≡ Test.Stopped k
+      → run (statementAt t n) ρ m₁ f ≡ ended k n ρ [] m₁ (f - 1)
+  turn-stops q m₁ f z k e =
+      let d : f ≡ suc (f - 1) = omega arith in
+      ap (λ (g : ℕ). run (statementAt t n) ρ m₁ g) d
+      ∙ run-while-suc t n (h .is) q ρ m₁ (f - 1)
+      ∙ ap (λ (y : Test). decide n ρ y m₁ (f - 1) (next (into 1 (run (statementAt t (childB t n)) ρ m₁ (f - 1)))
+      (λ m₂ f₁. run (statementAt t n) ρ m₂ f₁)) (finished m₁ (f - 1))) e
+
+  pub turn-out : kindOf t n ≡ 46 → (m₁ : Memory) (f : ℕ) → f ≤ 0 → run (statementAt t n) ρ m₁ f ≡ ended 32 n ρ [] m₁ f
   turn-out q m₁ f z =
       let d : f ≡ 0 = omega arith in
-      ap (λ (g : ℕ). ending (run (statementAt t n) ρ m₁ g)) d ∙ ap ending (run-while-zero t n (h .is) q ρ m₁)
+      ap (λ (g : ℕ). run (statementAt t n) ρ m₁ g) d ∙ run-while-zero t n (h .is) q ρ m₁
+      ∙ ap (λ (g : ℕ). ended 32 n ρ [] m₁ g) (sym d)
 
   -- a sequence
   sequence-by : kindOf t n ≡ 44 → (m₁ : Memory) (f : ℕ)
@@ -117,11 +133,15 @@ module _ {t : List ℕ} {n : ℕ} (ρ : Variables) {l l₁ : List ℕ} (h : Read
       ∙ next-ending 0 (inside k (madeMemory (memoryOf l) block) f) _ _ (λ m₁ f₁. refl)
       ∙ ap (λ (m : Memory). ending (enclosed t n ρ m f k)) (sym (w .view))
 
-  pub let-unmade : (f c : ℕ) → making.Stopped c ≡ makingOf block
-      → Ran (run (statementAt t n) ρ (memoryOf l) f) (result c n f) l l₁
-  let-unmade f c e =
+  pub let-unmade : (p : List ℕ) {p₁ : List ℕ} (c : ℕ) → making.Stopped c ≡ makingOf block → p₁ ≡ afterStatement p c n
+      → Ran (run (statementAt t n) ρ (memoryOf l) (fuelIn p)) c p₁ l l₁
+  let-unmade p c e z =
       let u = unmade-by block c e in
-      ran-is (enclosing f _ u) (record { answer = refl; memory = becomes-is (ap (madeMemory (memoryOf l)) u) w })
+      ran-stops (statementAt t n) ρ (fuelIn p) c n (memoryOf l) p
+      (run-let t n (h .is) ρ (memoryOf l) (fuelIn p) q
+      ∙ ap (λ (y : Made Memory). inLet n ρ (memoryOf l) (fuelIn p) y endBlock
+      (λ k m₁ f₁. into 0 (inside k m₁ f₁))) u)
+      z (becomes-is (ap (madeMemory (memoryOf l)) u) w)
 
 -- what ran so far of statement n: statement m is left to run
 pub record Remaining (t : List ℕ) (n : ℕ) (ρ : Variables) (entry : List ℕ) (fuel m : ℕ) (l : List ℕ) (left : ℕ)
@@ -131,33 +151,33 @@ pub record Remaining (t : List ℕ) (n : ℕ) (ρ : Variables) (entry : List ℕ
 
 -- statement x, which runs first in m, ran; statement k is to follow
 pub record Part (t : List ℕ) (n : ℕ) (ρ : Variables) (entry : List ℕ) (fuel m : ℕ) (l : List ℕ) (left x k f : ℕ)
-    (r : Ended) (l₁ : List ℕ) : Type 0 where
+    (r : ℕ) (p l₁ : List ℕ) : Type 0 where
   pub earlier : Remaining t n ρ entry fuel m l left
-  pub ran : Ran (run (statementAt t x) ρ (memoryOf l) f) r l l₁
+  pub ran : Ran (run (statementAt t x) ρ (memoryOf l) f) r p l l₁
   pub leads : ending (run (statementAt t m) ρ (memoryOf l) left)
       ≡ ending (next (run (statementAt t x) ρ (memoryOf l) f) (λ m₂ f₂. run (statementAt t k) ρ m₂ f₂))
 
-module _ {t : List ℕ} {n : ℕ} {ρ : Variables} {entry : List ℕ} {fuel m : ℕ} {l : List ℕ} {left x k f : ℕ} {r : Ended}
-    {l₁ : List ℕ} (p : Part t n ρ entry fuel m l left x k f r l₁) where
+module _ {t : List ℕ} {n : ℕ} {ρ : Variables} {entry : List ℕ} {fuel m : ℕ} {l : List ℕ} {left x k f r : ℕ}
+    {p l₁ : List ℕ} (part : Part t n ρ entry fuel m l left x k f r p l₁) where
   abbrev following : Memory → ℕ → Outcome Memory
   following m₂ f₂ = run (statementAt t k) ρ m₂ f₂
 
-  finish : r .number ≡ 0 → run (statementAt t x) ρ (memoryOf l) f ≡ finished (memoryOf l₁) (r .fuel)
-  finish d = run-finished (statementAt t x) ρ f following r l l₁ (p .ran) d
+  finish : r ≡ 0 → run (statementAt t x) ρ (memoryOf l) f ≡ finished (memoryOf l₁) (fuelIn p)
+  finish d = run-finished (statementAt t x) ρ f following r p l l₁ (part .ran) d
 
-  pub part-ends : r .number ≢ 0 → Ran (run (statementAt t n) ρ (memoryOf entry) fuel) r entry l₁
+  pub part-ends : r ≢ 0 → Ran (run (statementAt t n) ρ (memoryOf entry) fuel) r p entry l₁
   part-ends d =
-      ran-is (p .earlier .rest ∙ p .leads)
-      (ran-from (p .earlier .bytes) (next-stays (statementAt t x) ρ f following r l l₁ (p .ran) d))
+      ran-is (part .earlier .rest ∙ part .leads)
+      (ran-from (part .earlier .bytes) (next-stays (statementAt t x) ρ f following r p l l₁ (part .ran) d))
 
-  pub part-finishes : r .number ≡ 0 → Remaining t n ρ entry fuel k l₁ (r .fuel)
+  pub part-finishes : r ≡ 0 → Remaining t n ρ entry fuel k l₁ (fuelIn p)
   part-finishes d =
       record {
-        rest = p .earlier .rest ∙ p .leads ∙ ap (λ (o : Outcome Memory). ending (next o following)) (finish d);
-        bytes = becomes-is (sym (p .ran .memory .view)) (becomes-then (p .earlier .bytes) (p .ran .memory));
+        rest = part .earlier .rest ∙ part .leads ∙ ap (λ (o : Outcome Memory). ending (next o following)) (finish d);
+        bytes = becomes-is (sym (part .ran .memory .view)) (becomes-then (part .earlier .bytes) (part .ran .memory));
       }
 
-  pub part-spends : r .number ≡ 0 → f < left → r .fuel < left
+  pub part-spends : r ≡ 0 → f < left → fuelIn p < left
   part-spends d z =
       omega (
         arith,
@@ -167,25 +187,25 @@ module _ {t : List ℕ} {n : ℕ} {ρ : Variables} {entry : List ℕ} {fuel m : 
       )
 
 -- a let's child ran: where it finished, the block ends
-module _ (t : List ℕ) (n : ℕ) (ρ : Variables) (k : ℕ) {r : Ended} {a b : List ℕ} (f : ℕ)
-    (w : Ran (run (statementAt t (childA t n)) (extend ρ (markOf t n) k) (memoryOf a) f) r a b) where
+module _ (t : List ℕ) (n : ℕ) (ρ : Variables) (k r : ℕ) (p : List ℕ) {a b : List ℕ} (f : ℕ)
+    (w : Ran (run (statementAt t (childA t n)) (extend ρ (markOf t n) k) (memoryOf a) f) r p a b) where
   abbrev closing : Memory → ℕ → Outcome Memory
   closing m₁ f₁ = finished (endBlock m₁ k) f₁
 
   abbrev child : Statement
   child = statementAt t (childA t n)
 
-  pub inside-ends : r .number ≡ 0 → {c : List ℕ} → Becomes b c (endBlock (memoryOf b) k)
-      → Ran (enclosed t n ρ (memoryOf a) f k) r a c
-  inside-ends e {c} v =
-      next-goes child (extend ρ (markOf t n) k) f closing r a b w r c e
-      (record {
-        answer =
-            w .answer
-            ∙ ap (λ (o : Outcome Memory). result (ending o .number) (ending o .statement) (ending o .fuel))
-            (run-finished child (extend ρ (markOf t n) k) f closing r a b w e);
-        memory = v;
-      })
+  -- its block is still a let's
+  pub inside-block : Invariant (memoryOf a) → LetBlock (memoryOf a) k → LetBlock (memoryOf b) k
+  inside-block v h =
+      subst (λ (m : Memory). LetBlock m k) (sym (w .memory .view))
+      (let-kept k h (plain-onward child (extend ρ (markOf t n) k) (memoryOf a) f v))
 
-  pub inside-stays : r .number ≢ 0 → Ran (enclosed t n ρ (memoryOf a) f k) r a b
-  inside-stays e = next-stays child (extend ρ (markOf t n) k) f closing r a b w e
+  pub inside-ends : r ≡ 0 → {c : List ℕ} → Becomes b c (endBlock (memoryOf b) k)
+      → Ran (enclosed t n ρ (memoryOf a) f k) r p a c
+  inside-ends e {c} v =
+      next-goes child (extend ρ (markOf t n) k) f closing r p a b w (endedWith r p) c e
+      (record { answer = ap (λ (q : ℕ). endedWith q p) e; memory = v })
+
+  pub inside-stays : r ≢ 0 → Ran (enclosed t n ρ (memoryOf a) f k) r p a b
+  inside-stays e = next-stays child (extend ρ (markOf t n) k) f closing r p a b w e

@@ -13,7 +13,7 @@ use Rattle.rules.specs.Nodes.{HasSort, statementAt}
 use Rattle.table.specs.Within.{Within}
 use Rattle.memory_cells.specs.Changes.{Becomes}
 use Rattle.run_endings.specs.declared.Ended.{Ended}
-use Rattle.run_endings.specs.Ending.{result}
+use Rattle.run_endings.specs.Ending.{result, endedWith}
 
 -- statement n may run: it is a sound statement, its variables being in a scope
 pub record Ready (t : List ℕ) (n : ℕ) : Type 0 where
@@ -38,6 +38,6 @@ pub record EndsSo (e : Ending Memory) (r : Ended) (entry exit : List ℕ) : Type
   pub answer : r ≡ result (e .number) (e .statement) (e .fuel)
   pub memory : Becomes entry exit (e .state)
 
--- and so of an outcome
-abbrev pub Ran : Outcome Memory → Ended → List ℕ → List ℕ → Type 0
-Ran o r entry exit = EndsSo (ending o) r entry exit
+-- and so of an outcome, by the number that the run answers and the progress that it leaves
+abbrev pub Ran : Outcome Memory → ℕ → List ℕ → List ℕ → List ℕ → Type 0
+Ran o k p entry exit = EndsSo (ending o) (endedWith k p) entry exit

@@ -1,8 +1,10 @@
 // The ending of a statement and a refusal, in numbers.
 ghost use mathlib.Core.Path.{_≡_};
+ghost use Prim.Native.Nat.{_<_};
 ghost use Rattle.rules.specs.Answers.{answer};
-ghost use Rattle.run_endings.specs.Ending.{concluded, assertNumber};
+ghost use Rattle.run_endings.specs.Ending.{concluded, assertNumber, fuelIn, afterTurn, afterStatement};
 use rules::Answer;
+use rules::Progress;
 use rules::Test;
 
 // How a statement comes out: the number of the ending and its statement, both 0 where it finished, and the fuel left.
@@ -10,6 +12,25 @@ pub struct Ended {
     pub number: u32,
     pub statement: u32,
     pub fuel: u32,
+}
+
+// A turn of a while takes a unit of fuel.
+pub fn take_fuel(progress: &mut Progress)
+    requires { ⌜ 0 < fuelIn (now progress) ⌝ }
+    ensures { λ _. ⌜ now (progress .exit) ≡ afterTurn (now (progress .entry)) ⌝ }
+{
+    *progress = [progress[0] - 1, progress[1]];
+}
+
+// Statement n ends with a number, 0 where it finished: any other stops the run there.
+pub fn stop_at(progress: &mut Progress, number: u32, n: u32) -> u32
+    ensures number { λ r. ⌜ r ≡ number ⌝ }
+    ensures progress { λ _. ⌜ now (progress .exit) ≡ afterStatement (now (progress .entry)) number n ⌝ }
+{
+    if number != 0 {
+        *progress = [progress[0], n];
+    }
+    number
 }
 
 // The answer of statement n, of the number that it ended with, 0 where it finished.

@@ -3,7 +3,7 @@ use Prim.Native.Nat.{ℕ, suc, _-_, _<_, _≤_}
 use native.Mathlib.Omega.{arith}
 use mathlib.Core.List.{List}
 use mathlib.Core.Logic.{_≢_, inl, inr}
-use mathlib.Core.Path.{_≡_, refl, sym, ap, _∙_}
+use mathlib.Core.Path.{_≡_, refl, sym, ap, _∙_, subst}
 use Rattle.rules.specs.Records.{kindOf, markOf, childA, childB, childC}
 use Rattle.rules.specs.Memory.{Memory, fixed, Made, made, unmade, madeIn, makeBlock, endBlock}
 use Rattle.rules.specs.Flow.{Outcome, finished, ended, Ending, ending, into, next, decide, inLet}
@@ -19,7 +19,11 @@ use Rattle.rules.proofs.runs.TargetRuns.{closing}
 use Rattle.rules.proofs.runs.TargetArms.{watch-sequence, watch-branch, watch-branch-on, watch-while-zero}
 use Rattle.rules.proofs.runs.TargetArms.{watch-while-suc}
 use Rattle.rules.proofs.runs.TargetArms.{watch-let}
+use Rattle.rules.proofs.memory.Invariant.{Invariant}
+use Rattle.rules.proofs.memory.WatchedKept.{watched-onward}
 use Rattle.memory_cells.specs.Changes.{Becomes}
+use Rattle.memory_freeing.specs.LetBlocks.{LetBlock}
+use Rattle.memory_freeing.proofs.LetBlockLaws.{let-kept}
 use Rattle.memory_blocks.specs.Blocks.{makingOf, madeMemory}
 use Rattle.memory_blocks.specs.declared.Making.the-variants as making
 use Rattle.evaluation_temporaries.specs.Bytes.{temporariesOf}
@@ -207,6 +211,13 @@ module _ (t : List ℕ) (n : ℕ) (ρ : Variables) (k : ℕ) {r : Ended} {x y : 
 
   abbrev child : TargetStatement
   child = targetStatementAt t (childA t n)
+
+  -- its block is still a let's
+  pub inside-block : Invariant (memoryOf (x .memory)) → LetBlock (memoryOf (x .memory)) k
+      → LetBlock (memoryOf (y .memory)) k
+  inside-block v h =
+      subst (λ (m : Memory). LetBlock m k) (sym (w .memory .view))
+      (let-kept k h (watched-onward child (extend ρ (markOf t n) k) (stateOf x) f v))
 
   pub inside-ends : r .number ≡ 0 → {l : List ℕ} → Becomes (y .memory) l (endBlock (memoryOf (y .memory)) k)
       → Ran (enclosed t n ρ x f k) r x (lent l (y .observation) (y .temporaries))

@@ -2,6 +2,8 @@
 ghost use mathlib.Core.Logic.{_≢_};
 ghost use mathlib.Core.Path.{_≡_};
 ghost use Rattle.rules.specs.Records.{kindOf};
+ghost use Rattle.rules.specs.Layout.{memoryOf};
+ghost use Rattle.memory_freeing.specs.LetBlocks.{LetBlock};
 ghost use Rattle.evaluation.specs.State.{variablesOf};
 ghost use Rattle.watched_choices.specs.Branches.{IsBranch};
 ghost use Rattle.watched_statements.specs.Watching.{lent, Beside, Ready, Inside, enclosed, Ran, Runs};
@@ -322,7 +324,8 @@ fn run_inside(
     k: u16,
 ) -> Ended
     requires { ⌜ Inside (now table) n
-        × Beside (now mem) (now obs) (now counts) (now owners) ⌝ }
+        × Beside (now mem) (now obs) (now counts) (now owners)
+        × LetBlock (memoryOf (now mem)) k ⌝ }
     ensures outcome { λ r. ⌜ Ran (enclosed (now (table .entry)) n (variablesOf variables)
         (lent (now (mem .entry)) (now (obs .entry)) (now (temporaries .entry))) fuel k) r
         (lent (now (mem .entry)) (now (obs .entry)) (now (temporaries .entry)))

@@ -10,6 +10,7 @@ use Rattle.rules.specs.Kinds.{source}
 use Rattle.rules.specs.Nodes.{statementAt}
 use Rattle.rules.proofs.runs.StatementArms.{new-children}
 use Rattle.rules.proofs.runs.PlainArms.{run-new}
+use Rattle.run_endings.specs.Ending.{fuelIn}
 use Rattle.plain_runs.proofs.Laws.{ran-does}
 use Rattle.plain_runs.proofs.ReadyLaws.{ready-within, ready-number}
 use Rattle.plain_runs.proofs.allocate.Statement.{statement}
@@ -36,17 +37,17 @@ evaluate-b-requires c κs =
 new-at-requires : tie.Need-new-at-requires
 new-at-requires c κs = c .before .before .before .before .before .before .pre .2
 
-cast-conclude : tie.Need-cast-conclude
-cast-conclude c =
-    let s = c .before .before .before .before .before .before .before in
+cast-stop-at : tie.Need-cast-stop-at
+cast-stop-at c =
+    let s = c .before .before .before .before .before .before .before .before in
     ready-number (s .pre .0)
 
-conclude-requires : tie.Need-conclude-requires
-conclude-requires c κs = tt
+stop-at-requires : tie.Need-stop-at-requires
+stop-at-requires c κs = tt
 
 returns : tie.Need-returns
 returns c =
-    let after-evaluate-b = c .before .before .before .before in
+    let after-evaluate-b = c .before .before .before .before .before in
     let after-find-a = after-evaluate-b .before .before in
     let s = after-find-a .before .before in
     let T = s .args .table .now in
@@ -54,19 +55,22 @@ returns c =
     let ρ = variablesOf (s .args .variables .now) in
     let τ = temporariesOf (s .args .temporaries .now) in
     let l = s .args .mem .now in
-    let q = new-children source T n (s .pre .0 .is) (s .pre .1) in (
-      ran-does (statementAt T n) ρ (s .args .fuel) n
+    let p = s .args .progress .now in
+    let f = fuelIn p in
+    let q = new-children source T n (s .pre .0 .is) (s .pre .1) in
+    rw (c .stop-at .ensures .0) (
+      ran-does (statementAt T n) ρ n
           (allocated (memoryOf l) (after-find-a .find-a .result) (after-evaluate-b .evaluate-b .result))
-          (c .before .new-at .result) (c .conclude .result) l (c .before .new-at .last .0)
-          (run-new T n (s .pre .0 .is) ρ (memoryOf l) (s .args .fuel) (s .pre .1)
-          ∙ sym (ap (after n ρ (s .args .fuel))
+          (c .before .before .new-at .result) p (c .stop-at .last .0) l (c .before .before .new-at .last .0)
+          (run-new T n (s .pre .0 .is) ρ (memoryOf l) f (s .pre .1)
+          ∙ sym (ap (after n ρ f)
           (ap₂ (allocated (memoryOf l))
           (after-find-a .find-a .ensures ∙ found-alike T (childA T n) τ ρ (memoryOf l) (q .0 .2))
           (after-evaluate-b .evaluate-b .ensures ∙ evaluated-alike T (childB T n) τ ρ (memoryOf l) (q .1 .2)))))
-          (c .before .new-at .ensures .0) (c .conclude .ensures),
-      c .before .new-at .ensures .1,
+          (c .before .before .new-at .ensures .0) (c .stop-at .ensures .1),
+      c .before .before .new-at .ensures .1,
     )
 
 pub allocate-spec : {M : Type 1} → statement M
 allocate-spec =
-    tie.close (tie.spec find-a-requires evaluate-b-requires new-at-requires cast-conclude conclude-requires returns)
+    tie.close (tie.spec find-a-requires evaluate-b-requires new-at-requires cast-stop-at stop-at-requires returns)

@@ -6,6 +6,7 @@ use Rattle.rules.specs.Layout.{memoryOf}
 use Rattle.rules.specs.Nodes.{statementAt}
 use Rattle.evaluation.specs.State.{variablesOf}
 use Rattle.rules.proofs.runs.PlainArms.{assert-child, run-assert}
+use Rattle.run_endings.specs.Ending.{fuelIn}
 use Rattle.plain_runs.proofs.Laws.{ran-asserts}
 use Rattle.plain_runs.proofs.ReadyLaws.{ready-within, ready-number}
 use Rattle.plain_runs.proofs.assert.Statement.{statement}
@@ -20,28 +21,31 @@ test-predicate-requires c κs =
 assert-number-requires : tie.Need-assert-number-requires
 assert-number-requires c κs = tt
 
-cast-conclude : tie.Need-cast-conclude
-cast-conclude c =
-    let s = c .before .before .before in
+cast-stop-at : tie.Need-cast-stop-at
+cast-stop-at c =
+    let s = c .before .before .before .before in
     ready-number (s .pre .0)
 
-conclude-requires : tie.Need-conclude-requires
-conclude-requires c κs = tt
+stop-at-requires : tie.Need-stop-at-requires
+stop-at-requires c κs = tt
 
 returns : tie.Need-returns
 returns c =
-    let s = c .before .before .before .before in
+    let s = c .before .before .before .before .before in
     let T = s .args .table .now in
     let n = s .args .n in
     let ρ = variablesOf (s .args .variables .now) in
     let l = s .args .mem .now in
-    ran-asserts (statementAt T n) ρ (s .args .fuel) n (c .before .before .test-predicate .result)
-    (c .before .assert-number .result) (c .conclude .result) l
-    (run-assert T n (s .pre .0 .is) ρ (memoryOf l) (s .args .fuel) (s .pre .1)
-    ∙ sym (ap (λ (x : Test). after n ρ (s .args .fuel) (asserted (memoryOf l) x))
-    (c .before .before .test-predicate .ensures)))
-    (c .before .assert-number .ensures) (c .conclude .ensures)
+    let p = s .args .progress .now in
+    let f = fuelIn p in
+    rw (c .stop-at .ensures .0)
+    (ran-asserts (statementAt T n) ρ n (c .before .before .before .test-predicate .result)
+    (c .before .before .assert-number .result) p (c .stop-at .last .0) l
+    (run-assert T n (s .pre .0 .is) ρ (memoryOf l) f (s .pre .1)
+    ∙ sym (ap (λ (x : Test). after n ρ f (asserted (memoryOf l) x))
+    (c .before .before .before .test-predicate .ensures)))
+    (c .before .before .assert-number .ensures) (c .stop-at .ensures .1))
 
 pub assert-spec : {M : Type 1} → statement M
 assert-spec =
-    tie.close (tie.spec test-predicate-requires assert-number-requires cast-conclude conclude-requires returns)
+    tie.close (tie.spec test-predicate-requires assert-number-requires cast-stop-at stop-at-requires returns)

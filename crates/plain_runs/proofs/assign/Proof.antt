@@ -10,6 +10,7 @@ use Rattle.rules.specs.Kinds.{source}
 use Rattle.rules.specs.Nodes.{statementAt}
 use Rattle.rules.proofs.runs.StatementArms.{assign-children}
 use Rattle.rules.proofs.runs.PlainArms.{run-assign}
+use Rattle.run_endings.specs.Ending.{fuelIn}
 use Rattle.plain_runs.proofs.Laws.{ran-does}
 use Rattle.plain_runs.proofs.ReadyLaws.{ready-within, ready-number}
 use Rattle.plain_runs.proofs.assign.Statement.{statement}
@@ -36,35 +37,38 @@ evaluate-b-requires c κs =
 store-at-requires : tie.Need-store-at-requires
 store-at-requires c κs = tt
 
-cast-conclude : tie.Need-cast-conclude
-cast-conclude c =
-    let s = c .before .before .before .before .before .before in
+cast-stop-at : tie.Need-cast-stop-at
+cast-stop-at c =
+    let s = c .before .before .before .before .before .before .before in
     ready-number (s .pre .0)
 
-conclude-requires : tie.Need-conclude-requires
-conclude-requires c κs = tt
+stop-at-requires : tie.Need-stop-at-requires
+stop-at-requires c κs = tt
 
 returns : tie.Need-returns
 returns c =
-    let s = c .before .before .before .before .before .before .before in
+    let s = c .before .before .before .before .before .before .before .before in
     let T = s .args .table .now in
     let n = s .args .n in
     let ρ = variablesOf (s .args .variables .now) in
     let τ = temporariesOf (s .args .temporaries .now) in
     let l = s .args .mem .now in
+    let p = s .args .progress .now in
+    let f = fuelIn p in
     let q = assign-children source T n (s .pre .0 .is) (s .pre .1) in
-    ran-does (statementAt T n) ρ (s .args .fuel) n
-    (assigned (memoryOf l) (c .before .before .before .before .before .find-a .result)
-    (c .before .before .before .evaluate-b .result))
-    (c .before .store-at .result) (c .conclude .result) l (c .before .store-at .last .0)
-    (run-assign T n (s .pre .0 .is) ρ (memoryOf l) (s .args .fuel) (s .pre .1)
-    ∙ sym (ap (after n ρ (s .args .fuel))
+    rw (c .stop-at .ensures .0)
+    (ran-does (statementAt T n) ρ n
+    (assigned (memoryOf l) (c .before .before .before .before .before .before .find-a .result)
+    (c .before .before .before .before .evaluate-b .result))
+    (c .before .before .store-at .result) p (c .stop-at .last .0) l (c .before .before .store-at .last .0)
+    (run-assign T n (s .pre .0 .is) ρ (memoryOf l) f (s .pre .1)
+    ∙ sym (ap (after n ρ f)
     (ap₂ (assigned (memoryOf l))
-    (c .before .before .before .before .before .find-a .ensures ∙ found-alike T (childA T n) τ ρ (memoryOf l)
-    (q .0 .2)) (c .before .before .before .evaluate-b .ensures ∙ evaluated-alike T (childB T n) τ ρ (memoryOf l)
+    (c .before .before .before .before .before .before .find-a .ensures ∙ found-alike T (childA T n) τ ρ (memoryOf l)
+    (q .0 .2)) (c .before .before .before .before .evaluate-b .ensures ∙ evaluated-alike T (childB T n) τ ρ (memoryOf l)
     (q .1 .2)))))
-    (c .before .store-at .ensures) (c .conclude .ensures)
+    (c .before .before .store-at .ensures) (c .stop-at .ensures .1))
 
 pub assign-spec : {M : Type 1} → statement M
 assign-spec =
-    tie.close (tie.spec find-a-requires evaluate-b-requires store-at-requires cast-conclude conclude-requires returns)
+    tie.close (tie.spec find-a-requires evaluate-b-requires store-at-requires cast-stop-at stop-at-requires returns)

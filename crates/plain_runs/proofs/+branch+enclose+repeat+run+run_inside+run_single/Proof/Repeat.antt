@@ -9,9 +9,11 @@ use Rattle.rules.specs.declared.{Test.Test}
 use Rattle.memory_counts.specs.Counted.{Counted}
 use Rattle.evaluation.specs.State.{variablesOf}
 use Rattle.run_changes.proofs.ChangeLaws.{becomes-same}
-use Rattle.plain_runs.proofs.Laws.{ran-is}
+use Rattle.rules.specs.Nodes.{statementAt}
+use Rattle.run_endings.specs.Ending.{fuelIn, afterTurn}
+use Rattle.plain_runs.proofs.Laws.{ran-is, ran-stops}
 use Rattle.plain_runs.proofs.ReadyLaws.{ready-within, ready-number, while-parts, ready-turn}
-use Rattle.plain_runs.proofs.MemberLaws.{ran-from, ran-finished, ran-ended, turn-by, turn-out, Remaining}
+use Rattle.plain_runs.proofs.MemberLaws.{ran-from, ran-finished, turn-by, turn-stops, turn-out, Remaining}
 use Rattle.plain_runs.proofs.MemberLaws.{Part, part-ends, part-finishes, part-spends}
 use Rattle.plain_runs.proofs.repeat.Reads as repeat
 use Rattle.plain_runs.proofs.+branch+enclose+repeat+run+run_inside+run_single.Lts-repeat as repeat-lts
@@ -19,11 +21,11 @@ use Rattle.plain_runs.proofs.+branch+enclose+repeat+run+run_inside+run_
 use Rattle.plain_runs.proofs.+branch+enclose+repeat+run+run_inside+run_single.Proof.Cycle.{repeat-claims}
 
 abbrev Inv-loop : repeat-lts.InvT-loop
-Inv-loop table n variables temporaries mem₀ counts₀ fuel b left₀ mem counts left =
-    Remaining table n (variablesOf variables) mem₀ fuel n mem left × Counted (memoryOf mem) counts
+Inv-loop table n variables temporaries mem₀ counts₀ progress₀ b mem counts progress =
+    Remaining table n (variablesOf variables) mem₀ (fuelIn progress₀) n mem (fuelIn progress) × Counted (memoryOf mem) counts
 
 abbrev μ-loop : repeat-lts.MeasureT-loop
-μ-loop table n variables temporaries mem₀ counts₀ fuel b left₀ mem counts left = left
+μ-loop table n variables temporaries mem₀ counts₀ progress₀ b mem counts progress = fuelIn progress
 
 module _ (t : ℕ) where
   child-b-requires : repeat-lts.Need-child-b-requires (repeat-claims t) (repeat-at t) repeat.Post Inv-loop μ-loop
@@ -33,12 +35,15 @@ module _ (t : ℕ) where
   loop-holds c =
       (record { rest = refl; bytes = becomes-same refl }, c .before .before .pre .1 .2)
 
-  sub-left : repeat-lts.Need-sub-left (repeat-claims t) (repeat-at t) repeat.Post Inv-loop μ-loop
-  sub-left c = omega (arith, c .loop-test .taken)
+  element-copy-out-if1 : repeat-lts.Need-element-copy-out-if1 (repeat-claims t) (repeat-at t) repeat.Post Inv-loop μ-loop
+  element-copy-out-if1 c = search needs
+
+  take-fuel-requires : repeat-lts.Need-take-fuel-requires (repeat-claims t) (repeat-at t) repeat.Post Inv-loop μ-loop
+  take-fuel-requires c κs = c .before .if1 .taken
 
   test-a-requires : repeat-lts.Need-test-a-requires (repeat-claims t) (repeat-at t) repeat.Post Inv-loop μ-loop
   test-a-requires c κs =
-      let h = c .before .before .before .before .before .pre .1 in
+      let h = c .before .before .before .before .before .before .before .before .pre .1 in
       (ready-within (h .0), while-parts (h .0) (h .1) .0 .2)
 
   enum-told : repeat-lts.Need-enum-told (repeat-claims t) (repeat-at t) repeat.Post Inv-loop μ-loop
@@ -46,7 +51,7 @@ module _ (t : ℕ) where
 
   run-requires : repeat-lts.Need-run-requires (repeat-claims t) (repeat-at t) repeat.Post Inv-loop μ-loop
   run-requires c κs =
-      let after-loop = c .before .before .before .before .before .before .before in
+      let after-loop = c .before .before .before .before .before .before .before .before .before .before .before in
       let after-child-b = after-loop .before in
       let s = after-child-b .before .before in
       let h = s .pre .1 in
@@ -57,40 +62,42 @@ module _ (t : ℕ) where
 
   -- a turn whose condition is true, where its child ran
   turn : (c : repeat-lts.After-run (repeat-claims t) (repeat-at t) repeat.Post Inv-loop μ-loop)
-      → let after-loop = c .before .before .before .before .before .before .before .before in
+      → let after-take-fuel = c .before .before .before .before .before .before .before .before in
+      let after-loop = after-take-fuel .before .before .before .before in
       let s = after-loop .before .before .before in
       Part (s .args .table .now) (s .args .n) (variablesOf (s .args .variables .now)) (s .args .mem .now)
-      (s .args .fuel) (s .args .n) (after-loop .loop .mem) (after-loop .loop .left)
-      (childB (s .args .table .now) (s .args .n)) (s .args .n) (after-loop .loop .left - 1) (c .run .result)
-      (c .run .last .1 .1 .1 .1 .0)
+      (fuelIn (s .args .progress .now)) (s .args .n) (after-loop .loop .mem) (fuelIn (after-loop .loop .progress))
+      (childB (s .args .table .now) (s .args .n)) (s .args .n) (fuelIn (after-loop .loop .progress) - 1)
+      (c .run .result) (c .run .last .1 .1 .1 .1 .1 .1 .0) (c .run .last .1 .1 .1 .1 .0)
   turn c =
-      let after-enum-told = c .before .before .before in
+      let after-enum-told = c .before .before .before .before in
       let after-test-a = after-enum-told .before .before in
-      let after-loop-test = after-test-a .before .before in
-      let after-loop = after-loop-test .before in
+      let after-take-fuel = after-test-a .before .before in
+      let after-if1 = after-take-fuel .before .before in
+      let after-loop = after-if1 .before .before in
       let after-child-b = after-loop .before in
       let s = after-child-b .before .before in
       let h = s .pre .1 in
       record {
         earlier = after-loop .loop .inv .0;
-        ran = rw (after-child-b .child-b .ensures) at (c .run .ensures .0);
+        ran = rw (after-child-b .child-b .ensures, after-take-fuel .take-fuel .ensures) at (c .run .ensures .0);
         leads =
             turn-by (variablesOf (s .args .variables .now)) (h .0) (h .1) (memoryOf (after-loop .loop .mem))
-            (after-loop .loop .left) (after-loop-test .loop-test .taken) Test.Yes
+            (fuelIn (after-loop .loop .progress)) (after-if1 .if1 .taken) Test.Yes
             (sym (after-test-a .test-a .ensures) ∙ after-enum-told .enum-told .given .1);
       }
 
   returns : repeat-lts.Need-returns (repeat-claims t) (repeat-at t) repeat.Post Inv-loop μ-loop
-  returns c = (part-ends (turn (c .before .before)) (c .if1 .taken), c .before .before .run .ensures .1)
+  returns c = (part-ends (turn (c .before)) (c .if2 .taken), c .before .run .ensures .1)
 
   loop-less : repeat-lts.Need-loop-less (repeat-claims t) (repeat-at t) repeat.Post Inv-loop μ-loop
   loop-less c =
-      let after-loop-test = c .before .before .before .before .before .before .before .before .before in
-      part-spends (turn (c .before .before)) (c .if1 .left) (omega (arith, after-loop-test .loop-test .taken))
+      let after-if1 = c .before .before .before .before .before .before .before .before .before .before .before in
+      part-spends (turn (c .before)) (c .if2 .left) (omega (arith, after-if1 .if1 .taken))
 
   loop-again : repeat-lts.Need-loop-again (repeat-claims t) (repeat-at t) repeat.Post Inv-loop μ-loop
   loop-again c =
-      (part-finishes (turn (c .before .before)) (c .if1 .left), c .before .before .run .ensures .1)
+      (part-finishes (turn (c .before)) (c .if2 .left), c .before .run .ensures .1)
 
   enum-told-2 : repeat-lts.Need-enum-told-2 (repeat-claims t) (repeat-at t) repeat.Post Inv-loop μ-loop
   enum-told-2 c = search needs
@@ -98,59 +105,79 @@ module _ (t : ℕ) where
   returns-2 : repeat-lts.Need-returns-2 (repeat-claims t) (repeat-at t) repeat.Post Inv-loop μ-loop
   returns-2 c =
       let after-test-a = c .before .before in
-      let after-loop-test = after-test-a .before .before in
-      let loop = after-loop-test .before .loop in
-      let s = after-loop-test .before .before .before .before in
-      let h = s .pre .1 in (
+      let after-take-fuel = after-test-a .before .before in
+      let after-if1 = after-take-fuel .before .before in
+      let loop = after-if1 .before .before .loop in
+      let s = after-if1 .before .before .before .before .before in
+      let h = s .pre .1 in
+      rw (after-take-fuel .take-fuel .ensures) (
         ran-is
             (loop .inv .0 .rest
-            ∙ turn-by (variablesOf (s .args .variables .now)) (h .0) (h .1) (memoryOf (loop .mem)) (loop .left)
-            (after-loop-test .loop-test .taken) Test.No
+            ∙ turn-by (variablesOf (s .args .variables .now)) (h .0) (h .1) (memoryOf (loop .mem))
+            (fuelIn (loop .progress)) (after-if1 .if1 .taken) Test.No
             (sym (after-test-a .test-a .ensures) ∙ c .enum-told2 .given .1))
-            (ran-from (loop .inv .0 .bytes) (ran-finished (loop .mem) (loop .left - 1))),
+            (ran-from (loop .inv .0 .bytes) (ran-finished (loop .mem) (afterTurn (loop .progress)))),
         loop .inv .1,
       )
 
   enum-known-k : repeat-lts.Need-enum-known-k (repeat-claims t) (repeat-at t) repeat.Post Inv-loop μ-loop
   enum-known-k c = search needs
 
-  cast-t20 : repeat-lts.Need-cast-t20 (repeat-claims t) (repeat-at t) repeat.Post Inv-loop μ-loop
-  cast-t20 c = ready-number (c .before .before .before .before .before .before .before .before .before .pre .1 .0)
+  cast-stop-at : repeat-lts.Need-cast-stop-at (repeat-claims t) (repeat-at t) repeat.Post Inv-loop μ-loop
+  cast-stop-at c =
+      let after-if1 = c .before .before .before .before .before .before .before .before in
+      ready-number (after-if1 .before .before .before .before .before .pre .1 .0)
+
+  stop-at-requires : repeat-lts.Need-stop-at-requires (repeat-claims t) (repeat-at t) repeat.Post Inv-loop μ-loop
+  stop-at-requires c κs = tt
 
   returns-3 : repeat-lts.Need-returns-3 (repeat-claims t) (repeat-at t) repeat.Post Inv-loop μ-loop
   returns-3 c =
-      let after-k = c .before in
+      let after-k = c .before .before .before in
       let after-test-a = after-k .before .before in
-      let after-loop-test = after-test-a .before .before in
-      let loop = after-loop-test .before .loop in
-      let s = after-loop-test .before .before .before .before in
-      let k = after-k .k .given .0 .0 in (
-        ran-is
-            (loop .inv .0 .rest
-            ∙ turn-by (variablesOf (s .args .variables .now)) (s .pre .1 .0) (s .pre .1 .1) (memoryOf (loop .mem)) (loop .left)
-            (after-loop-test .loop-test .taken) (Test.Stopped k)
-            (sym (after-test-a .test-a .ensures) ∙ after-k .k .given .1))
-            (ran-from (loop .inv .0 .bytes) (ran-ended (loop .mem) k (s .args .n) (loop .left - 1))),
+      let after-take-fuel = after-test-a .before .before in
+      let after-if1 = after-take-fuel .before .before in
+      let loop = after-if1 .before .before .loop in
+      let s = after-if1 .before .before .before .before .before in
+      let n = s .args .n in
+      let ρ = variablesOf (s .args .variables .now) in
+      let k = after-k .k .given .0 .0 in
+      rw (c .stop-at .ensures .0) (
+        ran-is (loop .inv .0 .rest)
+            (ran-from (loop .inv .0 .bytes)
+            (ran-stops (statementAt (s .args .table .now) n) ρ (fuelIn (loop .progress)) k n (memoryOf (loop .mem))
+            (afterTurn (loop .progress))
+            (turn-stops ρ (s .pre .1 .0) (s .pre .1 .1) (memoryOf (loop .mem)) (fuelIn (loop .progress))
+            (after-if1 .if1 .taken) k (sym (after-test-a .test-a .ensures) ∙ after-k .k .given .1))
+            (rw (after-take-fuel .take-fuel .ensures) at (c .stop-at .ensures .1)) (becomes-same refl))),
         loop .inv .1,
       )
 
-  cast-t21 : repeat-lts.Need-cast-t21 (repeat-claims t) (repeat-at t) repeat.Post Inv-loop μ-loop
-  cast-t21 c = ready-number (c .before .before .before .before .pre .1 .0)
+  cast-stop-at-2 : repeat-lts.Need-cast-stop-at-2 (repeat-claims t) (repeat-at t) repeat.Post Inv-loop μ-loop
+  cast-stop-at-2 c = ready-number (c .before .before .before .before .before .before .pre .1 .0)
+
+  stop-at-requires-2 : repeat-lts.Need-stop-at-requires-2 (repeat-claims t) (repeat-at t) repeat.Post Inv-loop μ-loop
+  stop-at-requires-2 c κs = tt
 
   returns-4 : repeat-lts.Need-returns-4 (repeat-claims t) (repeat-at t) repeat.Post Inv-loop μ-loop
   returns-4 c =
-      let loop = c .before .loop in
-      let s = c .before .before .before .before in (
-        ran-is
-            (loop .inv .0 .rest
-            ∙ turn-out (variablesOf (s .args .variables .now)) (s .pre .1 .0) (s .pre .1 .1) (memoryOf (loop .mem)) (loop .left)
-            (c .loop-test .left))
-            (ran-from (loop .inv .0 .bytes) (ran-ended (loop .mem) 32 (s .args .n) 0)),
+      let after-if1 = c .before .before in
+      let loop = after-if1 .before .before .loop in
+      let s = after-if1 .before .before .before .before .before in
+      let n = s .args .n in
+      let ρ = variablesOf (s .args .variables .now) in
+      rw (c .stop-at2 .ensures .0) (
+        ran-is (loop .inv .0 .rest)
+            (ran-from (loop .inv .0 .bytes)
+            (ran-stops (statementAt (s .args .table .now) n) ρ (fuelIn (loop .progress)) 32 n (memoryOf (loop .mem))
+            (loop .progress)
+            (turn-out ρ (s .pre .1 .0) (s .pre .1 .1) (memoryOf (loop .mem)) (fuelIn (loop .progress)) (after-if1 .if1 .left))
+            (c .stop-at2 .ensures .1) (becomes-same refl))),
         loop .inv .1,
       )
 
   pub closed : {M : Type 1} → repeat-lts.Closed (repeat-claims t) (repeat-at t) repeat.Post M
   closed =
       repeat-lts.spec (repeat-claims t) (repeat-at t) repeat.Post Inv-loop μ-loop child-b-requires loop-holds
-      sub-left test-a-requires enum-told run-requires returns loop-less loop-again enum-told-2 returns-2
-      enum-known-k cast-t20 returns-3 cast-t21 returns-4
+      element-copy-out-if1 take-fuel-requires test-a-requires enum-told run-requires returns loop-less loop-again
+      enum-told-2 returns-2 enum-known-k cast-stop-at stop-at-requires returns-3 cast-stop-at-2 stop-at-requires-2 returns-4

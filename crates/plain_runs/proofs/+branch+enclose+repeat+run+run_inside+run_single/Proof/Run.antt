@@ -8,6 +8,7 @@ use Rattle.rules.specs.Layout.{memoryOf}
 use Rattle.memory_counts.specs.Counted.{Counted}
 use Rattle.evaluation.specs.State.{variablesOf}
 use Rattle.run_changes.proofs.ChangeLaws.{becomes-same}
+use Rattle.run_endings.specs.Ending.{fuelIn}
 use Rattle.run_children.specs.Children.{firstOf, restOf}
 use Rattle.run_children.proofs.Sequences.{sequence-first, sequence-rest}
 use Rattle.plain_runs.specs.Running.{Ready}
@@ -21,12 +22,12 @@ use Rattle.plain_runs.proofs.+branch+enclose+repeat+run+run_inside+run_
 use Rattle.plain_runs.proofs.+branch+enclose+repeat+run+run_inside+run_single.Proof.Cycle.{run-at, run-claims}
 
 abbrev Inv-loop : run-lts.InvT-loop
-Inv-loop table n variables temporaries mem₀ counts₀ fuel at₀ left₀ mem counts at left =
-    Remaining table n (variablesOf variables) mem₀ fuel at mem left
+Inv-loop table n variables temporaries mem₀ counts₀ progress₀ at₀ mem counts progress at =
+    Remaining table n (variablesOf variables) mem₀ (fuelIn progress₀) at mem (fuelIn progress)
     × Ready table at × (at ≤ n) × Counted (memoryOf mem) counts
 
 abbrev μ-loop : run-lts.MeasureT-loop
-μ-loop table n variables temporaries mem₀ counts₀ fuel at₀ left₀ mem counts at left = at
+μ-loop table n variables temporaries mem₀ counts₀ progress₀ at₀ mem counts progress at = at
 
 module _ (t : ℕ) where
   loop-holds : run-lts.Need-loop-holds (run-claims t) (run-at t) run.Post Inv-loop μ-loop
@@ -55,7 +56,7 @@ module _ (t : ℕ) where
 
   run-requires : run-lts.Need-run-requires (run-claims t) (run-at t) run.Post Inv-loop μ-loop
   run-requires c κs =
-      let after-if1 = c .before .before in
+      let after-if1 = c .before .before .before in
       let after-first-of = after-if1 .before .before .before in
       let after-loop = after-first-of .before .before in
       let T = after-loop .before .args .table .now in
@@ -68,7 +69,7 @@ module _ (t : ℕ) where
 
   run-single-requires : run-lts.Need-run-single-requires (run-claims t) (run-at t) run.Post Inv-loop μ-loop
   run-single-requires c κs =
-      let after-if1 = c .before .before in
+      let after-if1 = c .before .before .before in
       let after-first-of = after-if1 .before .before .before in
       let after-loop = after-first-of .before .before in
       let h = after-loop .loop .inv .1 in
@@ -89,45 +90,46 @@ module _ (t : ℕ) where
   After-run-single = run-lts.After-run-single (run-claims t) (run-at t) run.Post Inv-loop μ-loop
 
   first-sequence : (c : After-run)
-      → let after-loop = c .before .before .before .before .before .before .before .before in
+      → let after-loop = c .before .before .before .before .before .before .before .before .before in
       let T = after-loop .before .args .table .now in
       kindOf T (after-loop .loop .at) ≡ 44
   first-sequence c =
-      let after-if1 = c .before .before .before in
+      let after-if1 = c .before .before .before .before in
       let after-loop = after-if1 .before .before .before .before .before in
       sequence-first (after-loop .before .args .table .now) (after-loop .loop .at)
       (sym (first-kind (after-if1 .before)) ∙ after-if1 .if1 .taken)
 
   first : (c : After-run)
-      → let after-loop = c .before .before .before .before .before .before .before .before in
+      → let after-loop = c .before .before .before .before .before .before .before .before .before in
       let s = after-loop .before in
       let T = s .args .table .now in
       let m = after-loop .loop .at in
-      Part T (s .args .n) (variablesOf (s .args .variables .now)) (s .args .mem .now) (s .args .fuel) m
-      (after-loop .loop .mem) (after-loop .loop .left) (firstOf T m) (restOf T m) (after-loop .loop .left)
-      (c .run .result) (c .run .last .1 .1 .1 .1 .0)
+      Part T (s .args .n) (variablesOf (s .args .variables .now)) (s .args .mem .now) (fuelIn (s .args .progress .now)) m
+      (after-loop .loop .mem) (fuelIn (after-loop .loop .progress)) (firstOf T m) (restOf T m) (fuelIn (after-loop .loop .progress))
+      (c .run .result) (c .run .last .1 .1 .1 .1 .1 .1 .0) (c .run .last .1 .1 .1 .1 .0)
   first c =
-      let after-first-of = c .before .before .before .before .before .before in
+      let after-first-of = c .before .before .before .before .before .before .before in
       let after-loop = after-first-of .before .before in
       record {
         earlier = after-loop .loop .inv .0;
         ran = rw (after-first-of .first-of .ensures) at (c .run .ensures .0);
         leads =
             run-first-then (variablesOf (after-loop .before .args .variables .now)) (after-loop .loop .inv .1)
-            (first-sequence c) (memoryOf (after-loop .loop .mem)) (after-loop .loop .left);
+            (first-sequence c) (memoryOf (after-loop .loop .mem)) (fuelIn (after-loop .loop .progress));
       }
 
   second : (c : After-run-single)
-      → let after-loop = c .before .before .before .before .before .before .before .before in
+      → let after-loop = c .before .before .before .before .before .before .before .before .before in
       let s = after-loop .before in
       let T = s .args .table .now in
       let m = after-loop .loop .at in
       restOf T m ≢ 0
-      → Part T (s .args .n) (variablesOf (s .args .variables .now)) (s .args .mem .now) (s .args .fuel) m
-      (after-loop .loop .mem) (after-loop .loop .left) (firstOf T m) (restOf T m) (after-loop .loop .left)
-      (c .run-single .result) (c .run-single .last .1 .1 .1 .1 .0)
+      → Part T (s .args .n) (variablesOf (s .args .variables .now)) (s .args .mem .now) (fuelIn (s .args .progress .now)) m
+      (after-loop .loop .mem) (fuelIn (after-loop .loop .progress)) (firstOf T m) (restOf T m) (fuelIn (after-loop .loop .progress))
+      (c .run-single .result) (c .run-single .last .1 .1 .1 .1 .1 .1 .0)
+      (c .run-single .last .1 .1 .1 .1 .0)
   second c d =
-      let after-first-of = c .before .before .before .before .before .before in
+      let after-first-of = c .before .before .before .before .before .before .before in
       let after-loop = after-first-of .before .before in
       let T = after-loop .before .args .table .now in
       record {
@@ -135,22 +137,22 @@ module _ (t : ℕ) where
         ran = rw (after-first-of .first-of .ensures) at (c .run-single .ensures .0);
         leads =
             run-first-then (variablesOf (after-loop .before .args .variables .now)) (after-loop .loop .inv .1)
-            (sequence-rest T (after-loop .loop .at) d) (memoryOf (after-loop .loop .mem)) (after-loop .loop .left);
+            (sequence-rest T (after-loop .loop .at) d) (memoryOf (after-loop .loop .mem)) (fuelIn (after-loop .loop .progress));
       }
 
   -- something follows where the number that was read is not 0
-  follows : (c : After-run-single) → let after-rest-of = c .before .before .before .before .before .before .before in
+  follows : (c : After-run-single) → let after-rest-of = c .before .before .before .before .before .before .before .before in
       let after-loop = after-rest-of .before in
       after-rest-of .rest-of .result ≢ 0 → restOf (after-loop .before .args .table .now) (after-loop .loop .at) ≢ 0
   follows c d e =
-      d (c .before .before .before .before .before .before .before .rest-of .ensures ∙ e)
+      d (c .before .before .before .before .before .before .before .before .rest-of .ensures ∙ e)
 
   returns : run-lts.Need-returns (run-claims t) (run-at t) run.Post Inv-loop μ-loop
-  returns c = (part-ends (first (c .before .before)) (c .if2 .taken), c .before .before .run .ensures .1)
+  returns c = (part-ends (first (c .before)) (c .if2 .taken), c .before .run .ensures .1)
 
   returns-2 : run-lts.Need-returns-2 (run-claims t) (run-at t) run.Post Inv-loop μ-loop
   returns-2 c =
-      let after-first-of = c .before .before .before .before .before .before .before in
+      let after-first-of = c .before .before .before .before .before .before .before .before in
       let after-rest-of = after-first-of .before in
       let loop = after-rest-of .before .loop in
       let alone = run-first-alone (loop .inv .1) (sym (after-rest-of .rest-of .ensures) ∙ c .if3 .taken) in (
@@ -161,16 +163,16 @@ module _ (t : ℕ) where
 
   returns-3 : run-lts.Need-returns-3 (run-claims t) (run-at t) run.Post Inv-loop μ-loop
   returns-3 c =
-      let after-run-single = c .before .before .before in (
-        part-ends (second after-run-single (follows after-run-single (c .before .before .if3 .left))) (c .if4 .taken),
+      let after-run-single = c .before .before in (
+        part-ends (second after-run-single (follows after-run-single (c .before .if3 .left))) (c .if4 .taken),
         after-run-single .run-single .ensures .1,
       )
 
   -- the measure falls, and the invariant holds of what follows
   loop-less : run-lts.Need-loop-less (run-claims t) (run-at t) run.Post Inv-loop μ-loop
   loop-less c =
-      let after-run = c .before .before in
-      let after-rest-of = after-run .before .before .before .before .before .before .before in
+      let after-run = c .before in
+      let after-rest-of = after-run .before .before .before .before .before .before .before .before in
       omega (
         arith,
         after-rest-of .rest-of .ensures,
@@ -179,8 +181,8 @@ module _ (t : ℕ) where
 
   loop-again : run-lts.Need-loop-again (run-claims t) (run-at t) run.Post Inv-loop μ-loop
   loop-again c =
-      let after-run = c .before .before in
-      let after-rest-of = after-run .before .before .before .before .before .before .before in
+      let after-run = c .before in
+      let after-rest-of = after-run .before .before .before .before .before .before .before .before in
       let loop = after-rest-of .before .loop in
       let q = first-sequence after-run in
       rw (after-rest-of .rest-of .ensures) (
@@ -192,10 +194,10 @@ module _ (t : ℕ) where
 
   loop-less-2 : run-lts.Need-loop-less-2 (run-claims t) (run-at t) run.Post Inv-loop μ-loop
   loop-less-2 c =
-      let after-run-single = c .before .before .before in
-      let after-rest-of = after-run-single .before .before .before .before .before .before .before in
+      let after-run-single = c .before .before in
+      let after-rest-of = after-run-single .before .before .before .before .before .before .before .before in
       let after-loop = after-rest-of .before in
-      let d = follows after-run-single (c .before .before .if3 .left) in
+      let d = follows after-run-single (c .before .if3 .left) in
       omega (
         arith,
         after-rest-of .rest-of .ensures,
@@ -205,10 +207,10 @@ module _ (t : ℕ) where
 
   loop-again-2 : run-lts.Need-loop-again-2 (run-claims t) (run-at t) run.Post Inv-loop μ-loop
   loop-again-2 c =
-      let after-run-single = c .before .before .before in
-      let after-rest-of = after-run-single .before .before .before .before .before .before .before in
+      let after-run-single = c .before .before in
+      let after-rest-of = after-run-single .before .before .before .before .before .before .before .before in
       let after-loop = after-rest-of .before in
-      let d = follows after-run-single (c .before .before .if3 .left) in
+      let d = follows after-run-single (c .before .if3 .left) in
       let q = sequence-rest (after-loop .before .args .table .now) (after-loop .loop .at) d in
       rw (after-rest-of .rest-of .ensures) (
         part-finishes (second after-run-single d) (c .if4 .left),

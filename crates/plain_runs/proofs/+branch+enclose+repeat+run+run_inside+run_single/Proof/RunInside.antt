@@ -9,9 +9,10 @@ use Rattle.rules.specs.Plain as plain
 use Rattle.rules.specs.Layout.{memoryOf}
 use Rattle.rules.specs.Nodes.{statementAt}
 use Rattle.evaluation.specs.State.{variablesOf}
+use Rattle.run_endings.specs.Ending.{fuelIn}
 use Rattle.run_variables.proofs.VariableLaws.{variables-set}
 use Rattle.plain_runs.specs.Running.{Ran}
-use Rattle.plain_runs.proofs.MemberLaws.{inside-ends, inside-stays}
+use Rattle.plain_runs.proofs.MemberLaws.{inside-block, inside-ends, inside-stays}
 use Rattle.plain_runs.proofs.run_inside.Reads as run-inside
 use Rattle.plain_runs.proofs.+branch+enclose+repeat+run+run_inside+run_single.Lts-run_inside as run-inside-lts
 use Rattle.plain_runs.proofs.+branch+enclose+repeat+run+run_inside+run_single.Proof.Cycle.{run-inside-at}
@@ -36,25 +37,22 @@ module _ (t : ℕ) where
 
   run-requires : run-inside-lts.Need-run-requires (run-inside-claims t) (run-inside-at t) run-inside.Post
   run-requires c κs =
-      let after-child-a = c .before .before .before in
+      let after-child-a = c .before .before .before .before in
       let s = after-child-a .before .before .before .before in
       rw (after-child-a .child-a .ensures)
       (omega (arith, s .pre .1 .0 .smaller, s .pre .0), (s .pre .1 .0 .body, s .pre .1 .1))
 
-  end-requires : run-inside-lts.Need-end-requires (run-inside-claims t) (run-inside-at t) run-inside.Post
-  end-requires c κs = c .before .before .before .before .run .ensures .1
-
   -- the child ran
   child : (c : run-inside-lts.After-run (run-inside-claims t) (run-inside-at t) run-inside.Post)
-      → let s = c .before .before .before .before .before .before .before .before in
+      → let s = c .before .before .before .before .before .before .before .before .before in
       let T = s .args .table .now in
       let n = s .args .n in
       let l = s .args .mem .now in
       Ran (plain.run (statementAt T (childA T n))
-      (extend (variablesOf (s .args .variables)) (markOf T n) (s .args .k)) (memoryOf l) (s .args .fuel))
-      (c .run .result) l (c .run .last .1 .1 .1 .1 .0)
+      (extend (variablesOf (s .args .variables)) (markOf T n) (s .args .k)) (memoryOf l) (fuelIn (s .args .progress .now)))
+      (c .run .result) (c .run .last .1 .1 .1 .1 .1 .1 .0) l (c .run .last .1 .1 .1 .1 .0)
   child c =
-      let after-child-a = c .before .before .before .before in
+      let after-child-a = c .before .before .before .before .before in
       let after-mark = after-child-a .before .before in
       let s = after-mark .before .before in
       let g : length (s .args .variables) ≡ 64 = s .good .1 .1 .0 .1 .0 .1 in
@@ -62,20 +60,32 @@ module _ (t : ℕ) where
       (omega (arith, g, after-mark .mark .ensures, s .pre .1 .0 .mark)) in
       rw (after-child-a .child-a .ensures, named, after-mark .mark .ensures) at (c .run .ensures .0)
 
+  end-requires : run-inside-lts.Need-end-requires (run-inside-claims t) (run-inside-at t) run-inside.Post
+  end-requires c κs =
+      let after-run = c .before .before .before in
+      let s = after-run .before .before .before .before .before .before .before .before .before in (
+        after-run .run .ensures .1,
+        inside-block (s .args .table .now) (s .args .n) (variablesOf (s .args .variables)) (s .args .k)
+            (after-run .run .result) (after-run .run .last .1 .1 .1 .1 .1 .1 .0) (fuelIn (s .args .progress .now))
+            (child after-run) (s .pre .1 .1 .invariant) (s .pre .1 .2),
+      )
+
   returns : run-inside-lts.Need-returns (run-inside-claims t) (run-inside-at t) run-inside.Post
   returns c =
-      let after-run = c .before .before .before .before .before in
-      let s = after-run .before .before .before .before .before .before .before .before in (
-        inside-ends (s .args .table .now) (s .args .n) (variablesOf (s .args .variables)) (s .args .k) (s .args .fuel)
+      let after-run = c .before .before .before .before in
+      let s = after-run .before .before .before .before .before .before .before .before .before in (
+        inside-ends (s .args .table .now) (s .args .n) (variablesOf (s .args .variables)) (s .args .k)
+            (after-run .run .result) (after-run .run .last .1 .1 .1 .1 .1 .1 .0) (fuelIn (s .args .progress .now))
             (child after-run) (c .before .before .before .if1 .taken) (c .end .ensures .0),
         c .end .ensures .1,
       )
 
   returns-2 : run-inside-lts.Need-returns-2 (run-inside-claims t) (run-inside-at t) run-inside.Post
   returns-2 c =
-      let after-run = c .before .before in
-      let s = after-run .before .before .before .before .before .before .before .before in (
-        inside-stays (s .args .table .now) (s .args .n) (variablesOf (s .args .variables)) (s .args .k) (s .args .fuel)
+      let after-run = c .before in
+      let s = after-run .before .before .before .before .before .before .before .before .before in (
+        inside-stays (s .args .table .now) (s .args .n) (variablesOf (s .args .variables)) (s .args .k)
+            (after-run .run .result) (after-run .run .last .1 .1 .1 .1 .1 .1 .0) (fuelIn (s .args .progress .now))
             (child after-run) (c .if1 .left),
         after-run .run .ensures .1,
       )

@@ -8,6 +8,7 @@ use Rattle.rules.specs.Layout.{memoryOf}
 use Rattle.rules.proofs.runs.PlainArms.{statement-kinds, run-skip}
 use Rattle.memory_counts.specs.Counted.{Counted}
 use Rattle.evaluation.specs.State.{variablesOf}
+use Rattle.run_endings.specs.Ending.{fuelIn}
 use Rattle.plain_runs.specs.Running.{Ready}
 use Rattle.plain_runs.proofs.Laws.{ran-is}
 use Rattle.plain_runs.proofs.ReadyLaws.{ready-within}
@@ -39,30 +40,30 @@ module _ (t : ℕ) where
   counted-kind c e = (of-kind c e .0, of-kind c e .1, c .before .before .pre .1 .2)
 
   assign-requires : run-single-lts.Need-assign-requires (run-single-claims t) (run-single-at t) run-single.Post
-  assign-requires c κs = of-kind (c .before .before) (c .before .match .keys2)
+  assign-requires c κs = of-kind (c .before .before .before) (c .before .before .match .keys2)
 
   allocate-requires : run-single-lts.Need-allocate-requires (run-single-claims t) (run-single-at t) run-single.Post
-  allocate-requires c κs = counted-kind (c .before .before .before) (c .before .before .match .keys3)
+  allocate-requires c κs = counted-kind (c .before .before .before .before) (c .before .before .before .match .keys3)
 
   release-requires : run-single-lts.Need-release-requires (run-single-claims t) (run-single-at t) run-single.Post
-  release-requires c κs = counted-kind (c .before .before .before) (c .before .before .match .keys4)
+  release-requires c κs = counted-kind (c .before .before .before .before) (c .before .before .before .match .keys4)
 
   branch-requires : run-single-lts.Need-branch-requires (run-single-claims t) (run-single-at t) run-single.Post
   branch-requires c κs = (
-    omega (arith, c .before .before .before .before .before .pre .0),
-    counted-kind (c .before .before .before) (c .before .before .match .keys5),
+    omega (arith, c .before .before .before .before .before .before .pre .0),
+    counted-kind (c .before .before .before .before) (c .before .before .before .match .keys5),
   )
 
   repeat-requires : run-single-lts.Need-repeat-requires (run-single-claims t) (run-single-at t) run-single.Post
   repeat-requires c κs = (
-    omega (arith, c .before .before .before .before .before .pre .0),
-    counted-kind (c .before .before .before) (c .before .before .match .keys6),
+    omega (arith, c .before .before .before .before .before .before .pre .0),
+    counted-kind (c .before .before .before .before) (c .before .before .before .match .keys6),
   )
 
   enclose-requires : run-single-lts.Need-enclose-requires (run-single-claims t) (run-single-at t) run-single.Post
   enclose-requires c κs = (
-    omega (arith, c .before .before .before .before .before .pre .0),
-    counted-kind (c .before .before .before) (c .before .before .match .keys7),
+    omega (arith, c .before .before .before .before .before .before .pre .0),
+    counted-kind (c .before .before .before .before) (c .before .before .before .match .keys7),
   )
 
   -- no other kind is left
@@ -78,7 +79,7 @@ module _ (t : ℕ) where
       (λ e. r .1 (k ∙ e))
 
   assert-requires : run-single-lts.Need-assert-requires (run-single-claims t) (run-single-at t) run-single.Post
-  assert-requires c κs = (c .before .before .before .before .pre .1 .0, assert-kind c)
+  assert-requires c κs = (c .before .before .before .before .before .pre .1 .0, assert-kind (c .before))
 
   returns : run-single-lts.Need-returns (run-single-claims t) (run-single-at t) run-single.Post
   returns c =
@@ -86,18 +87,18 @@ module _ (t : ℕ) where
       let l = s .args .mem .now in (
         ran-is
             (ap ending (run-skip (s .args .table .now) (s .args .n) (s .pre .1 .0 .is)
-            (variablesOf (s .args .variables .now)) (memoryOf l) (s .args .fuel)
+            (variablesOf (s .args .variables .now)) (memoryOf l) (fuelIn (s .args .progress .now))
             (of-kind (c .before) (c .match .keys1) .1)))
-            (ran-finished l (s .args .fuel)),
+            (ran-finished l (s .args .progress .now)),
         s .pre .1 .2,
       )
 
   returns-2 : run-single-lts.Need-returns-2 (run-single-claims t) (run-single-at t) run-single.Post
   returns-2 c =
-      let s = c .before .before .before .before .before in
-      let k = of-kind (c .before .before .before) (c .before .before .match .keys2) in (
+      let s = c .before .before .before .before .before .before in
+      let k = of-kind (c .before .before .before .before) (c .before .before .before .match .keys2) in (
         c .assign .ensures,
-        assign-counted (variablesOf (s .args .variables .now)) (s .args .mem .now) (s .args .fuel) (k .0) (k .1) (s .pre .1 .2) (c .assign .ensures),
+        assign-counted (variablesOf (s .args .variables .now)) (s .args .mem .now) (fuelIn (s .args .progress .now)) (k .0) (c .assign .result) (c .assign .last .1 .1 .1 .1 .1 .0) (k .1) (s .pre .1 .2) (c .assign .ensures),
       )
 
   returns-3 : run-single-lts.Need-returns-3 (run-single-claims t) (run-single-at t) run-single.Post
@@ -117,9 +118,9 @@ module _ (t : ℕ) where
 
   returns-8 : run-single-lts.Need-returns-8 (run-single-claims t) (run-single-at t) run-single.Post
   returns-8 c =
-      let s = c .before .before .before .before .before in (
+      let s = c .before .before .before .before .before .before in (
         c .assert .ensures,
-        assert-counted (variablesOf (s .args .variables .now)) (s .args .mem .now) (s .args .fuel) (s .pre .1 .0) (assert-kind (c .before)) (s .pre .1 .2)
+        assert-counted (variablesOf (s .args .variables .now)) (s .args .mem .now) (fuelIn (s .args .progress .now)) (s .pre .1 .0) (c .assert .result) (c .assert .last .1 .1 .1 .1 .1 .0) (assert-kind (c .before .before)) (s .pre .1 .2)
             (c .assert .ensures),
       )
 

@@ -4,6 +4,7 @@ use native.Mathlib.Omega.{arith}
 use mathlib.Core.Path.{sym, _∙_}
 use borrow.Author.Needs.{needs}
 use Rattle.evaluation.specs.State.{variablesOf}
+use Rattle.run_changes.proofs.ChangeLaws.{let-block}
 use Rattle.watched_statements.specs.Watching.{lent}
 use Rattle.watched_statements.proofs.Laws.{kept-memory, ran-is, ran-from}
 use Rattle.watched_statements.proofs.ReadyLaws.{ready-inside}
@@ -29,6 +30,8 @@ module _ (t : ℕ) where
         (
           ready-inside (s .pre .1 .0) (s .pre .1 .1),
           record { counted = after-make .make .ensures .1 .1; owned = s .pre .1 .2 .owned },
+          let-block (s .pre .1 .2 .counted .invariant) (after-make .make .ensures .1 .0)
+              (sym (after-k .k .given .1) ∙ after-make .make .ensures .0),
         ),
       )
 

@@ -8,7 +8,7 @@ use Rattle.rules.specs.Evaluation.{extend}
 use Rattle.evaluation.specs.State.{variablesOf}
 use Rattle.run_variables.proofs.VariableLaws.{variables-set}
 use Rattle.watched_statements.specs.Watching.{lent, Runs}
-use Rattle.watched_runs.proofs.MemberLaws.{inside-ends, inside-stays}
+use Rattle.watched_runs.proofs.MemberLaws.{inside-block, inside-ends, inside-stays}
 use Rattle.watched_runs.proofs.run_inside.Reads as run-inside
 use Rattle.watched_runs.proofs.+branch+enclose+repeat+run+run_inside+run_single.Lts-run_inside as run-inside-lts
 use Rattle.watched_runs.proofs.+branch+enclose+repeat+run+run_inside+run_single.Proof.Cycle.{run-inside-at}
@@ -38,9 +38,6 @@ module _ (t : ℕ) where
       rw (after-child-a .child-a .ensures)
       (omega (arith, s .pre .1 .0 .smaller, s .pre .0), (s .pre .1 .0 .body, s .pre .1 .1))
 
-  end-requires : run-inside-lts.Need-end-requires (run-inside-claims t) (run-inside-at t) run-inside.Post
-  end-requires c κs = c .before .before .before .before .run .ensures .1 .counted
-
   -- the child ran
   child : (c : run-inside-lts.After-run (run-inside-claims t) (run-inside-at t) run-inside.Post)
       → let s = c .before .before .before .before .before .before .before .before .before .before .before in
@@ -58,6 +55,15 @@ module _ (t : ℕ) where
       let named = variables-set (s .args .variables) (after-mark .mark .result) (s .args .k)
       (omega (arith, g, after-mark .mark .ensures, s .pre .1 .0 .mark)) in
       rw (after-child-a .child-a .ensures, named, after-mark .mark .ensures) at (c .run .ensures .0)
+
+  end-requires : run-inside-lts.Need-end-requires (run-inside-claims t) (run-inside-at t) run-inside.Post
+  end-requires c κs =
+      let after-run = c .before .before .before .before in
+      let s = after-run .before .before .before .before .before .before .before .before .before .before .before in (
+        after-run .run .ensures .1 .counted,
+        inside-block (s .args .table .now) (s .args .n) (variablesOf (s .args .variables)) (s .args .k) (s .args .fuel)
+            (child after-run) (s .pre .1 .1 .counted .invariant) (s .pre .1 .2),
+      )
 
   returns : run-inside-lts.Need-returns (run-inside-claims t) (run-inside-at t) run-inside.Post
   returns c =

@@ -1,0 +1,2 @@
+-- Laws of endings.
+pub mod EndingLaws
