@@ -39,7 +39,7 @@ module _ (t : ℕ) where
   element-copy-out-if1 c = search needs
 
   take-fuel-requires : repeat-lts.Need-take-fuel-requires (repeat-claims t) (repeat-at t) repeat.Post Inv-loop μ-loop
-  take-fuel-requires c κs = c .before .if1 .taken
+  take-fuel-requires c κs = omega (arith, c .before .if1 .taken)
 
   test-a-requires : repeat-lts.Need-test-a-requires (repeat-claims t) (repeat-at t) repeat.Post Inv-loop μ-loop
   test-a-requires c κs =
@@ -83,7 +83,7 @@ module _ (t : ℕ) where
         ran = rw (after-child-b .child-b .ensures, after-take-fuel .take-fuel .ensures) at (c .run .ensures .0);
         leads =
             turn-by (variablesOf (s .args .variables .now)) (h .0) (h .1) (memoryOf (after-loop .loop .mem))
-            (fuelIn (after-loop .loop .progress)) (after-if1 .if1 .taken) Test.Yes
+            (fuelIn (after-loop .loop .progress)) (omega (arith, after-if1 .if1 .taken)) Test.Yes
             (sym (after-test-a .test-a .ensures) ∙ after-enum-told .enum-told .given .1);
       }
 
@@ -114,7 +114,7 @@ module _ (t : ℕ) where
         ran-is
             (loop .inv .0 .rest
             ∙ turn-by (variablesOf (s .args .variables .now)) (h .0) (h .1) (memoryOf (loop .mem))
-            (fuelIn (loop .progress)) (after-if1 .if1 .taken) Test.No
+            (fuelIn (loop .progress)) (omega (arith, after-if1 .if1 .taken)) Test.No
             (sym (after-test-a .test-a .ensures) ∙ c .enum-told2 .given .1))
             (ran-from (loop .inv .0 .bytes) (ran-finished (loop .mem) (afterTurn (loop .progress)))),
         loop .inv .1,
@@ -148,7 +148,7 @@ module _ (t : ℕ) where
             (ran-stops (statementAt (s .args .table .now) n) ρ (fuelIn (loop .progress)) k n (memoryOf (loop .mem))
             (afterTurn (loop .progress))
             (turn-stops ρ (s .pre .1 .0) (s .pre .1 .1) (memoryOf (loop .mem)) (fuelIn (loop .progress))
-            (after-if1 .if1 .taken) k (sym (after-test-a .test-a .ensures) ∙ after-k .k .given .1))
+            (omega (arith, after-if1 .if1 .taken)) k (sym (after-test-a .test-a .ensures) ∙ after-k .k .given .1))
             (rw (after-take-fuel .take-fuel .ensures) at (c .stop-at .ensures .1)) (becomes-same refl))),
         loop .inv .1,
       )
