@@ -107,4 +107,5 @@ module _ (t : ℕ) where
   pub closed : {M : Type 1} → branch-lts.Closed (branch-claims t) (branch-at t) branch.Post M
   closed =
       branch-lts.spec (branch-claims t) (branch-at t) branch.Post test-a-requires enum-told child-b-requires
-      run-requires enum-told-2 child-c-requires run-requires-2 enum-known-k cast-stop-at stop-at-requires returns returns-2 returns-3
+      run-requires enum-told-2 child-c-requires run-requires-2 enum-known-k cast-stop-at stop-at-requires
+      returns returns-2 returns-3

@@ -50,7 +50,8 @@ module _ (t : ℕ) where
       let after-make = after-k .before .before in
       let s = after-make .before .before .before in (
         ran-is
-            (let-made (variablesOf (s .args .variables .now)) (s .pre .1 .0) (s .pre .1 .1) (after-make .make .ensures .1 .0) (fuelIn (s .args .progress .now))
+            (let-made (variablesOf (s .args .variables .now)) (s .pre .1 .0) (s .pre .1 .1)
+            (after-make .make .ensures .1 .0) (fuelIn (s .args .progress .now))
             (sym (after-k .k .given .1) ∙ after-make .make .ensures .0))
             (ran-from (after-make .make .ensures .1 .0) (c .run-inside .ensures .0)),
         c .run-inside .ensures .1,
@@ -63,7 +64,8 @@ module _ (t : ℕ) where
       let s = after-make .before .before .before in
       rw (c .stop-at .ensures .0) (
         let-unmade (variablesOf (s .args .variables .now)) (s .pre .1 .0) (s .pre .1 .1) (after-make .make .ensures .1 .0)
-            (s .args .progress .now) (after-c .c .given .0 .0) (sym (after-c .c .given .1) ∙ after-make .make .ensures .0) (c .stop-at .ensures .1),
+            (s .args .progress .now) (after-c .c .given .0 .0)
+            (sym (after-c .c .given .1) ∙ after-make .make .ensures .0) (c .stop-at .ensures .1),
         after-make .make .ensures .1 .1,
       )
 

@@ -22,7 +22,8 @@ use Rattle.plain_runs.proofs.+branch+enclose+repeat+run+run_inside+run_
 
 abbrev Inv-loop : repeat-lts.InvT-loop
 Inv-loop table n variables temporaries mem₀ counts₀ progress₀ b mem counts progress =
-    Remaining table n (variablesOf variables) mem₀ (fuelIn progress₀) n mem (fuelIn progress) × Counted (memoryOf mem) counts
+    Remaining table n (variablesOf variables) mem₀ (fuelIn progress₀) n mem (fuelIn progress)
+    × Counted (memoryOf mem) counts
 
 abbrev μ-loop : repeat-lts.MeasureT-loop
 μ-loop table n variables temporaries mem₀ counts₀ progress₀ b mem counts progress = fuelIn progress
@@ -171,7 +172,8 @@ module _ (t : ℕ) where
             (ran-from (loop .inv .0 .bytes)
             (ran-stops (statementAt (s .args .table .now) n) ρ (fuelIn (loop .progress)) 32 n (memoryOf (loop .mem))
             (loop .progress)
-            (turn-out ρ (s .pre .1 .0) (s .pre .1 .1) (memoryOf (loop .mem)) (fuelIn (loop .progress)) (after-if1 .if1 .left))
+            (turn-out ρ (s .pre .1 .0) (s .pre .1 .1) (memoryOf (loop .mem)) (fuelIn (loop .progress))
+            (after-if1 .if1 .left))
             (c .stop-at2 .ensures .1) (becomes-same refl))),
         loop .inv .1,
       )
@@ -180,4 +182,5 @@ module _ (t : ℕ) where
   closed =
       repeat-lts.spec (repeat-claims t) (repeat-at t) repeat.Post Inv-loop μ-loop child-b-requires loop-holds
       element-copy-out-if1 take-fuel-requires test-a-requires enum-told run-requires returns loop-less loop-again
-      enum-told-2 returns-2 enum-known-k cast-stop-at stop-at-requires returns-3 cast-stop-at-2 stop-at-requires-2 returns-4
+      enum-told-2 returns-2 enum-known-k cast-stop-at stop-at-requires returns-3 cast-stop-at-2
+      stop-at-requires-2 returns-4

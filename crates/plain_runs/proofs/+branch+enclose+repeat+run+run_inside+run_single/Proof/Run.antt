@@ -105,7 +105,8 @@ module _ (t : ℕ) where
       let T = s .args .table .now in
       let m = after-loop .loop .at in
       Part T (s .args .n) (variablesOf (s .args .variables .now)) (s .args .mem .now) (fuelIn (s .args .progress .now)) m
-      (after-loop .loop .mem) (fuelIn (after-loop .loop .progress)) (firstOf T m) (restOf T m) (fuelIn (after-loop .loop .progress))
+      (after-loop .loop .mem) (fuelIn (after-loop .loop .progress)) (firstOf T m) (restOf T m)
+      (fuelIn (after-loop .loop .progress))
       (c .run .result) (c .run .last .1 .1 .1 .1 .1 .1 .0) (c .run .last .1 .1 .1 .1 .0)
   first c =
       let after-first-of = c .before .before .before .before .before .before .before in
@@ -125,7 +126,8 @@ module _ (t : ℕ) where
       let m = after-loop .loop .at in
       restOf T m ≢ 0
       → Part T (s .args .n) (variablesOf (s .args .variables .now)) (s .args .mem .now) (fuelIn (s .args .progress .now)) m
-      (after-loop .loop .mem) (fuelIn (after-loop .loop .progress)) (firstOf T m) (restOf T m) (fuelIn (after-loop .loop .progress))
+      (after-loop .loop .mem) (fuelIn (after-loop .loop .progress)) (firstOf T m) (restOf T m)
+      (fuelIn (after-loop .loop .progress))
       (c .run-single .result) (c .run-single .last .1 .1 .1 .1 .1 .1 .0)
       (c .run-single .last .1 .1 .1 .1 .0)
   second c d =
@@ -137,7 +139,8 @@ module _ (t : ℕ) where
         ran = rw (after-first-of .first-of .ensures) at (c .run-single .ensures .0);
         leads =
             run-first-then (variablesOf (after-loop .before .args .variables .now)) (after-loop .loop .inv .1)
-            (sequence-rest T (after-loop .loop .at) d) (memoryOf (after-loop .loop .mem)) (fuelIn (after-loop .loop .progress));
+            (sequence-rest T (after-loop .loop .at) d) (memoryOf (after-loop .loop .mem))
+            (fuelIn (after-loop .loop .progress));
       }
 
   -- something follows where the number that was read is not 0

@@ -98,7 +98,8 @@ module _ (t : ℕ) where
       let s = c .before .before .before .before .before .before in
       let k = of-kind (c .before .before .before .before) (c .before .before .before .match .keys2) in (
         c .assign .ensures,
-        assign-counted (variablesOf (s .args .variables .now)) (s .args .mem .now) (fuelIn (s .args .progress .now)) (k .0) (c .assign .result) (c .assign .last .1 .1 .1 .1 .1 .0) (k .1) (s .pre .1 .2) (c .assign .ensures),
+        assign-counted (variablesOf (s .args .variables .now)) (s .args .mem .now) (fuelIn (s .args .progress .now))
+            (k .0) (c .assign .result) (c .assign .last .1 .1 .1 .1 .1 .0) (k .1) (s .pre .1 .2) (c .assign .ensures),
       )
 
   returns-3 : run-single-lts.Need-returns-3 (run-single-claims t) (run-single-at t) run-single.Post
@@ -120,7 +121,8 @@ module _ (t : ℕ) where
   returns-8 c =
       let s = c .before .before .before .before .before .before in (
         c .assert .ensures,
-        assert-counted (variablesOf (s .args .variables .now)) (s .args .mem .now) (fuelIn (s .args .progress .now)) (s .pre .1 .0) (c .assert .result) (c .assert .last .1 .1 .1 .1 .1 .0) (assert-kind (c .before .before)) (s .pre .1 .2)
+        assert-counted (variablesOf (s .args .variables .now)) (s .args .mem .now) (fuelIn (s .args .progress .now))
+            (s .pre .1 .0) (c .assert .result) (c .assert .last .1 .1 .1 .1 .1 .0) (assert-kind (c .before .before)) (s .pre .1 .2)
             (c .assert .ensures),
       )
 
