@@ -1,4 +1,7 @@
 // What both memories ask of a block's places: where it ends, and from which place on the search for free ones starts.
+
+#![tactic(auto)]
+
 ghost use Rattle.std.specs.Prelude.{◌≡◌, ◌+◌, ◌*◌, ◌^◌, ◌≤◌, ◌<◌, length};
 ghost use Rattle.rules.proofs.Lists.RunLaws.{lowest_taken, lowest_given};
 ghost use Rattle.block_places.specs.Ends.{end_at};

@@ -1,4 +1,7 @@
 // One byte put, and bytes filled with one number.
+
+#![tactic(auto)]
+
 ghost use Rattle.std.specs.Prelude.{◌≡◌, ◌+◌, ◌<◌, ◌^◌, min, length, set};
 ghost use Rattle.rules.specs.Memory.{fill};
 

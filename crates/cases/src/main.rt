@@ -1,4 +1,7 @@
 // Cases of document 01 through the compiled leaves: what it prints is held to the file `stdout`.
+
+#![tactic(auto)]
+
 ghost use Rattle.rules.specs.Layout.{memory_of};
 ghost use Rattle.memory_counts.specs.Counted.{Counted};
 

@@ -1,5 +1,8 @@
 // The checker of tables: rules 1 to 8 in their order. A refusal has the rule and the lowest record that breaks it.
 // Without recursion: one pass over the records for 3 to 5, one for 6 and 7, one for 8 in a source table.
+
+#![tactic(auto)]
+
 mod answers;
 mod descent;
 mod levels;

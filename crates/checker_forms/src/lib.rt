@@ -1,5 +1,8 @@
 // What each kind asks of its record, and rules 3 to 5 at one record.
 // A form is six hexadecimal digits: sort, mark, A, B, C, literal.
+
+#![tactic(auto)]
+
 mod fields;
 
 ghost use Rattle.std.specs.Prelude.{◌≡◌, true, [], ◌∷◌, ◌<◌};

@@ -1,4 +1,7 @@
 // Evaluating expressions and finding places, on the execution memory.
+
+#![tactic(auto)]
+
 ghost use Rattle.std.specs.Prelude.{◌≡◌};
 ghost use Rattle.rules.specs.Kinds.{target, sort_number, expression, place};
 ghost use Rattle.rules.specs.Records.{kind_of};
@@ -14,7 +17,7 @@ ghost use Rattle.evaluation_temporaries.specs.Bytes.{temporaries_of};
 use rules::{Evaluated, ExecutionMemory, Found, Pointer, Table, Temporaries, Value, Variables};
 
 // What an operand gives by itself: its value or stop, or nothing, so that it has to be evaluated.
-#[derive(Drop)]
+#[derive(Clone, Copy)]
 pub enum Settled {
     Is(Evaluated),
     Open,

@@ -1,4 +1,7 @@
 // The answers of evaluating and finding: made anew, the pointer to a place, the place of a pointer.
+
+#![tactic(auto)]
+
 ghost use Rattle.std.specs.Prelude.{◌≡◌};
 ghost use Rattle.rules.specs.Evaluation.{pointed_by, address_of};
 

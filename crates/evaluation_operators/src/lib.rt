@@ -1,4 +1,7 @@
 // Operators on values that point into the execution memory.
+
+#![tactic(auto)]
+
 ghost use Rattle.std.specs.Prelude.{◌≡◌};
 ghost use Rattle.rules.specs.Nodes.{operator_of};
 ghost use Rattle.rules.specs.Numbers.{operate};

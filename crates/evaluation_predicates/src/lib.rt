@@ -1,4 +1,7 @@
 // Terms and predicates on the execution memory.
+
+#![tactic(auto)]
+
 ghost use Rattle.std.specs.Prelude.{◌≡◌};
 ghost use Rattle.rules.specs.Kinds.{source, sort_number, term, predicate};
 ghost use Rattle.rules.specs.Nodes.{operator_of, query_of, as_term, as_predicate, sort_of_node, node_at};
@@ -12,7 +15,7 @@ ghost use Rattle.evaluation_predicates.specs.Joints.{joint_of};
 use rules::{Evaluated, ExecutionMemory, Pointer, Table, Temporaries, Value, Variables};
 
 // What A of an 'and' or an 'or' decides: the whole, or nothing, so that B does.
-#[derive(Drop)]
+#[derive(Clone, Copy)]
 pub enum Joint {
     Decided(Evaluated),
     Open,

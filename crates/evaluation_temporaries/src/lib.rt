@@ -1,4 +1,7 @@
 // The temporaries in lent bytes: 64 cells of 16, laid out as the memory's.
+
+#![tactic(auto)]
+
 ghost use Rattle.std.specs.Prelude.{◌≡◌, ◌<◌, set};
 ghost use Rattle.rules.specs.Sizes.{temporary_count};
 ghost use Rattle.rules.specs.Layout.{cell_from};

@@ -1,5 +1,8 @@
 // Prints the listing of the source table on its standard input: a line for each target record, or the refusal.
 // Everything but reading and writing is `listing_input`'s.
+
+#![tactic(auto)]
+
 ghost use Rattle.std.specs.Prelude.{◌≤◌, ◌<◌, length};
 
 // Reads the whole input and keeps what its listing needs of it: nothing at first, and `keep` promises the same with each

@@ -1,4 +1,7 @@
 // What is kept of an input of any length, and the listing of the whole input from it.
+
+#![tactic(auto)]
+
 ghost use Rattle.std.specs.Prelude.{◌≡◌, ◌+◌, ◌%◌, ◌≤◌, ◌<◌, length};
 ghost use Rattle.listing_input.specs.Input.{kept_length, kept_bytes, KeepsMore, ListsInput};
 

@@ -1,5 +1,8 @@
 // The text of a listing: "one line a target record: number, kind, mark, A, B, C, literal; for a refused table one line,
 // refusal number and record".
+
+#![tactic(auto)]
+
 ghost use Rattle.std.specs.Prelude.{◌≡◌, ◌+◌, ◌≤◌, [], ◌∷◌, length};
 ghost use Rattle.rules.specs.Words.{put};
 ghost use Rattle.rules.specs.Listing.{natural, integer, record_line};

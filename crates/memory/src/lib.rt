@@ -1,4 +1,7 @@
 // The cells that pointers into the execution memory lead to, read and stored.
+
+#![tactic(auto)]
+
 ghost use Rattle.std.specs.Prelude.{◌≡◌};
 ghost use Rattle.rules.specs.Memory.{defined, read_cell, store_cell};
 ghost use Rattle.rules.specs.Layout.{memory_of};

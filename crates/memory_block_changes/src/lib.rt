@@ -1,4 +1,7 @@
 // The execution memory's block records, written in their bytes.
+
+#![tactic(auto)]
+
 ghost use Rattle.std.specs.Prelude.{◌≡◌, ◌+◌, ◌*◌, ◌<◌, ◌≤◌, length};
 ghost use Rattle.rules.specs.Sizes.{name_count, memory_length};
 ghost use Rattle.rules.specs.Layout.{memory_of, block_place, block_record, block_bytes};

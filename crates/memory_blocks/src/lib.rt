@@ -1,4 +1,7 @@
 // New blocks of the execution memory.
+
+#![tactic(auto)]
+
 ghost use Rattle.std.specs.Prelude.{◌≡◌, false, ◌+◌, ◌≤◌, ◌<◌};
 ghost use Rattle.rules.specs.Sizes.{name_count, cell_count};
 ghost use Rattle.rules.specs.Memory.{cell_of, is_free, free_run, make_block, with_block, block_for};
@@ -12,7 +15,7 @@ ghost use Rattle.memory_blocks.specs.Blocks.{making_of, made_memory, use_of};
 use rules::{BLOCKS_LENGTH, Block, CELL_COUNT, Counts, ExecutionMemory, Search};
 
 // What making a block answers: its name, or the number of the ending.
-#[derive(Drop)]
+#[derive(Clone, Copy)]
 pub enum Making {
     Name(u16),
     Stopped(u32),

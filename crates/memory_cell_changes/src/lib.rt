@@ -1,4 +1,7 @@
 // The execution memory's cells, written in their bytes, and all of its bytes cleared.
+
+#![tactic(auto)]
+
 ghost use Rattle.std.specs.Prelude.{◌≡◌, ◌+◌, ◌*◌, ◌<◌, pos, length, replicate};
 ghost use Rattle.rules.specs.Sizes.{cell_count, memory_length};
 ghost use Rattle.rules.specs.Memory.{set_cell};

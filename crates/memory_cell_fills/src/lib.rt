@@ -1,4 +1,7 @@
 // Cells of the execution memory, one behind the other, that become undefined or free.
+
+#![tactic(auto)]
+
 ghost use Rattle.std.specs.Prelude.{◌≡◌, ◌+◌, ◌≤◌, pos};
 ghost use Rattle.rules.specs.Sizes.{cell_count};
 ghost use Rattle.rules.specs.Layout.{memory_of, cell_bytes, cell_record, cell_from};

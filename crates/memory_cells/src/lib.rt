@@ -1,4 +1,7 @@
 // The bytes of the execution memory, read: block records of 8 bytes, then cells of 16.
+
+#![tactic(auto)]
+
 ghost use Rattle.std.specs.Prelude.{◌≡◌, ◌+◌, ◌*◌, ◌<◌, ◌≤◌};
 ghost use Rattle.rules.specs.Sizes.{name_count, cell_count};
 ghost use Rattle.rules.specs.Memory.{block_of, cell_of};

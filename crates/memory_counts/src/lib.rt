@@ -1,4 +1,7 @@
 // What a run counts beside its execution memory: the free cells, a cell below which none is free, and the next name.
+
+#![tactic(auto)]
+
 ghost use Rattle.std.specs.Prelude.{◌≡◌, ◌+◌, ◌≤◌};
 ghost use Rattle.rules.specs.Sizes.{name_count, cell_count, input_limit};
 ghost use Rattle.rules_counting.specs.Counting.{name_from};

@@ -1,4 +1,7 @@
 // Freed blocks of the execution memory, and blocks at the end of a let.
+
+#![tactic(auto)]
+
 ghost use Rattle.std.specs.Prelude.{◌≡◌};
 ghost use Rattle.rules.specs.Memory.{recorded_of, block_of, end_block, without_cells, free_of, free_at};
 ghost use Rattle.rules.specs.Layout.{memory_of};

@@ -1,4 +1,7 @@
 // Where pointers lead in the execution memory.
+
+#![tactic(auto)]
+
 ghost use Rattle.std.specs.Prelude.{◌≡◌};
 ghost use Rattle.rules.specs.Memory.{recorded_of, located_in, locate};
 ghost use Rattle.rules.specs.Layout.{memory_of};

@@ -1,4 +1,7 @@
 // The queries of a pointer into the execution memory, and whether a block there is live.
+
+#![tactic(auto)]
+
 ghost use Rattle.std.specs.Prelude.{◌≡◌};
 ghost use Rattle.rules.specs.Memory.{recorded_of, block_of, live_block, cell_of};
 ghost use Rattle.rules.specs.Evaluation.{is_initialised, is_valid, initialised_at, of_live, queried};

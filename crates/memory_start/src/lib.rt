@@ -1,4 +1,7 @@
 // The execution memory that a run starts with.
+
+#![tactic(auto)]
+
 ghost use Rattle.std.specs.Prelude.{◌≡◌, ◌*◌, ◌≤◌, length};
 ghost use Rattle.rules.specs.Sizes.{input_limit};
 ghost use Rattle.rules.specs.Memory.{start_memory};

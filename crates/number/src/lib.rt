@@ -1,4 +1,7 @@
 // Sums, differences, products and magnitudes of integers, exact; the pointer shift's offset sum is `add`.
+
+#![tactic(auto)]
+
 ghost use Rattle.std.specs.Prelude.{◌≡◌, nat_abs, ◌+ℤ◌, ◌-ℤ◌, ◌*ℤ◌, ◌*◌};
 ghost use Rattle.rules.specs.Numbers.{ranged, signed};
 

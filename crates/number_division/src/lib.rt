@@ -1,4 +1,7 @@
 // The two divisions of integers, exact: rounded toward zero and to the nearest.
+
+#![tactic(auto)]
+
 ghost use Rattle.std.specs.Prelude.{◌≡◌, nat_abs, ◌<◌};
 ghost use Rattle.rules.specs.Numbers.{divided, rounds_up, toward_zero, to_nearest};
 

@@ -1,4 +1,7 @@
 // The observation memory: its nine calls, and clearing it. What stands above it uses these promises only.
+
+#![tactic(auto)]
+
 ghost use Rattle.std.specs.Prelude.{◌≡◌};
 ghost use Rattle.rules.specs.Observation.{empty_observation};
 ghost use Rattle.rules.specs.Layout.{observation_image};

@@ -1,5 +1,8 @@
 // What a change of the observation memory answers.
-#[derive(Drop)]
+
+#![tactic(auto)]
+
+#[derive(Clone, Copy)]
 pub enum Noting {
     Noted,
     Refused(u32),

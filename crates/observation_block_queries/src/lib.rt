@@ -1,5 +1,8 @@
 // The observation memory's queries by the block that a pointer names: base address, offset and block length; and whether
 // a block is live.
+
+#![tactic(auto)]
+
 ghost use Rattle.std.specs.Prelude.{◌≡◌, pos};
 ghost use Rattle.rules.specs.Trees.{base, offset, block_length};
 ghost use Rattle.rules.specs.Evaluation.{of_live};

@@ -1,4 +1,7 @@
 // Blocks of the observation memory, placed and removed: their records and their marks.
+
+#![tactic(auto)]
+
 ghost use Rattle.std.specs.Prelude.{◌≡◌, false, ◌+◌, ◌<◌, ◌≤◌};
 ghost use Rattle.rules.specs.Sizes.{name_count, cell_count};
 ghost use Rattle.rules.specs.Observation.{with_marks};

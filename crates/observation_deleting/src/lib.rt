@@ -1,4 +1,7 @@
 // Delete block, a change of the observation memory.
+
+#![tactic(auto)]
+
 ghost use Rattle.rules.specs.Observation.{delete_block};
 ghost use Rattle.rules.specs.Layout.{observation_of};
 ghost use Rattle.rules.proofs.Memory.MarkOwners.{MarksOwned};

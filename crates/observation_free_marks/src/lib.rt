@@ -1,4 +1,7 @@
 // The search for free marks in the observation memory.
+
+#![tactic(auto)]
+
 ghost use Rattle.std.specs.Prelude.{◌≡◌, ◌≢◌, ◌<◌, ◌≤◌, eqb, get_or};
 ghost use Rattle.rules.specs.Sizes.{cell_count};
 ghost use Rattle.rules.specs.Observation.{mark_run};

@@ -1,4 +1,7 @@
 // The observation memory's initialise: the mark that a pointer leads to becomes 1.
+
+#![tactic(auto)]
+
 ghost use Rattle.rules.specs.Observation.{mark_at, initialise};
 ghost use Rattle.rules.specs.Layout.{observation_of};
 ghost use Rattle.observation_blocks.specs.Changes.{ObservationBecomes, with_mark};

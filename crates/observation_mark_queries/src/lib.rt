@@ -1,4 +1,7 @@
 // The observation memory's queries by the mark that a pointer leads to: valid and initialised.
+
+#![tactic(auto)]
+
 ghost use Rattle.std.specs.Prelude.{◌≡◌};
 ghost use Rattle.rules.specs.Trees.{valid, initialised};
 ghost use Rattle.rules.specs.Evaluation.{is_valid, initialised_at};

@@ -1,4 +1,7 @@
 // The owner of each mark: the live block that has it, kept beside the observation memory.
+
+#![tactic(auto)]
+
 ghost use Rattle.std.specs.Prelude.{◌≡◌, suc, ◌+◌, ◌≤◌, length};
 ghost use Rattle.rules.specs.Sizes.{cell_count};
 ghost use Rattle.rules.specs.Memory.{fill};

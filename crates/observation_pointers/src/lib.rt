@@ -1,4 +1,7 @@
 // The mark that a pointer leads to.
+
+#![tactic(auto)]
+
 ghost use Rattle.std.specs.Prelude.{◌≡◌};
 ghost use Rattle.rules.specs.Memory.{located_in};
 ghost use Rattle.rules.specs.Observation.{locate_mark};

@@ -1,4 +1,7 @@
 // The observation memory's block records, read: 8 bytes each, in front of the marks.
+
+#![tactic(auto)]
+
 ghost use Rattle.std.specs.Prelude.{◌≡◌, ◌<◌};
 ghost use Rattle.rules.specs.Sizes.{name_count};
 ghost use Rattle.rules.specs.Observation.{record_of};

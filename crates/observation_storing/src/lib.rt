@@ -1,4 +1,7 @@
 // The observation memory's store block: a block goes to the lowest run of free marks that holds it.
+
+#![tactic(auto)]
+
 ghost use Rattle.std.specs.Prelude.{◌≡◌, ◌<◌, ◌≤◌};
 ghost use Rattle.rules.specs.Sizes.{cell_count};
 ghost use Rattle.rules.specs.Observation.{record_of, store_sized, store_block};

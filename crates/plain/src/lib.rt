@@ -1,4 +1,7 @@
 // The plain run of an accepted source table.
+
+#![tactic(auto)]
+
 ghost use Rattle.std.specs.Prelude.{◌≡◌, false};
 ghost use Rattle.rules.specs.Checker.{check, inputs_fault, memory_fault};
 ghost use Rattle.rules.specs.Nodes.{source_program, statement_at};

@@ -1,4 +1,7 @@
 // The plain run of a statement, by recursion on the record number; sequences and the turns of a while are loops.
+
+#![tactic(auto)]
+
 ghost use Rattle.std.specs.Prelude.{◌≡◌, ◌≢◌};
 ghost use Rattle.rules.specs.Kinds.{expression, predicate, source, target, sort_number};
 ghost use Rattle.rules.specs.Records.{kind_of, child_a};

@@ -1,4 +1,7 @@
 // The entry points that a C host links, documented in include/recorder.h; and demand 3 of them, which is `run_both`.
+
+#![tactic(auto)]
+
 ghost use Rattle.std.specs.Prelude.{◌≡◌};
 ghost use Rattle.rules.specs.Answers.{answer, checked_answer, check_source, check_target};
 ghost use Rattle.rules.specs.Answers.{translate_source, run_plain, run_watched};
@@ -93,7 +96,7 @@ pub extern "C" fn recorder_run_watched(
 }
 
 // The answers of a plain run and of a watched run.
-#[derive(Drop)]
+#[derive(Clone, Copy)]
 pub struct Both {
     pub plain: Answer,
     pub watched: Answer,

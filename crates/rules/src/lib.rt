@@ -1,5 +1,7 @@
 // The types that code and definitions share. Document 01 is quoted where it names them.
 
+#![tactic(auto)]
+
 // The numbers of `specs/Sizes.antt`, by the same names.
 pub const NAME_COUNT: usize = 4095;
 
@@ -56,14 +58,14 @@ pub const OWNERS_LENGTH: usize = CELL_COUNT + 1;
 pub type MarkOwners = [u16; OWNERS_LENGTH];
 
 // "a pointer with its block name and offset"; the offset may lie outside the block.
-#[derive(Drop)]
+#[derive(Clone, Copy)]
 pub struct Pointer {
     pub name: u16,
     pub offset: i64,
 }
 
 // "A value is an integer, a pointer with its block name and offset, or undefined."
-#[derive(Drop)]
+#[derive(Clone, Copy)]
 pub enum Value {
     Undefined,
     Integer(i64),
@@ -71,21 +73,21 @@ pub enum Value {
 }
 
 // What evaluating gives: a value, or the number of the ending.
-#[derive(Drop)]
+#[derive(Clone, Copy)]
 pub enum Evaluated {
     Value(Value),
     Stopped(u32),
 }
 
 // What finding a place gives: where it is, or the number of the ending.
-#[derive(Drop)]
+#[derive(Clone, Copy)]
 pub enum Found {
     Place(Pointer),
     Stopped(u32),
 }
 
 // "Conditions are integers, true when not 0".
-#[derive(Drop)]
+#[derive(Clone, Copy)]
 pub enum Test {
     Yes,
     No,
@@ -93,7 +95,7 @@ pub enum Test {
 }
 
 // What an operator on integers gives.
-#[derive(Drop)]
+#[derive(Clone, Copy)]
 pub enum Number {
     Is(i64),
     Overflow,
@@ -101,7 +103,7 @@ pub enum Number {
 }
 
 // Where a pointer leads: a cell, or none because its block is not live or its offset outside.
-#[derive(Drop)]
+#[derive(Clone, Copy)]
 pub enum Located {
     At(usize),
     Dead,
@@ -109,7 +111,7 @@ pub enum Located {
 }
 
 // The lowest of several numbers that pass a test, if one does.
-#[derive(Drop)]
+#[derive(Clone, Copy)]
 pub enum Search {
     At(usize),
     Nothing,
@@ -117,7 +119,7 @@ pub enum Search {
 
 // A block of the execution memory: "0 unused, 1 live and fixed, 2 live and freeable, 3 dead".
 // A live one has its first cell and its length.
-#[derive(Drop)]
+#[derive(Clone, Copy)]
 pub enum Block {
     Unused,
     Fixed(u16, u16),
@@ -126,7 +128,7 @@ pub enum Block {
 }
 
 // A block of the observation memory: "0 unused, 1 live, 2 dead".
-#[derive(Drop)]
+#[derive(Clone, Copy)]
 pub enum Recorded {
     Unused,
     Live(u16, u16),
@@ -134,21 +136,21 @@ pub enum Recorded {
 }
 
 // A cell is free, or has an owner and a value.
-#[derive(Drop)]
+#[derive(Clone, Copy)]
 pub enum Cell {
     Free,
     Holds(u16, Value),
 }
 
 // A temporary is "empty at first".
-#[derive(Drop)]
+#[derive(Clone, Copy)]
 pub enum Temporary {
     Empty,
     Holds(Value),
 }
 
 // What the checker says: a refusal has the number and the record.
-#[derive(Drop)]
+#[derive(Clone, Copy)]
 pub enum Checked {
     Accepted,
     Refused(u32, u32),
@@ -157,7 +159,7 @@ pub enum Checked {
 // What an entry point returns. `record` is the refused record, the source statement of an ending,
 // or a translation's record count.
 #[repr(C)]
-#[derive(Drop)]
+#[derive(Clone, Copy)]
 pub struct Answer {
     pub number: u32,
     pub record: u32,

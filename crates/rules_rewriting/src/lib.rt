@@ -1,1 +1,3 @@
 // Laws of programs rewritten: no code. They stand apart from `rules`, whose must-fail edits prove it again one by one.
+
+#![tactic(auto)]

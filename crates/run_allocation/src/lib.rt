@@ -1,4 +1,7 @@
 // A statement's new block, made first and then stored.
+
+#![tactic(auto)]
+
 ghost use Rattle.rules.specs.Memory.{freeable, make_block, store_new, new_of_size, allocated};
 ghost use Rattle.rules.specs.Layout.{memory_of};
 ghost use Rattle.memory_counts.specs.Counted.{Counted};

@@ -1,4 +1,7 @@
 // The buffers that a host lends: the rule of the inputs, and copies.
+
+#![tactic(auto)]
+
 ghost use Rattle.std.specs.Prelude.{◌≡◌, ◌≤◌, length};
 ghost use Rattle.rules.specs.Words.{put};
 ghost use Rattle.rules.specs.Checker.{inputs_fault};

@@ -1,4 +1,7 @@
 // The changes that a statement makes in the execution memory: a place takes a value, a block is freed.
+
+#![tactic(auto)]
+
 ghost use Rattle.rules.specs.Memory.{assigned, freed};
 ghost use Rattle.rules.specs.Layout.{memory_of};
 ghost use Rattle.memory_counts.specs.Counted.{Counted};

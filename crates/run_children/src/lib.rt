@@ -1,4 +1,7 @@
 // A statement's place, values, condition and parts, which are its children.
+
+#![tactic(auto)]
+
 ghost use Rattle.std.specs.Prelude.{◌≡◌};
 ghost use Rattle.rules.specs.Records.{child_a, child_b};
 ghost use Rattle.rules.specs.Kinds.{target, sort_number, expression, place};

@@ -1,4 +1,7 @@
 // The ending of a statement and a refusal, in numbers.
+
+#![tactic(auto)]
+
 ghost use Rattle.std.specs.Prelude.{◌≡◌, ◌<◌};
 ghost use Rattle.rules.specs.Answers.{answer};
 ghost use Rattle.run_endings.specs.Ending.{concluded, assert_number, fuel_in, after_turn, after_statement};
@@ -6,7 +9,7 @@ ghost use Rattle.run_endings.specs.Ending.{concluded, assert_number, fuel_in, af
 use rules::{Answer, Progress, Test};
 
 // How a statement comes out: the number of the ending and its statement, both 0 where it finished, and the fuel left.
-#[derive(Drop)]
+#[derive(Clone, Copy)]
 pub struct Ended {
     pub number: u32,
     pub statement: u32,

@@ -1,4 +1,7 @@
 // The block of each variable at the start of a run.
+
+#![tactic(auto)]
+
 ghost use Rattle.std.specs.Prelude.{◌≡◌};
 ghost use Rattle.rules.specs.Plain.{start_variables};
 ghost use Rattle.evaluation.specs.State.{variables_of};

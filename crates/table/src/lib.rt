@@ -1,4 +1,7 @@
 // The fields of a table's records.
+
+#![tactic(auto)]
+
 ghost use Rattle.std.specs.Prelude.{◌≡◌, ◌+◌, ◌≤◌};
 ghost use Rattle.rules.specs.Words.{word_at};
 ghost use Rattle.rules.specs.Records.{start, kind_of, mark_of, child_a, child_b, child_c, literal_of};

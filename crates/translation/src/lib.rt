@@ -1,4 +1,7 @@
 // A source table's translation: its record count, then its records, by recursion on the record number.
+
+#![tactic(auto)]
+
 ghost use Rattle.std.specs.Prelude.{◌≡◌, ◌+◌, ◌*◌, ◌≤◌, length};
 ghost use Rattle.rules.specs.Sizes.{source_limit};
 ghost use Rattle.rules.specs.Translation.{translation};

@@ -1,4 +1,7 @@
 // The records of an assertion: its terms and predicates by recursion on the record number, each at a level.
+
+#![tactic(auto)]
+
 ghost use Rattle.std.specs.Prelude.{◌⊎◌, ◌≡◌, true, ◌+◌, ◌*◌, ◌≤◌, length};
 ghost use Rattle.rules.specs.Sizes.{source_limit};
 ghost use Rattle.rules.specs.Records.{kind_of};

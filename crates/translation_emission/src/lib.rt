@@ -1,4 +1,7 @@
 // Records put into the output, child-first: one record, copies of expressions and places, and sequences.
+
+#![tactic(auto)]
+
 ghost use Rattle.std.specs.Prelude.{◌≡◌, ◌++◌, ◌+◌, ◌*◌, ◌≤◌, pos, length};
 ghost use Rattle.rules.specs.Sizes.{source_limit};
 ghost use Rattle.rules.specs.Words.{put, digits};

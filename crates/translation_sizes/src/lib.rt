@@ -1,4 +1,7 @@
 // How many records a record is translated to, by recursion on the record number.
+
+#![tactic(auto)]
+
 ghost use Rattle.std.specs.Prelude.{◌≡◌, ◌≤◌};
 ghost use Rattle.rules.specs.Sizes.{target_limit};
 ghost use Rattle.rules.specs.Emission.{tree_size};

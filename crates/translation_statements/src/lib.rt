@@ -1,4 +1,7 @@
 // The records of a statement that has no statement below it.
+
+#![tactic(auto)]
+
 ghost use Rattle.std.specs.Prelude.{◌≤◌};
 ghost use Rattle.rules.specs.Sizes.{source_limit};
 ghost use Rattle.rules.specs.Records.{kind_of};

@@ -1,4 +1,7 @@
 // Truths, tests and negation of values; no memory and no table.
+
+#![tactic(auto)]
+
 ghost use Rattle.std.specs.Prelude.{◌≡◌};
 ghost use Rattle.rules.specs.Evaluation.{opposite, condition};
 ghost use Rattle.rules.specs.Numbers.{truth_value, tested};

@@ -1,4 +1,7 @@
 // Where an offset leads in a live block, be it of cells or of marks.
+
+#![tactic(auto)]
+
 ghost use Rattle.std.specs.Prelude.{◌≡◌};
 ghost use Rattle.rules.specs.Memory.{located_in};
 ghost use Rattle.rules.specs.declared.{Recorded.Recorded};

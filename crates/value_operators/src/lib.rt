@@ -1,4 +1,7 @@
 // Operators on values: integers and pointers; no memory and no table. Who knows which blocks are live, asks first.
+
+#![tactic(auto)]
+
 ghost use Rattle.std.specs.Prelude.{◌≡◌};
 ghost use Rattle.rules.specs.Nodes.{operator_of};
 ghost use Rattle.rules.specs.Numbers.{same_pointer, numbered, on_integers, moved, on_pointer_and_integer, on_pointers};
@@ -8,7 +11,7 @@ ghost use Rattle.value_operators.specs.Blocks.{blocks_of, compared_by, every_liv
 use rules::{Evaluated, Number, Pointer, Value};
 
 // The blocks that an operator asks about, if it does.
-#[derive(Drop)]
+#[derive(Clone, Copy)]
 pub enum Compared {
     Blocks(u16, u16),
     Nothing,

@@ -1,4 +1,7 @@
 // The watched run of an accepted target table.
+
+#![tactic(auto)]
+
 ghost use Rattle.std.specs.Prelude.{◌≡◌, false};
 ghost use Rattle.rules.specs.Kinds.{target};
 ghost use Rattle.rules.specs.Checker.{check, inputs_fault, memory_fault, observation_fault};

@@ -1,4 +1,7 @@
 // The source statement that a target record came from, and what a branch tests.
+
+#![tactic(auto)]
+
 ghost use Rattle.std.specs.Prelude.{◌≡◌};
 ghost use Rattle.rules.specs.Kinds.{statement, target};
 ghost use Rattle.rules.specs.Records.{kind_of};

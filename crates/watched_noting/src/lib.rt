@@ -1,4 +1,7 @@
 // The statements of the target language that change the observation memory, and its start.
+
+#![tactic(auto)]
+
 ghost use Rattle.std.specs.Prelude.{◌≡◌, suc, ◌+◌, ◌<◌, ◌≤◌, replicate};
 ghost use Rattle.rules.specs.Sizes.{cell_count, temporary_count, input_limit};
 ghost use Rattle.rules.specs.Kinds.{statement, target};

@@ -1,4 +1,7 @@
 // The watched run of a statement, by recursion on the record number; sequences and the turns of a while are loops.
+
+#![tactic(auto)]
+
 ghost use Rattle.std.specs.Prelude.{◌≢◌, ◌≡◌};
 ghost use Rattle.rules.specs.Records.{kind_of};
 ghost use Rattle.rules.specs.Layout.{memory_of};

@@ -1,4 +1,7 @@
 // The statements of the target language that run no other.
+
+#![tactic(auto)]
+
 ghost use Rattle.std.specs.Prelude.{◌≡◌};
 ghost use Rattle.rules.specs.Kinds.{expression, statement, target, sort_number};
 ghost use Rattle.rules.specs.Records.{kind_of, mark_of, child_a, child_b};

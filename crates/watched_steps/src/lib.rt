@@ -1,5 +1,8 @@
 // The statements of the target language that give a temporary a value or test it. Each answers a number: 0 where it is
 // done, else its ending's.
+
+#![tactic(auto)]
+
 ghost use Rattle.std.specs.Prelude.{◌≡◌, suc, ◌+◌, ◌<◌};
 ghost use Rattle.rules.specs.Sizes.{temporary_count};
 ghost use Rattle.rules.specs.Kinds.{statement, target};
