@@ -38,6 +38,7 @@ fn same_pointer(p: Pointer, q: Pointer) -> bool
     }
 }
 
+#[tactic(auto, unfolding(rules::specs::Numbers::on_integers))]
 fn operate_integers(k: u8, x: i64, y: i64) -> Evaluated
     ensures { result ≡ on_integers (operator_of k) x y }
 {
@@ -67,6 +68,7 @@ fn move_pointer(p: Pointer, n: Number) -> Evaluated
     }
 }
 
+#[tactic(auto, unfolding(rules::specs::Numbers::on_pointers))]
 fn operate_pointers(k: u8, p: Pointer, q: Pointer) -> Evaluated
     ensures { result ≡ on_pointers every_live (operator_of k) p q }
 {
@@ -78,6 +80,7 @@ fn operate_pointers(k: u8, p: Pointer, q: Pointer) -> Evaluated
 }
 
 // A pointer is shifted by an integer, and takes no other operator with one.
+#[tactic(auto, unfolding(rules::specs::Numbers::on_pointer_and_integer))]
 fn shift(k: u8, p: Pointer, y: i64) -> Evaluated
     ensures { result ≡ on_pointer_and_integer (operator_of k) p y }
 {
@@ -117,6 +120,7 @@ pub fn find_compared(k: u8, a: Value, b: Value) -> Compared
 }
 
 // An operator on two values where the blocks that it asks about are live: 40 where it does not take their sorts.
+#[tactic(auto, unfolding(rules::specs::Numbers::operate))]
 pub fn operate(k: u8, a: Value, b: Value) -> Evaluated
     ensures { result ≡ operate every_live (operator_of k) a b }
 {
