@@ -61,8 +61,8 @@ module _ (m₀ : Memory) where
   plain-finished a ρ m f e h =
       subst (History m₀) (ap (λ (o : Outcome Memory). (ending o).state) e) (plain-history m₀ a ρ m f h)
 
-  plain-start : {b a : Statement} {σ ρ : Variables} {m₁ m : Memory} {g f : ℕ} → Starts plain_meaning b σ m₁ g a ρ m f
-      → History m₀ m → History m₀ m₁
+  plain-start : {b : Statement} {σ : Variables} {m₁ : Memory} {g : ℕ} {a : Statement} {ρ : Variables} {m : Memory} {f : ℕ}
+      → Starts plain_meaning b σ m₁ g a ρ m f → History m₀ m → History m₀ m₁
   plain-start steps.itself h = h
   plain-start (steps.first s) h = plain-start s h
   plain-start (steps.second {a = a} {ρ = ρ} {x = m} {f = f} e s) h = plain-start s (plain-finished a ρ m f e h)
@@ -78,8 +78,8 @@ module _ (m₀ : Memory) where
   watched-finished a ρ x f e h =
       subst (History m₀) (ap (λ (o : Outcome WatchedState). (ending o).state.memory) e) (watched-history m₀ a ρ x f h)
 
-  watched-start : {b a : TargetStatement} {σ ρ : Variables} {y x : WatchedState} {g f : ℕ}
-      → TargetStarts b σ y g a ρ x f → History m₀ x.memory → History m₀ y.memory
+  watched-start : {b : TargetStatement} {σ : Variables} {y : WatchedState} {g : ℕ} {a : TargetStatement} {ρ : Variables}
+      {x : WatchedState} {f : ℕ} → TargetStarts b σ y g a ρ x f → History m₀ x.memory → History m₀ y.memory
   watched-start steps.itself h = h
   watched-start (steps.first s) h = watched-start s h
   watched-start (steps.second {a = a} {ρ = ρ} {x = x} {f = f} e s) h = watched-start s (watched-finished a ρ x f e h)
