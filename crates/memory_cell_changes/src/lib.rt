@@ -23,6 +23,7 @@ fn write_parts(mem: &mut ExecutionMemory, i: usize, kind: u8, owner: u16, name: 
     byte_words::write_i64(&mut mem[..], at + 8, z);
 }
 
+#[tactic(auto, unfolding(rules::specs::Layout::cell_bytes))]
 fn write_cell(mem: &mut ExecutionMemory, i: usize, c: Cell)
     requires { i < cell_count }
     ensures bytes { mem.new ≡ put mem.old (cell_place i) (cell_bytes c) }

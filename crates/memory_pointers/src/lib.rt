@@ -21,6 +21,7 @@ fn within(b: Block, offset: i64) -> Located
 }
 
 // Where a pointer leads.
+#[tactic(auto, unfolding(rules::specs::Memory::locate))]
 pub fn locate(mem: &ExecutionMemory, p: Pointer) -> Located
     ensures { result ≡ locate (memory_of mem.now) p }
 {
