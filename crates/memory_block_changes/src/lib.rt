@@ -19,6 +19,7 @@ fn write_record(mem: &mut ExecutionMemory, k: usize, state: u8, first: u16, n: u
     byte_words::write_word(&mut mem[..], k * 8, 8, v);
 }
 
+#[tactic(auto, unfolding(rules::specs::Layout::block_bytes))]
 fn write_block(mem: &mut ExecutionMemory, k: usize, b: Block)
     requires { k < name_count }
     ensures bytes { mem.new ≡ put mem.old (block_place k) (block_bytes b) }

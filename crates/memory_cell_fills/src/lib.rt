@@ -27,6 +27,7 @@ fn fill(mem: &mut ExecutionMemory, first: u16, n: u16, kind: u8, owner: u16)
 }
 
 // They become undefined, with an owner.
+#[tactic(auto, unfolding(rules::specs::Layout::cell_bytes))]
 pub fn fill_undefined(mem: &mut ExecutionMemory, first: u16, n: u16, owner: u16)
     requires { first + n ≤ cell_count }
     ensures { Becomes mem.old mem.new
@@ -36,6 +37,7 @@ pub fn fill_undefined(mem: &mut ExecutionMemory, first: u16, n: u16, owner: u16)
 }
 
 // They become free.
+#[tactic(auto, unfolding(rules::specs::Layout::cell_bytes))]
 pub fn fill_free(mem: &mut ExecutionMemory, first: u16, n: u16)
     requires { first + n ≤ cell_count }
     ensures { Becomes mem.old mem.new
