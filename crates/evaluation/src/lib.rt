@@ -66,7 +66,7 @@ fn settle(table: &Table, n: usize, variables: &Variables, mem: &ExecutionMemory)
 }
 
 // The value of expression n. Literals and variables, which are most operands, take no call.
-#[cycle(evaluate_evaluate_operand_find_place)]
+#[cycle(evaluation)]
 pub fn evaluate_operand(
     table: &Table,
     n: usize,
@@ -92,7 +92,7 @@ pub fn evaluate_operand(
 }
 
 // The value of expression n. An operator's and a shift's operands are worked out alike: a shift's mark is 0.
-#[cycle(evaluate_evaluate_operand_find_place)]
+#[cycle(evaluation)]
 pub fn evaluate(
     table: &Table,
     n: usize,
@@ -152,7 +152,7 @@ pub fn evaluate(
 }
 
 // Where place n is.
-#[cycle(evaluate_evaluate_operand_find_place)]
+#[cycle(evaluation)]
 pub fn find_place(
     table: &Table,
     n: usize,
