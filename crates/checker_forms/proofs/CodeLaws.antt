@@ -193,7 +193,7 @@ module _ (l : Language) (k : ℕ) where
       ]) e) ∙ digits.2)
 
 -- ---- what a number asks that is the kind's entry
-coded : (l : Language) (k x : ℕ) → x ≡ get_or (codes l) k 0 → Coded l k x
+pub coded : (l : Language) (k x : ℕ) → x ≡ get_or (codes l) k 0 → Coded l k x
 coded l k x e =
     let asks : form_of l k ≡ decoded k x = asks_of l k ∙ ap (decoded k) (sym e) in
     let right : right_sort k x ≡ true = ap (right_sort k) e ∙ each-code right_sort l (every-sort l) (λ i. refl) k in

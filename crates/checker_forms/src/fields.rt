@@ -30,6 +30,7 @@ fn bounds_of(digit: usize) -> usize
     }
 }
 
+#[tactic(auto, unfolding(crate::specs::Codes::test_from))]
 fn number_fits(digit: usize, x: usize) -> bool
     ensures { result ≡ test_from digit x }
 {
@@ -44,6 +45,7 @@ fn number_fits(digit: usize, x: usize) -> bool
 }
 
 // Of a field for a child or for none.
+#[tactic(auto, unfolding(crate::specs::Codes::field_from))]
 pub fn child_there(digit: usize, x: usize) -> bool
     requires { digit < 6 }
     ensures { result ≡ field_fits (field_from digit) x }
@@ -54,6 +56,7 @@ pub fn child_there(digit: usize, x: usize) -> bool
     0 < x
 }
 
+#[tactic(auto, unfolding(crate::specs::Codes::field_from))]
 pub fn field_fits(digit: usize, x: usize) -> bool
     ensures { result ≡ field_fits (field_from digit) x }
 {
@@ -63,6 +66,7 @@ pub fn field_fits(digit: usize, x: usize) -> bool
     number_fits(digit, x)
 }
 
+#[tactic(auto, unfolding(crate::specs::Codes::literal_from))]
 pub fn literal_fits(digit: usize, z: i64) -> bool
     ensures { result ≡ literal_fits (literal_from digit) z }
 {

@@ -14,6 +14,7 @@ ghost use Rattle.checker_forms.specs.Codes.{language_of, Coded, field_from, fiel
 ghost use Rattle.checker_forms.specs.Codes.{ForChildren};
 
 // What a kind asks of a source record: a match, since the compiler would build an array anew at each call.
+#[tactic(auto, using(crate::proofs::CodeLaws::coded))]
 fn source_form(kind: u8) -> usize
     ensures { Coded source kind result }
 {
@@ -50,6 +51,7 @@ fn source_form(kind: u8) -> usize
 }
 
 // What a kind asks of a target record.
+#[tactic(auto, using(crate::proofs::CodeLaws::coded))]
 fn target_form(kind: u8) -> usize
     ensures { Coded target kind result }
 {
