@@ -9,7 +9,7 @@ use borrow.Author.Tests.{ltb-false, lt-ltb, le-ltb}
 use lib.Dec.{ltb}
 use lib.ListN.{length, get_or}
 use Rattle.rules.specs.Records.{record_count, kind_of, child_a, child_b, child_c}
-use Rattle.rules.specs.Kinds.{Language, Field, number}
+use Rattle.rules.specs.Kinds.{Language, Field}
 use Rattle.rules.specs.Checker.{record_fault, shape_fault, times_in, times_child_of}
 use Rattle.rules.proofs.Acceptance.ParentLaws.{Passed, IsParent, parent_above, has-parent, child-once, times-both}
 use Rattle.rules.proofs.Acceptance.CheckLaws.{each-passes}
