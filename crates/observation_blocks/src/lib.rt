@@ -37,6 +37,7 @@ fn clear_marks(obs: &mut ObservationMemory, first: u16, n: u16)
 }
 
 // A name's block is live at n marks from first on.
+#[tactic(auto, unfolding(rules::specs::Layout::recorded_bytes))]
 pub fn place_block(obs: &mut ObservationMemory, name: u16, first: u16, n: u16)
     requires { (0 < name) × (name ≤ name_count) }
     ensures { ObservationBecomes obs.old obs.new
@@ -46,6 +47,7 @@ pub fn place_block(obs: &mut ObservationMemory, name: u16, first: u16, n: u16)
 }
 
 // A name's block is dead, and n marks from first on are 0.
+#[tactic(auto, unfolding(rules::specs::Layout::recorded_bytes))]
 pub fn remove_block(obs: &mut ObservationMemory, name: u16, first: u16, n: u16)
     requires { (0 < name) × (name ≤ name_count) × (first + n ≤ cell_count) }
     ensures { ObservationBecomes obs.old obs.new
