@@ -45,6 +45,7 @@ pub fn is_live(obs: &ObservationMemory, name: u16) -> bool
     }
 }
 
+#[tactic(auto, unfolding(rules::specs::Evaluation::queried))]
 pub fn base_address(obs: &ObservationMemory, v: Value) -> Evaluated
     ensures { result ≡ query_observation base (observation_of obs.now) v }
 {
@@ -62,6 +63,7 @@ pub fn base_address(obs: &ObservationMemory, v: Value) -> Evaluated
     }
 }
 
+#[tactic(auto, unfolding(rules::specs::Evaluation::queried))]
 pub fn offset(obs: &ObservationMemory, v: Value) -> Evaluated
     ensures { result ≡ query_observation offset (observation_of obs.now) v }
 {
@@ -75,6 +77,7 @@ pub fn offset(obs: &ObservationMemory, v: Value) -> Evaluated
     }
 }
 
+#[tactic(auto, unfolding(rules::specs::Evaluation::queried))]
 pub fn block_length(obs: &ObservationMemory, v: Value) -> Evaluated
     ensures { result ≡ query_observation block_length (observation_of obs.now) v }
 {
