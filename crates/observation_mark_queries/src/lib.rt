@@ -40,6 +40,7 @@ fn is_marked_place(obs: &ObservationMemory, at: Located) -> bool
     }
 }
 
+#[tactic(auto, unfolding(rules::specs::Evaluation::queried))]
 pub fn is_valid(obs: &ObservationMemory, v: Value) -> Evaluated
     ensures { result ≡ query_observation valid (observation_of obs.now) v }
 {
@@ -50,6 +51,7 @@ pub fn is_valid(obs: &ObservationMemory, v: Value) -> Evaluated
     }
 }
 
+#[tactic(auto, unfolding(rules::specs::Evaluation::queried))]
 pub fn is_initialised(obs: &ObservationMemory, v: Value) -> Evaluated
     ensures { result ≡ query_observation initialised (observation_of obs.now) v }
 {
