@@ -163,7 +163,7 @@ fn assert(
 
 // Runs statement n. Of a sequence A runs, and B where A finished; as B may be one again, they are a loop. Only an A that
 // is a sequence is run by a call of its own.
-#[cycle(branch_enclose_repeat_run_run_inside_run_single)]
+#[cycle(run)]
 pub fn run(
     table: &Table,
     n: usize,
@@ -203,7 +203,7 @@ pub fn run(
 }
 
 // Runs statement n, which is no sequence.
-#[cycle(branch_enclose_repeat_run_run_inside_run_single)]
+#[cycle(run)]
 fn run_single(
     table: &Table,
     n: usize,
@@ -234,7 +234,7 @@ fn run_single(
 }
 
 // B where condition A is true, else C.
-#[cycle(branch_enclose_repeat_run_run_inside_run_single)]
+#[cycle(run)]
 fn branch(
     table: &Table,
     n: usize,
@@ -276,7 +276,7 @@ fn branch(
 }
 
 // B for as long as condition A is true. Each turn takes its unit of fuel before the condition.
-#[cycle(branch_enclose_repeat_run_run_inside_run_single)]
+#[cycle(run)]
 fn repeat(
     table: &Table,
     n: usize,
@@ -316,7 +316,7 @@ fn repeat(
 }
 
 // A, with a new block of one cell for the variable.
-#[cycle(branch_enclose_repeat_run_run_inside_run_single)]
+#[cycle(run)]
 fn enclose(
     table: &Table,
     n: usize,
@@ -341,7 +341,7 @@ fn enclose(
 }
 
 // Child A of statement n, its variable being block k, which then ends where A finished.
-#[cycle(branch_enclose_repeat_run_run_inside_run_single)]
+#[cycle(run)]
 fn run_inside(
     table: &Table,
     n: usize,

@@ -18,7 +18,7 @@ use run_endings::Ended;
 
 // Runs statement n. Of a sequence A runs, and B where A finished; as B may be one again, they are a loop. Only an A that
 // is a sequence is run by a call of its own.
-#[cycle(branch_enclose_repeat_run_run_inside_run_single)]
+#[cycle(run)]
 pub fn run(
     table: &Table,
     n: usize,
@@ -83,7 +83,7 @@ pub fn run(
 }
 
 // Runs statement n, which is no sequence.
-#[cycle(branch_enclose_repeat_run_run_inside_run_single)]
+#[cycle(run)]
 fn run_single(
     table: &Table,
     n: usize,
@@ -152,7 +152,7 @@ fn run_single(
 }
 
 // B or C, by a condition or a temporary.
-#[cycle(branch_enclose_repeat_run_run_inside_run_single)]
+#[cycle(run)]
 fn branch(
     table: &Table,
     n: usize,
@@ -206,7 +206,7 @@ fn branch(
 }
 
 // B for as long as condition A is true. Each turn takes its unit of fuel before the condition.
-#[cycle(branch_enclose_repeat_run_run_inside_run_single)]
+#[cycle(run)]
 fn repeat(
     table: &Table,
     n: usize,
@@ -272,7 +272,7 @@ fn repeat(
 }
 
 // A, with a new block of one cell for the variable.
-#[cycle(branch_enclose_repeat_run_run_inside_run_single)]
+#[cycle(run)]
 fn enclose(
     table: &Table,
     n: usize,
@@ -314,7 +314,7 @@ fn enclose(
 }
 
 // Child A of statement n, its variable being block k, which then ends where A finished.
-#[cycle(branch_enclose_repeat_run_run_inside_run_single)]
+#[cycle(run)]
 fn run_inside(
     table: &Table,
     n: usize,
