@@ -3,34 +3,35 @@
 
 #![tactic(auto)]
 
-ghost use Rattle.std.specs.Prelude.{◌≤◌, ◌<◌, length};
+ghost use Rattle.std.specs.Prelude.{◌≤◌, ◌<◌, length, IfOk};
+
+use std::io;
+use std::io::Read;
 
 // Reads the whole input and keeps what its listing needs of it: nothing at first, and `keep` promises the same with each
-// part. A proved loop has to end, and nothing says that an input does: so the turns are counted down, from a number that
-// no run uses up.
-fn read_input(kept: &mut [u8]) -> usize
+// part. A proved loop has to end, and nothing says that an input does: so the turns are counted, up to a number that no
+// run uses up.
+fn read_input(rt: &impl Input, kept: &mut [u8]) -> io::Result<usize>
     requires { 4128 ≤ length kept.old }
-    ensures { result < 4128 }
+    ensures { IfOk result (λ count. count < 4128) }
 {
-    let mut space = io::large_buffer();
-    let part: &mut [u8] = &mut space;
+    let mut reader = rt.reader();
+    let mut part = [0u8; 65536];
     let mut count: usize = 0;
-    let mut turns = u64::MAX;
-    while 0 < turns {
-        turns -= 1;
-        let got = io::read_full(0, part);
+    for _ in 0..u64::MAX {
+        let got = reader.read(&mut part)?;
         if got == 0 {
-            return count;
+            return Ok(count);
         }
         count = listing_input::keep(kept, count, &part[..got]);
     }
-    count
+    Ok(count)
 }
 
-fn main() {
+fn main(rt: HostRuntime) -> io::Result<()> {
     let mut kept = [0u8; 4128];
-    let count = read_input(&mut kept);
+    let count = read_input(&rt, &mut kept)?;
     let mut text = [0u8; 186368];
     let length = listing_input::write_kept(&kept, count, &mut text);
-    io::write_all(1, &text[..length]);
+    rt.write_all(&text[..length])
 }
