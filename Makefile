@@ -9,8 +9,9 @@ endif
 
 export CARGO_TARGET_DIR := $(CURDIR)/build/cargo
 
-LIBRARY := target/staticlib/librecorder.a
-LIBRARY_FILES := crates.txt $(shell find crates -type f -not -path '*/must-fail/*')
+LIBRARY := crates/recorder/out/librecorder.a
+LIBRARY_FILES := crates.txt $(shell find crates -type d \( -name out -o -name must-fail \) -prune -o -type f -print)
+LISTING := crates/listing/out/listing
 HOST_FLAGS := -std=c11 -D_POSIX_C_SOURCE=200809L -O2 -Wall -Wextra -Wpedantic -Wconversion -Wshadow -Werror
 EXAMPLE := examples/two-assertions.txt
 PREFIX := /usr/local
@@ -64,7 +65,8 @@ $(LIBRARY): $(LIBRARY_FILES)
 	@host/library.sh
 	@touch $@
 
-# The listing program.
-target/bin/listing: $(LIBRARY)
-	@rt check listing
-	@test -x $@ && touch $@
+# The listing program. `rt` builds a program where it runs it.
+$(LISTING): $(LIBRARY)
+	@cd crates/listing && { rt run <stdin 2>../../build/listing.log | cmp - stdout; } ||\
+	    { tail ../../build/listing.log >&2; exit 1; }
+	@touch $@

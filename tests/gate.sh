@@ -3,20 +3,11 @@
 # The last line is that of `rt ci`; any failure ends with another one and a status that is not 0.
 set -euo pipefail
 cd "$(dirname "$0")/.."
-room=
-trap '[ $? -eq 0 ] || echo "the gate failed"; [ -z "$room" ] || rm -rf "$room"' EXIT
+trap '[ $? -eq 0 ] || echo "the gate failed"' EXIT
 
 tests/documents.sh
 
-# Each check copies the crates below into a temporary folder, up to half a gigabyte: one in memory, where there is
-# room for it and a program may run, saves a sixth of a large crate's check.
-if [ "${TMPDIR:-/tmp}" = /tmp ] && [ "$(df --output=avail /dev/shm 2>/dev/null | tail -n 1)" -ge 4000000 ] 2>/dev/null &&
-    room=$(mktemp -d /dev/shm/gate.XXXXXX) && chmod 711 "$room" && cp /bin/true "$room" && "$room/true"; then
-    export TMPDIR=$room
-fi
-
-# Cargo's folder lies outside target/, which `rt ci` removes. The second implementation's own tests need no proof, and
-# the first crates to be proved leave a processor idle.
+# The second implementation's own tests need no proof, and the first crates to be proved leave a processor idle.
 export CARGO_TARGET_DIR="$PWD/build/cargo"
 mkdir -p build
 {
@@ -25,17 +16,24 @@ mkdir -p build
 } >build/reference.log 2>&1 &
 reference=$!
 
-# rt waits for a whole batch before the next: four at a time keep two processors busy beside the longest of them.
-export RT_JOBS="${RT_JOBS:-4}"
 rt ci 2>&1 | tee build/ci.log
 verdict=$(tail -n 1 build/ci.log)
 grep -qxE '[1-9][0-9]* passed, 0 failed' <<<"$verdict"
+# An edit that cannot be applied shows nothing of a contract: `rt ci` counts it as bad, and passes.
+edits=$(grep -oE '^rt: ok; .*must-fail edits: [1-9][0-9]* refused[^;]*' build/ci.log) || {
+    echo "rt ci does not say how many must-fail edits it tried"
+    exit 1
+}
+if grep -qE ', [1-9][0-9]* bad' <<<"$edits"; then
+    grep 'BAD EDIT' build/ci.log
+    exit 1
+fi
 
 wait "$reference" || { cat build/reference.log; exit 1; }
 cat build/reference.log
 
 # The listing program against stored texts, which the second implementation derives.
-tests/listing/compare.sh target/bin/listing
+tests/listing/compare.sh crates/listing/out/listing
 
 # The C host on the examples, its JSON and packed tables, each with the C compiler's sanitizers too; then null with
 # length 0, and what is installed. The host allocates nothing: leaks are looked for in the tests of its JSON alone.
@@ -49,8 +47,9 @@ host_tests() {
     tests/install.sh
 }
 
-# The compiled library against the second implementation, and the C host's tests beside it.
-rt staticlib recorder
+# The compiled library against the second implementation, and the C host's tests beside it. `rt ci` compiles programs
+# alone, and leaves the libraries' proofs to the commands that build on them.
+make --no-print-directory crates/recorder/out/librecorder.a
 host_tests >build/host.log 2>&1 &
 host=$!
 cargo test --release --offline --manifest-path tests/compare/Cargo.toml

@@ -4,12 +4,12 @@ set -euo pipefail
 cd "$(dirname "$0")/.."
 
 flags=(-std=c11 -g -O2 -Wall -Wextra -Wpedantic -Wconversion -Wshadow -Werror -Iinclude)
-make --silent target/staticlib/librecorder.a
+make --silent crates/recorder/out/librecorder.a
 mkdir -p build
 gcc "${flags[@]}" -fsanitize=address,undefined -fno-sanitize-recover=all -o build/null-checked tests/null.c \
-    target/staticlib/librecorder.a
+    crates/recorder/out/librecorder.a
 build/null-checked
-gcc "${flags[@]}" -o build/null tests/null.c target/staticlib/librecorder.a
+gcc "${flags[@]}" -o build/null tests/null.c crates/recorder/out/librecorder.a
 if command -v valgrind >/dev/null; then
     valgrind --quiet --error-exitcode=9 build/null
 else

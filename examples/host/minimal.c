@@ -1,7 +1,7 @@
 /* A whole host: checks a table, translates it, runs it plain and watched, and compares the two runs.
  *
  *     cc -std=c11 -o minimal minimal.c $(pkg-config --cflags --libs recorder)
- *     cc -std=c11 -o minimal minimal.c -Iinclude target/staticlib/librecorder.a
+ *     cc -std=c11 -o minimal minimal.c -Iinclude crates/recorder/out/librecorder.a
  *     recorder pack examples/P7.txt P7 && ./minimal P7
  */
 #include <recorder.h>

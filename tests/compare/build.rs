@@ -1,4 +1,4 @@
-//! Links the archive that `rt staticlib recorder` writes, and of the C host what is compared here.
+//! Links the archive that `rt lib` writes in crates/recorder, and of the C host what is compared here.
 
 use std::env;
 use std::path::{Path, PathBuf};
@@ -18,7 +18,7 @@ const HOST: [&str; 8] = [
 
 fn main() {
     let root = Path::new(env!("CARGO_MANIFEST_DIR")).join("../..");
-    let library = root.join("target/staticlib");
+    let library = root.join("crates/recorder/out");
     link(&library, "recorder");
     rerun_if_changed(&library.join("librecorder.a"));
     let out = PathBuf::from(env::var_os("OUT_DIR").expect("cargo sets OUT_DIR"));

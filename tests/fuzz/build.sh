@@ -4,7 +4,7 @@
 set -euo pipefail
 cd "$(dirname "$0")/../.."
 
-library=${1:-target/staticlib/librecorder.a}
+library=${1:-crates/recorder/out/librecorder.a}
 flags=(-std=c11 -D_DEFAULT_SOURCE -g -O1 -Wall -Wextra -Iinclude -Ihost)
 flags+=(-fsanitize=fuzzer,address,undefined -fno-sanitize-recover=all)
 mkdir -p build/fuzz/text build/fuzz/commands

@@ -9,12 +9,12 @@ const TABLES: u64 = 500;
 
 /// What the program prints for an input, which it gets in two pieces.
 fn printed(input: &[u8], cut: usize) -> String {
-    let program = concat!(env!("CARGO_MANIFEST_DIR"), "/../../target/bin/listing");
+    let program = concat!(env!("CARGO_MANIFEST_DIR"), "/../../crates/listing/out/listing");
     let mut child = Command::new(program)
         .stdin(Stdio::piped())
         .stdout(Stdio::piped())
         .spawn()
-        .expect("target/bin/listing runs");
+        .expect("crates/listing/out/listing runs");
     let mut stdin = child.stdin.take().unwrap();
     stdin.write_all(&input[..cut]).unwrap();
     stdin.write_all(&input[cut..]).unwrap();
