@@ -20,7 +20,10 @@ exists() {
     local name=$1
     case $name in
     *.rs::*) grep -A1 -Fx '#[test]' "tests/${name%%::*}" | grep -qxF "fn ${name##*::}() {" ;;
-    *::*) grep -qE "(fn ${name##*::}\(|pub use [a-z_:]+::${name##*::};)" "crates/${name%%::*}/src/"*.rt ;;
+    *::*)
+        grep -qE "(fn ${name##*::}\(|pub use [a-z_:]+::(\{([a-z_]+, )*)?${name##*::}((, [a-z_]+)*\})?;)" \
+            "crates/${name%%::*}/src/"*.rt
+        ;;
     crates/* | docs/* | tests/*) [ -e "$name" ] ;;
     reference/* | compare/*) [ -e "tests/$name" ] ;;
     */*.*) [ -e "crates/$name" ] ;;
