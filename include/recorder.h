@@ -1,9 +1,10 @@
 /* The watched recorder for a C host: two checkers, a translator, a plain run and a watched run.
  *
  * A channel program comes as a source table. The plain run runs it. The translator turns it into a target table, and
- * the watched run runs that with an observation memory beside the execution memory. Link target/staticlib/librecorder.a
- * (`rt check recorder && rt staticlib recorder` write it; x86-64), or after `make install` what `pkg-config --libs
- * recorder` says. examples/host/minimal.c is a whole host in sixty lines, host/ a program over this header.
+ * the watched run runs that with an observation memory beside the execution memory. Link
+ * crates/recorder/out/librecorder.a (`rt lib` in crates/recorder writes it; x86-64-v2), or after `make install` what
+ * `pkg-config --libs recorder` says. examples/host/minimal.c is a whole host in sixty lines, host/ a program over this
+ * header.
  *
  *     static uint8_t target[RECORDER_TRANSLATION_BYTES];
  *     static uint8_t memory[RECORDER_MEMORY_BYTES], observation[RECORDER_OBSERVATION_BYTES];
