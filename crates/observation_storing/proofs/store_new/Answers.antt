@@ -9,15 +9,15 @@ use Rattle.observation_storing.proofs.StoreLaws.{becomes-stored}
 use Rattle.observation_storing.proofs.store_new.Goals as goal
 
 pub overflow_cast-first : goal.overflow_cast-first
-overflow_cast-first c = omega (arith, run-bound _ c.args.n _ (sym c.in-At.ensures))
+overflow_cast-first c = omega (arith, run-bound _ _ _ (sym c.in-At.ensures))
 
 pub overflow_cast-first-in-At : goal.overflow_cast-first-in-At
-overflow_cast-first-in-At c = omega (arith, run-bound _ c.args.n _ (sym c.in-At.ensures))
+overflow_cast-first-in-At c = omega (arith, run-bound _ _ _ (sym c.in-At.ensures))
 
 pub take-requires : goal.take-requires
 take-requires c =
     let h = c.requires.0 in
-    (h.size, omega (arith, run-bound _ c.args.n _ (sym c.in-At.ensures)), h.within)
+    (h.size, omega (arith, run-bound _ _ _ (sym c.in-At.ensures)), h.within)
 
 pub returns-in-At-clause-answer : goal.returns-in-At-clause-answer
 returns-in-At-clause-answer c =
