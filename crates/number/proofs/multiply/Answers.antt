@@ -1,5 +1,5 @@
 -- Small factors: the product fits, and it is the product of the magnitudes.
-use Rattle.std.proofs.Common.{◌≡◌, ◌^◌, ◌≤◌, ◌<◌, ℤ, nat_abs, ◌*ℤ◌, w64, to_z, arith}
+use Rattle.std.proofs.Common.{◌^◌, ◌≤◌, ◌<◌, ℤ, nat_abs, ◌*ℤ◌, w64, arith}
 use native.Mathlib.Nat.{mul-le-mul}
 use mir.Val.{SFits}
 use mir.Facts.{to_z-of_z}
