@@ -1,10 +1,10 @@
 -- A tree is emitted by its children's emission and one record behind them.
-use Prim.Native.Nat.{ℕ, suc, ◌+◌, ◌*◌, ◌≤◌}
+use Prim.Native.Nat.{ℕ, ◌+◌, ◌*◌}
 use native.Mathlib.Omega.{arith}
 use native.Mathlib.Nat.{add-zero}
 use mathlib.Core.Path.{◌≡◌, refl, sym, ap, ◌∙◌, subst}
 use mathlib.Core.List.{List, [], ◌∷◌, ◌++◌, append_assoc, append-nil}
-use lib.IntN.{ℤ, pos}
+use lib.IntN.{ℤ}
 use lib.ListN.{length, length-append}
 use Rattle.rules.specs.Words.{put, flat}
 use Rattle.rules.specs.Records.{Record, record_bytes, table_bytes}
@@ -14,7 +14,7 @@ use Rattle.rules.specs.TargetTrees.{store_block, delete_block, initialise}
 use Rattle.rules.specs.Emission.{RecordTree, none, node, statement_tree, tree_size, root_number, field_c, emit}
 use Rattle.rules.proofs.Translation.RecordBytes.{length-record, table-length}
 use Rattle.rules.proofs.Translation.EmissionLaws.{length-emit, own_record}
-use Rattle.translation_emission.specs.Emission.{record_of, with_record, with_tree, Room, Emitted}
+use Rattle.translation_emission.specs.Emission.{record_of, with_record, Room, Emitted}
 use Rattle.translation_emission.proofs.Puts.{put_then, put-none}
 
 table-append : (rs ss : List Record) → table_bytes (rs ++ ss) ≡ table_bytes rs ++ table_bytes ss

@@ -1,7 +1,7 @@
 -- A record with copies of two records below it.
-use Prim.Native.Nat.{ℕ, suc, ◌+◌, ◌*◌, ◌≤◌, ◌<◌}
+use Prim.Native.Nat.{ℕ, ◌+◌, ◌*◌, ◌≤◌, ◌<◌}
 use native.Mathlib.Omega.{arith}
-use mathlib.Core.Logic.{◌⊎◌, inl, inr}
+use mathlib.Core.Logic.{inl, inr}
 use mathlib.Core.Path.{◌≡◌, refl, sym, ap, ◌∙◌, subst}
 use mathlib.Core.List.{List}
 use borrow.Author.Tests.{eq-eqb, ne_eqb}
@@ -18,7 +18,7 @@ use Rattle.translation_emission.specs.Emission.{sequence_tree}
 use Rattle.translation_sizes.specs.Trees.{copy_at}
 use Rattle.translation_emission.proofs.Emitting.{emitted-none, emitted-node, Some, some, root-some}
 use Rattle.rules.proofs.Translation.RecordSizes.{none-at}
-use Rattle.translation_emission.proofs.Copying.{CopyLaw, copied_at, copy-at}
+use Rattle.translation_emission.proofs.Copying.{CopyLaw, copy-at}
 
 -- a statement's number as a literal
 pub number-literal : (s : ℕ) → s ≤ source_limit → to_z w64 (of_z w64 (pos s)) ≡ pos s

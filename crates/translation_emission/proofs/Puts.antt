@@ -1,16 +1,15 @@
 -- Adjacent puts make one, and a record's bytes are put part by part.
-use Prim.Native.Nat.{ℕ, suc, ◌+◌, ◌*◌, ◌≤◌, ◌<◌}
+use Prim.Native.Nat.{ℕ, suc, ◌+◌, ◌≤◌, ◌<◌}
 use native.Mathlib.Omega.{arith}
 use native.Mathlib.Nat.{add-zero}
 use native.Mathlib.Numerals.{add-one}
 use mathlib.Core.Path.{◌≡◌, refl, sym, ap, ◌∙◌}
-use mathlib.Core.List.{List, [], ◌∷◌, ◌++◌, append_assoc, append-nil}
-use lib.IntN.{ℤ}
+use mathlib.Core.List.{List, [], ◌∷◌, ◌++◌, append-nil}
 use lib.ListN.{length, take, drop, set, length-set, length-append, take-append-drop}
 use lib.Seq.{set_split, append_snoc}
-use Rattle.rules.specs.Words.{put, digits, integer_bytes, flat}
-use Rattle.rules.specs.Records.{Record, record_bytes, table_bytes}
-use Rattle.rules.proofs.Lists.WordLaws.{length_digits, length-put, put-put}
+use Rattle.rules.specs.Words.{put, digits, integer_bytes}
+use Rattle.rules.specs.Records.{Record, record_bytes}
+use Rattle.rules.proofs.Lists.WordLaws.{length_digits, put-put}
 
 -- a put of some bytes, then of others where they end
 pub put_then : (l m o bs cs : List ℕ) (at next : ℕ) → next ≡ at + length bs
