@@ -3,18 +3,18 @@ use Prim.Native.Nat.{ℕ, suc, ◌≤◌, ◌<◌}
 use native.Mathlib.Omega.{arith}
 use mathlib.Core.Bool.{Bool, true, false, ◌||◌}
 use mathlib.Core.Logic.{inr}
-use mathlib.Core.Path.{◌≡◌, refl, sym, ap, ◌∙◌, subst}
+use mathlib.Core.Path.{◌≡◌, refl, ap, ◌∙◌, subst}
 use mathlib.Core.List.{List}
 use borrow.Author.Tests.{leb-true, eqb-true}
 use lib.Dec.{leb, eqb}
 use lib.IntN.{pos}
 use Rattle.rules.specs.Records.{kind_of, mark_of, child_a, child_b}
 use Rattle.rules.specs.Checker.{is_unary, is_binary}
-use Rattle.rules.specs.Kinds.{source, Sort, expression, place, term, predicate, statement, between}
+use Rattle.rules.specs.Kinds.{source, Sort, expression, term, predicate, between}
 use Rattle.rules.specs.Nodes.{SourceNode, expression_node, place_node, term_node, predicate_node, statement_node, junk}
 use Rattle.rules.specs.Nodes.{node_sort, as_term, as_predicate, operator_of, node_at}
 use Rattle.rules.specs.Emission.{operator_number, RecordTree, none, node, statement_tree}
-use Rattle.rules.specs.Translation.{embed, translate_term, translate_predicate}
+use Rattle.rules.specs.Translation.{translate_term, translate_predicate}
 use Rattle.rules.proofs.Acceptance.KindViews.{and_split, form_at, SourceKind, literal, read, address, operation, shifted}
 use Rattle.rules.proofs.Acceptance.KindViews.{variable, pointed, value, base, offset, block_length, combined, valid}
 use Rattle.rules.proofs.Acceptance.KindViews.{initialised}
@@ -27,7 +27,7 @@ use Rattle.translation_sizes.specs.Trees.{target_tree, tree_at, copy_at, sort_at
 use Rattle.translation_emission.specs.Emission.{Copied, sequence_tree, part_tree}
 use Rattle.translation_assertions.specs.Tests.{TermLevels, PredicateLevels, Levels, LevelsAt, last_kind, last_field}
 use Rattle.translation_emission.proofs.Copying.{operator-back}
-use Rattle.translation_emission.proofs.Emitting.{Some, some, statement-some}
+use Rattle.translation_emission.proofs.Emitting.{Some, statement-some}
 use Rattle.rules.proofs.Translation.RecordSizes.{none-at, SizeLaw, size-law, tree-as}
 
 levels-as-term : (y : SourceNode) (v : ℕ) → node_sort y ≡ 3 → TermLevels (as_term y) v → Levels y v

@@ -35,7 +35,7 @@ fn emit_branch(out: &mut [u8], at: usize, first: usize, yes: usize, mark: u8, s:
 }
 
 // A term or a predicate at a level, under statement s.
-#[cycle(emit_binary_emit_both_emit_either_emit_test_emit_unary)]
+#[cycle(emit)]
 fn emit_test(table: &[u8], n: usize, out: &mut [u8], at: usize, s: usize, level: u8) -> usize
     requires { Ready table.now n out.old at s level }
     ensures { Emitted out.old at (tree_at table.now n s level) out.new result }
@@ -55,7 +55,7 @@ fn emit_test(table: &[u8], n: usize, out: &mut [u8], at: usize, s: usize, level:
 }
 
 // One of a child: its records, then one of the kind `last` with `field` in field C.
-#[cycle(emit_binary_emit_both_emit_either_emit_test_emit_unary)]
+#[cycle(emit)]
 fn emit_unary(
     table: &[u8],
     n: usize,
@@ -77,7 +77,7 @@ fn emit_unary(
 }
 
 // An operation on two terms.
-#[cycle(emit_binary_emit_both_emit_either_emit_test_emit_unary)]
+#[cycle(emit)]
 fn emit_binary(table: &[u8], n: usize, out: &mut [u8], at: usize, s: usize, level: u8) -> usize
     requires { Ready table.now n out.old at s level
         × ((kind_of table.now n ≡ 24) ⊎ (kind_of table.now n ≡ 32)) }
@@ -94,7 +94,7 @@ fn emit_binary(table: &[u8], n: usize, out: &mut [u8], at: usize, s: usize, leve
 }
 
 // A and B: B only where A is true.
-#[cycle(emit_binary_emit_both_emit_either_emit_test_emit_unary)]
+#[cycle(emit)]
 fn emit_both(table: &[u8], n: usize, out: &mut [u8], at: usize, s: usize, level: u8) -> usize
     requires { Ready table.now n out.old at s level × (kind_of table.now n ≡ 34) }
     ensures { Emitted out.old at (tree_at table.now n s level) out.new result }
@@ -108,7 +108,7 @@ fn emit_both(table: &[u8], n: usize, out: &mut [u8], at: usize, s: usize, level:
 }
 
 // A or B: B only where A is false.
-#[cycle(emit_binary_emit_both_emit_either_emit_test_emit_unary)]
+#[cycle(emit)]
 fn emit_either(table: &[u8], n: usize, out: &mut [u8], at: usize, s: usize, level: u8) -> usize
     requires { Ready table.now n out.old at s level × (kind_of table.now n ≡ 35) }
     ensures { Emitted out.old at (tree_at table.now n s level) out.new result }
