@@ -75,7 +75,7 @@ fn emit_enclosing(out: &mut [u8], at: usize, first: usize, variable: u8, s: usiz
 }
 
 // A statement.
-#[cycle(emit_branch_emit_inside_emit_let_emit_repeat_emit_statement_emit_then)]
+#[cycle(emit)]
 fn emit_statement(table: &[u8], n: usize, out: &mut [u8], at: usize) -> usize
     requires { (StatementAt table.now n) × (Room out.old at (copy_at table.now n)) }
     ensures { Emitted out.old at (copy_at table.now n) out.new result }
@@ -90,7 +90,7 @@ fn emit_statement(table: &[u8], n: usize, out: &mut [u8], at: usize) -> usize
 }
 
 // A, then B.
-#[cycle(emit_branch_emit_inside_emit_let_emit_repeat_emit_statement_emit_then)]
+#[cycle(emit)]
 fn emit_then(table: &[u8], n: usize, out: &mut [u8], at: usize) -> usize
     requires { (StatementAt table.now n) × ((kind_of table.now n ≡ 44) × (Room out.old at (copy_at table.now n))) }
     ensures { Emitted out.old at (copy_at table.now n) out.new result }
@@ -103,7 +103,7 @@ fn emit_then(table: &[u8], n: usize, out: &mut [u8], at: usize) -> usize
 }
 
 // B where condition A is true, else C.
-#[cycle(emit_branch_emit_inside_emit_let_emit_repeat_emit_statement_emit_then)]
+#[cycle(emit)]
 fn emit_branch(table: &[u8], n: usize, out: &mut [u8], at: usize) -> usize
     requires { (StatementAt table.now n) × ((kind_of table.now n ≡ 45) × (Room out.old at (copy_at table.now n))) }
     ensures { Emitted out.old at (copy_at table.now n) out.new result }
@@ -118,7 +118,7 @@ fn emit_branch(table: &[u8], n: usize, out: &mut [u8], at: usize) -> usize
 }
 
 // B for as long as condition A is true.
-#[cycle(emit_branch_emit_inside_emit_let_emit_repeat_emit_statement_emit_then)]
+#[cycle(emit)]
 fn emit_repeat(table: &[u8], n: usize, out: &mut [u8], at: usize) -> usize
     requires { (StatementAt table.now n) × ((kind_of table.now n ≡ 46) × (Room out.old at (copy_at table.now n))) }
     ensures { Emitted out.old at (copy_at table.now n) out.new result }
@@ -131,7 +131,7 @@ fn emit_repeat(table: &[u8], n: usize, out: &mut [u8], at: usize) -> usize
 }
 
 // A, with a new block of one cell for the variable.
-#[cycle(emit_branch_emit_inside_emit_let_emit_repeat_emit_statement_emit_then)]
+#[cycle(emit)]
 fn emit_let(table: &[u8], n: usize, out: &mut [u8], at: usize) -> usize
     requires { (StatementAt table.now n) × ((kind_of table.now n ≡ 47) × (Room out.old at (copy_at table.now n))) }
     ensures { Emitted out.old at (copy_at table.now n) out.new result }
@@ -143,7 +143,7 @@ fn emit_let(table: &[u8], n: usize, out: &mut [u8], at: usize) -> usize
 }
 
 // Child A of statement n, then the end of its variable's block.
-#[cycle(emit_branch_emit_inside_emit_let_emit_repeat_emit_statement_emit_then)]
+#[cycle(emit)]
 fn emit_inside(table: &[u8], n: usize, out: &mut [u8], at: usize, variable: u8) -> usize
     requires { (StatementAt table.now n) × ((kind_of table.now n ≡ 47) × (Room out.old at (inside_tree table.now n variable))) }
     ensures { Emitted out.old at (inside_tree table.now n variable) out.new result }
