@@ -3,19 +3,18 @@ use Prim.Native.Nat.{ℕ}
 use mathlib.Core.List.{List}
 use mathlib.Core.Logic.{◌≢◌}
 use mathlib.Core.Path.{◌≡◌, refl, sym, ap, ◌∙◌, subst}
-use Rattle.rules.specs.Memory.{Memory, changed}
+use Rattle.rules.specs.Memory.{Memory}
 use Rattle.rules.specs.Evaluation.{Variables}
 use Rattle.rules.specs.Observation.{Observation}
 use Rattle.rules.specs.TargetTrees.{TargetStatement}
 use Rattle.rules.specs.Flow.{Outcome, finished, ended, Ending, ending, next}
 use Rattle.rules.specs.Watched.{WatchedState, watching}
-use Rattle.rules.specs.Layout.{memory_of, observation_of, observation_image}
+use Rattle.rules.specs.Layout.{observation_of, observation_image}
 use Rattle.rules.specs.Answers.{watched_endings}
 use Rattle.rules.proofs.Lists.Among.{Among, among-not}
 use Rattle.rules.proofs.Runs.Endings.{EndsAmong, watch-endings}
 use Rattle.memory_cells.specs.Changes.{Becomes, Exact}
 use Rattle.observation.specs.Calls.{ObservationBecomes}
-use Rattle.evaluation_temporaries.specs.Bytes.{temporaries_of}
 use Rattle.run_endings.specs.declared.Ended.{Ended}
 use Rattle.run_endings.specs.Ending.{result}
 use Rattle.run_changes.proofs.ChangeLaws.{becomes-same}

@@ -1,5 +1,5 @@
 -- Each kind's statement does what its function answered.
-use Rattle.std.proofs.Common.{◌<◌, ◌≤◌, ◌⊎◌, inl, inr, refl, sym, ap, ◌∙◌, arith}
+use Rattle.std.proofs.Common.{◌<◌, ◌≤◌, ◌⊎◌, ◌≡◌, inl, inr, refl, sym, ap, ◌∙◌, arith, rules}
 use Rattle.rules.specs.Records.{kind_of, mark_of, child_a, child_b}
 use Rattle.rules.specs.Evaluation.{condition}
 use Rattle.rules.specs.Watched.{held_in}
@@ -30,14 +30,12 @@ note_block-requires c =
     let h = c.requires.0.is in
     let e = c.kind.ensures in
     let out : (kind_of T n < 63) ⊎ (66 ≤ kind_of T n) =
-        elim c.in_default.branch [
-          in_default-via-then-this-lt63 w ↦ inl (omega arith)
-        | in_default-via-else-this-lt63+else-this-lt66 w ↦ inr (omega arith)
-        ]
+    elim c.in_default.branch [
+      | in_default-via-then-this-lt63 w ↦ inl (omega arith)
+      | in_default-via-else-this-lt63+else-this-lt66 w ↦ inr (omega arith)
+    ]
     in
-    let q = last-act T n h c.requires.1 refl
-    ((((((((e, λ d. omega arith), λ d. omega arith), λ d. omega arith), λ d. omega arith), λ d. omega arith),
-    λ d. omega arith), λ d. omega arith), λ d. omega arith) out in
+    let q = last-act {X = T ≡ T} T n h c.requires.1 refl (search rules) out in
     (h, q, c.requires.2.owned)
 
 pub returns-in-40-clause-outcome : goal.returns-in-40-clause-outcome
@@ -170,13 +168,11 @@ returns-in_default-clause-outcome c =
     let h = c.requires.0.is in
     let e = c.kind.ensures in
     let out : (kind_of T n < 63) ⊎ (66 ≤ kind_of T n) =
-        elim c.in_default.branch [
-          in_default-via-then-this-lt63 w ↦ inl (omega arith)
-        | in_default-via-else-this-lt63+else-this-lt66 w ↦ inr (omega arith)
-        ]
+    elim c.in_default.branch [
+      | in_default-via-then-this-lt63 w ↦ inl (omega arith)
+      | in_default-via-else-this-lt63+else-this-lt66 w ↦ inr (omega arith)
+    ]
     in
-    let q = last-act T n h c.requires.1 refl
-    ((((((((e, λ d. omega arith), λ d. omega arith), λ d. omega arith), λ d. omega arith), λ d. omega arith),
-    λ d. omega arith), λ d. omega arith), λ d. omega arith) out in
+    let q = last-act {X = T ≡ T} T n h c.requires.1 refl (search rules) out in
     acts-observed (target_statement_at T n) ρ c.args.mem.now c.args.obs.now c.args.temporaries.now (number_at T n)
     c.note_block.result _ _ (λ f. watch-note T n h ρ (state_of x) f q) c.note_block.ensures.observation
