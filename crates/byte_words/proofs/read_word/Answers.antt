@@ -1,7 +1,6 @@
-use Rattle.std.proofs.Common.{◌≡◌, ◌+◌, ◌-◌, ◌^◌, ◌≤◌, ◌<◌, suc, sym, arith}
+use Rattle.std.proofs.Common.{◌≡◌, ◌+◌, ◌-◌, ◌≤◌, ◌<◌, suc, sym, arith}
 use lib.Dec.{lit<}
-use lib.ListN.{get_or}
-use Rattle.rules.specs.Words.{little, part, word_at}
+use Rattle.rules.specs.Words.{word_at}
 use Rattle.byte_words.proofs.Laws.{little-nil, read_more, small_power}
 use Rattle.byte_words.proofs.read_word.Goals as goal
 

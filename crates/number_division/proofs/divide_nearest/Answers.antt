@@ -1,5 +1,5 @@
 -- The three answers, first over ℤ.
-use Rattle.std.proofs.Common.{◌≡◌, ℕ, ℤ, pos, nat_abs, ◌+ℤ◌, ◌-ℤ◌, ◌+◌, ◌/◌, ◌%◌, Bool, true, false, cond, refl, sym, ap, ◌∙◌, w64, of_z, to_z, arith}
+use Rattle.std.proofs.Common.{◌≡◌, ℕ, ℤ, pos, nat_abs, ◌+ℤ◌, ◌-ℤ◌, ◌+◌, ◌/◌, ◌%◌, Bool, true, false, cond, refl, sym, ap, ◌∙◌, w64, of_z}
 use lib.Signed.{quot_z, rem_z, mag_rem}
 use mir.Val.{SFits}
 use mir.Facts.{to_z-of_z}
@@ -67,10 +67,10 @@ returns-then-a-b c =
     let z : b ≡ pos 0 → ⊥ = λ e. c.if-b-eq0.false (ap (of_z w64) e) in
     let g : SFits w64 (quot_z a b) = quotient_fits _ _ ra z (λ e. c.if-b-eqminus1.false (ap (of_z w64) e)) in
     let t : c.rounds_up.result ≡ up-test a b =
-        simp (to_z-of_z ra, to_z-of_z rb, to_z-of_z g, to_z-of_z (remainder-fits a b ra)) at c.rounds_up.ensures in
+    simp (to_z-of_z ra, to_z-of_z rb, to_z-of_z g, to_z-of_z (remainder-fits a b ra)) at c.rounds_up.ensures in
     let up : up-test a b ≡ true = sym t ∙ c.if-rounds_up.true in
     let s : signs_differ a b ≡ true =
-        simp (to_z-of_z ra, to_z-of_z rb, negative-test a, negative-test b) at c.if-a-b.true in
+    simp (to_z-of_z ra, to_z-of_z rb, negative-test a, negative-test b) at c.if-a-b.true in
     simp (to_z-of_z ra, to_z-of_z rb, to_z-of_z g, lower a b ra z up s, to_z-of_z (away-fits a b ra z up))
     (away a b ra z up)
 
@@ -83,10 +83,10 @@ returns-else-a-b c =
     let z : b ≡ pos 0 → ⊥ = λ e. c.if-b-eq0.false (ap (of_z w64) e) in
     let g : SFits w64 (quot_z a b) = quotient_fits _ _ ra z (λ e. c.if-b-eqminus1.false (ap (of_z w64) e)) in
     let t : c.rounds_up.result ≡ up-test a b =
-        simp (to_z-of_z ra, to_z-of_z rb, to_z-of_z g, to_z-of_z (remainder-fits a b ra)) at c.rounds_up.ensures in
+    simp (to_z-of_z ra, to_z-of_z rb, to_z-of_z g, to_z-of_z (remainder-fits a b ra)) at c.rounds_up.ensures in
     let up : up-test a b ≡ true = sym t ∙ c.if-rounds_up.true in
     let s : signs_differ a b ≡ false =
-        simp (to_z-of_z ra, to_z-of_z rb, negative-test a, negative-test b) at c.if-a-b.false in
+    simp (to_z-of_z ra, to_z-of_z rb, negative-test a, negative-test b) at c.if-a-b.false in
     simp (to_z-of_z ra, to_z-of_z rb, to_z-of_z g, higher a b ra z up s, to_z-of_z (away-fits a b ra z up))
     (away a b ra z up)
 
@@ -99,5 +99,5 @@ returns-else-rounds_up c =
     let z : b ≡ pos 0 → ⊥ = λ e. c.if-b-eq0.false (ap (of_z w64) e) in
     let g : SFits w64 (quot_z a b) = quotient_fits _ _ ra z (λ e. c.if-b-eqminus1.false (ap (of_z w64) e)) in
     let t : c.rounds_up.result ≡ up-test a b =
-        simp (to_z-of_z ra, to_z-of_z rb, to_z-of_z g, to_z-of_z (remainder-fits a b ra)) at c.rounds_up.ensures in
+    simp (to_z-of_z ra, to_z-of_z rb, to_z-of_z g, to_z-of_z (remainder-fits a b ra)) at c.rounds_up.ensures in
     simp (to_z-of_z ra, to_z-of_z rb, to_z-of_z g) (stays a b ra z g (sym t ∙ c.if-rounds_up.false))
