@@ -48,7 +48,8 @@ host_tests() {
 }
 
 # The compiled library against the second implementation, and the C host's tests beside it. `rt ci` compiles programs
-# alone, and leaves the libraries' proofs to the commands that build on them.
+# alone and keeps what it proved to itself: the crates are proved once more here, side by side.
+rt all check --jobs "$(nproc)" >build/check.log 2>&1 || { tail build/check.log; exit 1; }
 make --no-print-directory crates/recorder/out/librecorder.a
 host_tests >build/host.log 2>&1 &
 host=$!
