@@ -67,6 +67,7 @@ $(LIBRARY): $(LIBRARY_FILES)
 
 # The listing program. `rt` builds a program where it runs it.
 $(LISTING): $(LIBRARY)
+	@mkdir -p build
 	@cd crates/listing && { rt run <stdin 2>../../build/listing.log | cmp - stdout; } ||\
 	    { tail ../../build/listing.log >&2; exit 1; }
 	@touch $@
