@@ -2,71 +2,39 @@
 
 #include <inttypes.h>
 #include <stdio.h>
+#include <string.h>
 
-#include "files.h"
-#include "json.h"
-#include "phrase.h"
-#include "record.h"
+#include "memories.h"
 #include "recorder.h"
 #include "status.h"
 #include "table.h"
 #include "words.h"
 
-/* The buffers that the host owns and lends. Nothing is allocated. */
+/* The buffers that the host owns and lends. Nothing else is allocated. */
 static struct table read_in;
 static uint8_t target[LENT_ROOM];
+static uint8_t plain_memory[LENT_ROOM];
+static uint8_t watched_memory[LENT_ROOM];
+static uint8_t observation[LENT_ROOM];
 
-/* What stands before a line where several files are given: the file's name. */
-static struct phrase in_front(const struct arguments *given, const char *file)
+static void tell_records(const char *what, size_t length)
 {
-    struct phrase name = {0};
-    if (given->word_count > 1)
-        phrase_add(&name, "%s: ", file);
-    return name;
+    size_t records = length / RECORDER_RECORD_BYTES;
+    printf("%s, %zu record%s\n", what, records, records == 1 ? "" : "s");
 }
 
-/* Runs a command on each file; the status is the worst, which is the greatest. */
-static int for_each(const struct arguments *given, int (*one)(const struct arguments *given, const char *file))
+static int check(bool is_target)
 {
-    int worst = STATUS_DONE;
-    for (size_t at = 0; at < given->word_count; at++) {
-        int status = table_read(given->words[at], given->format, &read_in);
-        if (status == STATUS_DONE)
-            status = one(given, given->words[at]);
-        worst = status > worst ? status : worst;
-    }
-    return worst;
+    recorder_answer answer = is_target ? recorder_check_target(read_in.bytes, read_in.length)
+                                       : recorder_check_source(read_in.bytes, read_in.length);
+    if (answer.number == RECORDER_DONE)
+        tell_records("check: accepted", read_in.length);
+    return tell_refusal("check", answer);
 }
 
-static void tell_records(FILE *to, const char *what, uint32_t records)
+static recorder_answer translate(size_t output_length)
 {
-    fprintf(to, "%s, %" PRIu32 " record%s\n", what, records, records == 1 ? "" : "s");
-}
-
-static int check_one(const struct arguments *given, const char *file)
-{
-    recorder_answer answer = given->target ? recorder_check_target(read_in.bytes, read_in.length)
-                                           : recorder_check_source(read_in.bytes, read_in.length);
-    if (given->json) {
-        struct json json = json_begin(stdout, "check");
-        json_text(&json, "file", file);
-        json_text(&json, "language", given->target ? "target" : "source");
-        json_number(&json, "records", table_records(&read_in));
-        json_checked(&json, "accepted", answer, &read_in, given->target);
-        json_end(&json);
-        return (int)answer.number;
-    }
-    struct phrase front = in_front(given, file);
-    if (answer.number != RECORDER_DONE)
-        return tell_refusal(stdout, front.text, "check", answer, &read_in, given->target);
-    phrase_add(&front, "check: accepted");
-    tell_records(stdout, front.text, table_records(&read_in));
-    return STATUS_DONE;
-}
-
-int check_command(const struct arguments *given)
-{
-    return for_each(given, check_one);
+    return recorder_translate(read_in.bytes, read_in.length, target, output_length);
 }
 
 /* The bytes of a translation; none where it was refused. */
@@ -75,123 +43,134 @@ static size_t length_of(recorder_answer translated)
     return translated.number == RECORDER_DONE ? (size_t)translated.record * RECORDER_RECORD_BYTES : 0;
 }
 
-static void list_as_json(const char *file, recorder_answer answer)
+static int tell_translation(recorder_answer answer)
 {
-    for (uint32_t number = 1; number * RECORDER_RECORD_BYTES <= length_of(answer); number++) {
-        struct record record = record_at(target, number);
-        struct json json = json_begin(stdout, "list");
-        json_text(&json, "file", file);
-        json_number(&json, "number", number);
-        json_number(&json, "kind", record.kind);
-        json_number(&json, "mark", record.mark);
-        json_number(&json, "a", record.a);
-        json_number(&json, "b", record.b);
-        json_number(&json, "c", record.c);
-        json_number(&json, "literal", record.literal);
-        json_end(&json);
-    }
     if (answer.number == RECORDER_DONE)
-        return;
-    struct json json = json_begin(stdout, "list");
-    json_text(&json, "file", file);
-    json_checked(&json, "translated", answer, &read_in, false);
-    json_end(&json);
+        tell_records("translation: done", length_of(answer));
+    return tell_refusal("translation", answer);
 }
 
-static int list_one(const struct arguments *given, const char *file)
+static recorder_answer run_plain(const struct arguments *given)
 {
-    recorder_answer answer = recorder_translate(read_in.bytes, read_in.length, target, sizeof target);
-    struct phrase front = in_front(given, file);
-    if (given->json)
-        list_as_json(file, answer);
-    else if (answer.number != RECORDER_DONE)
-        printf("%s%" PRIu32 " %" PRIu32 "\n", front.text, answer.number, answer.record);
-    else
-        table_print(stdout, front.text, target, length_of(answer));
-    return (int)answer.number;
+    return recorder_run_plain(read_in.bytes, read_in.length, given->inputs, given->inputs_length, given->fuel,
+                              plain_memory, given->memory_length);
 }
 
-int list_command(const struct arguments *given)
+static recorder_answer run_watched(const uint8_t *bytes, size_t length, const struct arguments *given)
 {
-    return for_each(given, list_one);
+    return recorder_run_watched(bytes, length, given->inputs, given->inputs_length, given->fuel, watched_memory,
+                                given->memory_length, observation, given->observation_length);
 }
 
-/* The second word of a command, where it has one. */
-static const char *output_of(const struct arguments *given)
+int check_command(const struct arguments *given)
 {
-    return given->word_count < 2 ? NULL : given->words[1];
-}
-
-static void tell_translation(const struct arguments *given, recorder_answer answer)
-{
-    FILE *to = status_lines(output_of(given));
-    if (given->json) {
-        struct json json = json_begin(to, "translate");
-        json_text(&json, "file", given->words[0]);
-        json_checked(&json, "translated", answer, &read_in, false);
-        json_end(&json);
-    } else if (answer.number == RECORDER_DONE) {
-        tell_records(to, "translation: done", answer.record);
-    } else {
-        tell_refusal(to, "", "translation", answer, &read_in, false);
-    }
+    int status = table_read(given->file, &read_in);
+    return status != STATUS_DONE ? status : check(given->target);
 }
 
 int translate_command(const struct arguments *given)
 {
-    int status = table_read(given->words[0], given->format, &read_in);
+    int status = table_read(given->file, &read_in);
     if (status != STATUS_DONE)
         return status;
-    recorder_answer answer = recorder_translate(read_in.bytes, read_in.length, target, given->output_length);
-    if (answer.number == RECORDER_DONE && output_of(given) != NULL)
-        status = bytes_write(output_of(given), given->force, target, length_of(answer));
+    recorder_answer answer = translate(given->output_length);
+    status = tell_translation(answer);
+    if (status != STATUS_DONE || given->output == NULL)
+        return status;
+    return table_write(given->output, target, length_of(answer));
+}
+
+int list_command(const struct arguments *given)
+{
+    int status = table_read(given->file, &read_in);
     if (status != STATUS_DONE)
         return status;
-    tell_translation(given, answer);
+    recorder_answer answer = translate(LENT_ROOM);
+    if (answer.number != RECORDER_DONE)
+        printf("%" PRIu32 " %" PRIu32 "\n", answer.number, answer.record);
+    table_print(target, length_of(answer));
     return (int)answer.number;
 }
 
-/* What pack and unpack tell, where it is asked for. */
-static int tell_written(const struct arguments *given, const char *command, int status)
+int run_command(const struct arguments *given)
 {
-    if (status != STATUS_DONE || !given->json)
+    int status = table_read(given->file, &read_in);
+    if (status != STATUS_DONE)
         return status;
-    struct json json = json_begin(status_lines(output_of(given)), command);
-    json_text(&json, "file", given->words[0]);
-    json_text(&json, "output", output_of(given));
-    json_number(&json, "records", table_records(&read_in));
-    json_end(&json);
+    recorder_answer answer = run_plain(given);
+    if (!is_refusal(answer))
+        print_execution_memory(plain_memory);
+    return tell_run("plain run", answer, read_in.bytes, plain_memory);
+}
+
+int watch_command(const struct arguments *given)
+{
+    int status = table_read(given->file, &read_in);
+    if (status != STATUS_DONE)
+        return status;
+    const uint8_t *bytes = read_in.bytes;
+    size_t length = read_in.length;
+    if (!given->target) {
+        recorder_answer translated = translate(LENT_ROOM);
+        if (translated.number != RECORDER_DONE)
+            return tell_translation(translated);
+        bytes = target;
+        length = length_of(translated);
+    }
+    recorder_answer answer = run_watched(bytes, length, given);
+    if (!is_refusal(answer)) {
+        print_execution_memory(watched_memory);
+        print_observation_memory(observation);
+    }
+    return tell_run("watched run", answer, given->target ? NULL : read_in.bytes, watched_memory);
+}
+
+/* Both runs of the table and of its translation, which must not part. */
+static int run_both(const struct arguments *given, size_t target_length)
+{
+    recorder_answer plain = run_plain(given);
+    tell_run("plain run", plain, read_in.bytes, plain_memory);
+    if (is_refusal(plain))
+        return (int)plain.number;
+    recorder_answer watched = run_watched(target, target_length, given);
+    tell_run("watched run", watched, read_in.bytes, watched_memory);
+    printf("\n");
+    print_execution_memory(plain_memory);
+    print_observation_memory(observation);
+    bool same_answer = memcmp(&plain, &watched, sizeof plain) == 0;
+    bool same_memory = memcmp(plain_memory, watched_memory, RECORDER_MEMORY_BYTES) == 0;
+    if (!same_answer || !same_memory) {
+        printf("\nthe runs part\n");
+        return STATUS_PARTED;
+    }
+    printf("\nboth runs have the same answer and the same execution memory\n");
     return STATUS_DONE;
+}
+
+static void print_titled(const char *title, const uint8_t *bytes, size_t length)
+{
+    printf("%s (number, kind, mark, A, B, C, literal)\n", title);
+    table_print(bytes, length);
+}
+
+int demo_command(const struct arguments *given)
+{
+    int status = table_read(given->file, &read_in);
+    if (status != STATUS_DONE)
+        return status;
+    print_titled("source table", read_in.bytes, read_in.length);
+    status = check(false);
+    if (status != STATUS_DONE)
+        return status;
+    recorder_answer translated = translate(LENT_ROOM);
+    print_titled("\ntarget table", target, length_of(translated));
+    tell_translation(translated);
+    printf("\n");
+    return run_both(given, length_of(translated));
 }
 
 int pack_command(const struct arguments *given)
 {
-    int status = table_read(given->words[0], given->format, &read_in);
-    if (status == STATUS_DONE)
-        status = bytes_write(output_of(given), given->force, read_in.bytes, read_in.length);
-    return tell_written(given, "pack", status);
-}
-
-/* Text has whole records only: bytes behind the last would be lost. */
-static int write_text(const char *path, bool force)
-{
-    FILE *file = NULL;
-    if (read_in.length % RECORDER_RECORD_BYTES != 0) {
-        fprintf(stderr, "recorder: a table's bytes are a multiple of %d; these are %zu\n", RECORDER_RECORD_BYTES,
-                read_in.length);
-        return STATUS_TABLE;
-    }
-    int status = open_to_write(path, force, &file);
-    if (status != STATUS_DONE)
-        return status;
-    table_print(file, "", read_in.bytes, read_in.length);
-    return close_written(path, file);
-}
-
-int unpack_command(const struct arguments *given)
-{
-    int status = table_read(given->words[0], given->format, &read_in);
-    if (status == STATUS_DONE)
-        status = write_text(output_of(given), given->force);
-    return tell_written(given, "unpack", status);
+    int status = table_read(given->file, &read_in);
+    return status != STATUS_DONE ? status : table_write(given->output, read_in.bytes, read_in.length);
 }

@@ -1,4 +1,4 @@
-/* A table as the host has it. */
+/* Tables in files and on paper. */
 #ifndef HOST_TABLE_H
 #define HOST_TABLE_H
 
@@ -6,23 +6,25 @@
 #include <stdint.h>
 #include <stdio.h>
 
-enum {
-    TABLE_ROOM = 65536 + 64, /* a little more than the longest table, so that the checker says that one is too long */
-    VARIABLES = 64,
-    NAME_ROOM = 16
-};
+/* A little more than the longest table, so that the checker is the one to say that a table is too long. */
+enum { TABLE_ROOM = 65536 + 64 };
 
 struct table {
     uint8_t bytes[TABLE_ROOM];
     size_t length;
-    char names[VARIABLES][NAME_ROOM]; /* how a text calls its variables; "" where it does not say */
 };
 
-/* How many whole records the table has. */
-uint32_t table_records(const struct table *table);
+/* Reads a file: where its name ends in .txt as text, one record a line (number kind mark A B C literal, and # before a
+ * comment), else as the table's bytes. The status is 0, or that of an error that was told on standard error. */
+int table_read(const char *path, struct table *into);
 
-/* Prints one line a record: number, kind, mark, A, B, C, literal. Bytes after the last whole record are left out. Each
- * line begins with the words in front. */
-void table_print(FILE *to, const char *in_front, const uint8_t *bytes, size_t length);
+/* Writes bytes to a file; the status as above. */
+int table_write(const char *path, const uint8_t *bytes, size_t length);
+
+/* Reads at most `room` bytes of a file; the status as above. */
+int bytes_read(const char *path, uint8_t *bytes, size_t room, size_t *length);
+
+/* Prints one line a record: number, kind, mark, A, B, C, literal. Bytes after the last whole record are left out. */
+void table_print(const uint8_t *bytes, size_t length);
 
 #endif

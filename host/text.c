@@ -1,7 +1,7 @@
 #include "text.h"
 
 #include <inttypes.h>
-#include <stdio.h>
+#include <stdbool.h>
 #include <string.h>
 
 #include "number.h"
@@ -10,11 +10,7 @@
 
 enum { LINE_ROOM = 512 };
 
-#define LETTERS "abcdefghijklmnopqrstuvwxyzABCDEFGHIJKLMNOPQRSTUVWXYZ"
-#define DIGITS "0123456789"
-
-static const char SPACES[] = " \t";
-static const uint8_t BYTE_ORDER_MARK[] = {0xEF, 0xBB, 0xBF};
+static const char SPACES[] = " \t\r\n";
 
 /* The numbers of a line, in their order, and where the record has them. */
 static const struct field {
@@ -42,28 +38,6 @@ static FILE *complain(struct place where)
 {
     fprintf(stderr, "recorder: %s, line %zu: ", where.path, where.line);
     return stderr;
-}
-
-static bool is_control(uint8_t byte)
-{
-    return (byte < 0x20 && byte != '\t' && byte != '\n' && byte != '\r') || byte == 0x7F;
-}
-
-static bool has_mark(const uint8_t *content, size_t length)
-{
-    return length >= sizeof BYTE_ORDER_MARK && memcmp(content, BYTE_ORDER_MARK, sizeof BYTE_ORDER_MARK) == 0;
-}
-
-/* A table's bytes begin with a record without children, so bytes 2 to 5, its A and B, are zero. Whatever else begins
- * with a control character or with what is no ASCII is no text either; 10 is a line's end and kind 10 alike. */
-bool is_text(const uint8_t *content, size_t length)
-{
-    static const uint8_t NONE[4] = {0};
-    if (length == 0 || has_mark(content, length))
-        return true;
-    if (length >= 6 && memcmp(content + 2, NONE, sizeof NONE) == 0)
-        return false;
-    return !is_control(content[0]) && content[0] < 0x80;
 }
 
 /* Splits the next word off; NULL where there is none. */
@@ -110,41 +84,10 @@ static bool record_from_line(char *line, size_t number, uint8_t *record, struct 
     return word == NULL;
 }
 
-/* A name is made of letters, digits and _ and begins with a letter. It is neither a temporary's ("t0") nor that of a
- * variable without a name ("v1"), and no other variable has it. */
-static bool is_name(const char *name, const struct table *table)
-{
-    size_t length = strlen(name);
-    if (length >= NAME_ROOM || strspn(name, LETTERS DIGITS "_") != length || strchr(LETTERS, name[0]) == NULL)
-        return false;
-    for (size_t variable = 0; variable < VARIABLES; variable++)
-        if (strcmp(table->names[variable], name) == 0)
-            return false;
-    return strchr("tv", name[0]) == NULL || strspn(name + 1, DIGITS) + 1 != length;
-}
-
-/* A comment "# variable 1 is p" tells how a variable is called. Every other comment tells nothing. */
-static void name_from_comment(char *comment, struct table *into)
-{
-    const char *words[5];
-    int64_t variable = 0;
-    for (size_t at = 0; at < sizeof words / sizeof words[0]; at++)
-        words[at] = next_word(&comment);
-    const char *name = words[3];
-    bool is_naming = name != NULL && words[4] == NULL && strcmp(words[0], "variable") == 0 &&
-                     strcmp(words[2], "is") == 0 && number_from_text(words[1], 0, VARIABLES - 1, &variable);
-    if (is_naming && is_name(name, into))
-        memcpy(into->names[variable], name, strlen(name) + 1);
-}
-
 /* Adds the record of a line, if it has one. */
 static bool add_line(char *line, struct table *into, struct place where)
 {
-    char *comment = strchr(line, '#');
-    if (comment != NULL) {
-        *comment = '\0';
-        name_from_comment(comment + 1, into);
-    }
+    line[strcspn(line, "#")] = '\0';
     if (line[strspn(line, SPACES)] == '\0')
         return true;
     if (into->length + RECORDER_RECORD_BYTES > sizeof into->bytes) {
@@ -156,48 +99,19 @@ static bool add_line(char *line, struct table *into, struct place where)
     return record_from_line(line, into->length / RECORDER_RECORD_BYTES, record, where);
 }
 
-/* Whether a line holds what a text may hold: no NUL, no other control character, no carriage return but at its end. */
-static bool is_clean(const uint8_t *line, size_t length, struct place where)
-{
-    for (size_t at = 0; at < length; at++) {
-        if (!is_control(line[at]) && line[at] != '\r')
-            continue;
-        fprintf(complain(where), "column %zu: %s (byte %u), which no text has; --bytes reads a table's bytes\n", at + 1,
-                line[at] == '\0' ? "a NUL" : "a control character", line[at]);
-        return false;
-    }
-    return true;
-}
-
-/* Reads a line, without what ends it. */
-static bool read_line(const uint8_t *content, size_t length, struct table *into, struct place where)
-{
-    char line[LINE_ROOM];
-    if (!is_clean(content, length, where))
-        return false;
-    if (length >= sizeof line) {
-        fprintf(complain(where), "longer than %zu characters\n", sizeof line - 1);
-        return false;
-    }
-    memcpy(line, content, length);
-    line[length] = '\0';
-    return add_line(line, into, where);
-}
-
-int table_from_text(const uint8_t *content, size_t length, const char *path, struct table *into)
+int table_from_text(FILE *file, const char *path, struct table *into)
 {
     struct place where = {path, 0};
-    size_t at = has_mark(content, length) ? sizeof BYTE_ORDER_MARK : 0;
+    char line[LINE_ROOM];
     into->length = 0;
-    memset(into->names, 0, sizeof into->names);
-    while (at < length) {
-        const uint8_t *end = memchr(content + at, '\n', length - at);
-        size_t line_length = end == NULL ? length - at : (size_t)(end - (content + at));
-        bool has_return = end != NULL && line_length > 0 && end[-1] == '\r';
+    while (fgets(line, sizeof line, file) != NULL) {
         where.line++;
-        if (!read_line(content + at, line_length - has_return, into, where))
+        if (strlen(line) == sizeof line - 1 && line[sizeof line - 2] != '\n') {
+            fprintf(complain(where), "longer than %zu characters\n", sizeof line - 2);
             return STATUS_TABLE;
-        at += line_length + 1;
+        }
+        if (!add_line(line, into, where))
+            return STATUS_TABLE;
     }
     return STATUS_DONE;
 }

@@ -15,6 +15,9 @@ struct used_pointer {
 /* The pointer whose read or store ended a run. `answer` is that of a plain run of the table, or of the watched run of
  * its translation, and `memory` the RECORDER_MEMORY_BYTES that it left. false where the number is neither 42 nor 50.
  *
+ * No buffer has the pointer, but the memory is as it was when the read or store was tried, so the statement can be
+ * worked out again: a statement 42 has made its block by then, and nothing that its place and size read led there.
+ *
  * The table must be an accepted source table, and answer and memory those of its run: they are not checked anew. */
 bool used_pointer(const uint8_t *table, recorder_answer answer, const uint8_t *memory, struct used_pointer *used);
 

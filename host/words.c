@@ -3,18 +3,14 @@
 #include <inttypes.h>
 #include <stdio.h>
 
-#include "explain.h"
-#include "status.h"
-
-_Static_assert(RECORDER_MEMORY_BYTES == 49144 && RECORDER_OBSERVATION_BYTES == 33784, "the words of 21 and 22");
-
-#define FINISHED "finished"
+#include "memories.h"
+#include "used_pointer.h"
 
 static const struct {
     uint32_t number;
     const char *words;
 } NUMBERS[] = {
-    {RECORDER_DONE, FINISHED},
+    {RECORDER_DONE, "finished"},
     {RECORDER_BAD_LENGTH, "the table's length is 0 or no multiple of 16 bytes"},
     {RECORDER_TOO_MANY_RECORDS, "too many records"},
     {RECORDER_BAD_KIND, "kind not in the language"},
@@ -25,8 +21,8 @@ static const struct {
     {RECORDER_TOO_DEEP, "term or predicate that needs a temporary above 63"},
     {RECORDER_BAD_INPUTS, "inputs no multiple of 8 bytes, none, or over 256"},
     {RECORDER_SHORT_OUTPUT, "output shorter than the translation"},
-    {RECORDER_BAD_MEMORY, "execution memory not 49144 bytes"},
-    {RECORDER_BAD_OBSERVATION, "observation memory not 33784 bytes"},
+    {RECORDER_BAD_MEMORY, "execution memory not"},
+    {RECORDER_BAD_OBSERVATION, "observation memory not"},
     {RECORDER_NO_CELLS, "no run of free cells long enough"},
     {RECORDER_NO_NAMES, "all names given"},
     {RECORDER_NO_FUEL, "no fuel at a while test"},
@@ -44,7 +40,7 @@ static const struct {
     {RECORDER_OUTSIDE_BLOCK, "offset outside a live block"},
 };
 
-const char *number_in_words(uint32_t number)
+static const char *in_words(uint32_t number)
 {
     for (size_t at = 0; at < sizeof NUMBERS / sizeof NUMBERS[0]; at++)
         if (NUMBERS[at].number == number)
@@ -52,73 +48,58 @@ const char *number_in_words(uint32_t number)
     return "a number that the header does not have";
 }
 
+/* Prints the words, with the length that 21 and 22 ask for. */
+static void print_words(uint32_t number)
+{
+    printf("%s", in_words(number));
+    if (number == RECORDER_BAD_MEMORY)
+        printf(" %d bytes", RECORDER_MEMORY_BYTES);
+    if (number == RECORDER_BAD_OBSERVATION)
+        printf(" %d bytes", RECORDER_OBSERVATION_BYTES);
+}
+
 bool is_refusal(recorder_answer answer)
 {
     return answer.number >= RECORDER_BAD_LENGTH && answer.number <= RECORDER_BAD_OBSERVATION;
 }
 
-static struct explanation explanation;
-
-int tell_refusal(FILE *to, const char *in_front, const char *what, recorder_answer answer, const struct table *table,
-                 bool is_target)
+int tell_refusal(const char *what, recorder_answer answer)
 {
-    if (!is_refusal(answer))
-        return (int)answer.number;
-    fprintf(to, "%s%s: refusal %" PRIu32, in_front, what, answer.number);
-    if (answer.record != 0)
-        fprintf(to, " at record %" PRIu32, answer.record);
-    fprintf(to, " (%s)\n", number_in_words(answer.number));
-    explain_refusal(table, is_target, answer, &explanation);
-    print_explanation(to, in_front, &explanation);
-    return (int)answer.number;
-}
-
-int tell_run(FILE *to, const char *what, const struct run_given *given, const struct run_left *left)
-{
-    recorder_answer answer = left->answer;
-    if (is_refusal(answer))
-        return tell_refusal(to, "", what, answer, given->table, given->is_target);
-    fprintf(to, "%s: ending %" PRIu32 " (%s)", what, answer.number, number_in_words(answer.number));
-    if (answer.number != RECORDER_DONE)
-        fprintf(to, " at statement %" PRIu32, answer.record);
-    fprintf(to, ", fuel left %" PRIu32 ", free cells %" PRIu32 "\n", answer.fuel, answer.free_cells);
-    if (answer.number == RECORDER_DONE)
-        return STATUS_DONE;
-    explain_ending(given, left, &explanation);
-    print_explanation(to, "", &explanation);
-    return (int)answer.number;
-}
-
-void json_answer(struct json *json, const char *done, recorder_answer answer)
-{
-    json_open_object(json, "answer");
-    json_number(json, "number", answer.number);
-    json_text(json, "words", answer.number == RECORDER_DONE ? done : number_in_words(answer.number));
-    json_number(json, "record", answer.record);
-    json_number(json, "fuel", answer.fuel);
-    json_number(json, "free_cells", answer.free_cells);
-    json_close_object(json);
-}
-
-void json_checked(struct json *json, const char *done, recorder_answer answer, const struct table *table,
-                  bool is_target)
-{
-    json_answer(json, done, answer);
-    if (answer.number == RECORDER_DONE)
-        return;
-    explain_refusal(table, is_target, answer, &explanation);
-    json_explanation(json, &explanation);
-}
-
-void json_run(struct json *json, const struct run_given *given, const struct run_left *left)
-{
-    if (is_refusal(left->answer)) {
-        json_checked(json, FINISHED, left->answer, given->table, given->is_target);
-        return;
+    if (is_refusal(answer)) {
+        printf("%s: refusal %" PRIu32, what, answer.number);
+        if (answer.record != 0)
+            printf(" at record %" PRIu32, answer.record);
+        printf(" (");
+        print_words(answer.number);
+        printf(")\n");
     }
-    json_answer(json, FINISHED, left->answer);
-    if (left->answer.number == RECORDER_DONE)
-        return;
-    explain_ending(given, left, &explanation);
-    json_explanation(json, &explanation);
+    return (int)answer.number;
+}
+
+/* Prints why a run ended: where its table is known, with the pointer that 42 and 50 come from. */
+static void print_reason(recorder_answer answer, const uint8_t *table, const uint8_t *memory)
+{
+    struct used_pointer used;
+    if (table == NULL || !used_pointer(table, answer, memory, &used)) {
+        print_words(answer.number);
+    } else if (answer.number == RECORDER_DEAD_BLOCK) {
+        printf("block %" PRIu32 " is dead; its offset %" PRId64 " was used", used.name, used.offset);
+    } else {
+        size_t length = block_length(memory, used.name);
+        printf("offset %" PRId64 " is outside block %" PRIu32 ", which has %zu cell%s", used.offset, used.name, length,
+               length == 1 ? "" : "s");
+    }
+}
+
+int tell_run(const char *what, recorder_answer answer, const uint8_t *table, const uint8_t *memory)
+{
+    if (is_refusal(answer))
+        return tell_refusal(what, answer);
+    printf("%s: ending %" PRIu32 " (", what, answer.number);
+    print_reason(answer, table, memory);
+    printf(")");
+    if (answer.number != RECORDER_DONE)
+        printf(" at statement %" PRIu32, answer.record);
+    printf(", fuel left %" PRIu32 ", free cells %" PRIu32 "\n", answer.fuel, answer.free_cells);
+    return (int)answer.number;
 }

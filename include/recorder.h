@@ -2,8 +2,7 @@
  *
  * A channel program comes as a source table. The plain run runs it. The translator turns it into a target table, and
  * the watched run runs that with an observation memory beside the execution memory. Link
- * crates/recorder/out/librecorder.a (`rt lib` in crates/recorder writes it; x86-64-v2), or after `make install` what
- * `pkg-config --libs recorder` says. examples/host/minimal.c is a whole host in sixty lines, host/ a program over this
+ * crates/recorder/out/librecorder.a (`rt lib` in crates/recorder writes it; x86-64-v2). host/ is a program over this
  * header.
  *
  *     static uint8_t target[RECORDER_TRANSLATION_BYTES];

@@ -89,14 +89,6 @@ every_module_named() {
         END { if (!d) print h }' "$1")"
 }
 
-# files_named PAGE FOLDER: each C file of the folder stands in the page's table of files.
-files_named() {
-    local file
-    for file in "$2"/*.c; do
-        grep -q "^|.*\`$(basename "$file")\`" "$1" || miss "$1 does not name $file"
-    done
-}
-
 names_exist docs/SENTENCES.md "$(names <docs/SENTENCES.md)"
 rows_tested docs/SENTENCES.md
 names_exist docs/PROVED.md "$(sed -n '/^## Versions/,/^## What/p' docs/PROVED.md | grep '^|' | names | grep / || true)"
@@ -104,8 +96,6 @@ theorems_stand docs/PROVED.md
 defined=$(names <docs/RULES.md | grep '^[A-Z][A-Za-z0-9]*\.[a-zA-Z]' || true)
 names_exist docs/RULES.md "$defined"
 every_module_named docs/RULES.md "$defined"
-
-files_named host/README.md host
 
 [ "$missing" -eq 0 ] || exit 1
 echo "what the documents name is all there"

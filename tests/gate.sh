@@ -10,10 +10,7 @@ tests/documents.sh
 # The second implementation's own tests need no proof, and the first crates to be proved leave a processor idle.
 export CARGO_TARGET_DIR="$PWD/build/cargo"
 mkdir -p build
-{
-    cargo test --release --offline --manifest-path tests/reference/Cargo.toml &&
-        cargo test --release --offline --no-run --manifest-path tests/host/Cargo.toml
-} >build/reference.log 2>&1 &
+cargo test --release --offline --manifest-path tests/reference/Cargo.toml >build/reference.log 2>&1 &
 reference=$!
 
 rt ci 2>&1 | tee build/ci.log
@@ -35,27 +32,18 @@ cat build/reference.log
 # The listing program against stored texts, which the second implementation derives.
 tests/listing/compare.sh crates/listing/out/listing
 
-# The C host on the examples, its JSON and packed tables, each with the C compiler's sanitizers too; then null with
-# length 0, and what is installed. The host allocates nothing: leaks are looked for in the tests of its JSON alone.
-host_tests() {
-    tests/examples.sh
-    ASAN_OPTIONS=detect_leaks=0 tests/examples.sh build/recorder-checked
-    for program in build/recorder build/recorder-checked; do
-        RECORDER=$program cargo test --release --offline --manifest-path tests/host/Cargo.toml
-    done
-    tests/null.sh
-    tests/install.sh
-}
-
-# The compiled library against the second implementation, and the C host's tests beside it. `rt ci` compiles programs
-# alone and keeps what it proved to itself: the crates are proved once more here, side by side.
+# The compiled library against the second implementation. `rt ci` compiles programs alone and keeps what it proved to
+# itself: the crates are proved once more here, side by side.
 rt all check --jobs "$(nproc)" >build/check.log 2>&1 || { tail build/check.log; exit 1; }
 make --no-print-directory crates/recorder/out/librecorder.a
-host_tests >build/host.log 2>&1 &
-host=$!
 cargo test --release --offline --manifest-path tests/compare/Cargo.toml
 tests/valgrind.sh
-wait "$host" || { cat build/host.log; exit 1; }
-cat build/host.log
+
+# Null with length 0.
+tests/null.sh
+
+# The C host on the examples, and once more with the C compiler's sanitizers.
+tests/examples.sh
+tests/examples.sh build/recorder-checked
 
 echo "$verdict"

@@ -4,17 +4,8 @@ use std::env;
 use std::path::{Path, PathBuf};
 use std::process::Command;
 
-/// The host's files that are compared, and those that they use; none calls the library.
-const HOST: [&str; 8] = [
-    "used_pointer",
-    "evaluation",
-    "operators",
-    "block",
-    "text",
-    "table",
-    "record",
-    "number",
-];
+/// The host's file that is compared, and the one that it uses.
+const HOST: [&str; 2] = ["used_pointer", "number"];
 
 fn main() {
     let root = Path::new(env!("CARGO_MANIFEST_DIR")).join("../..");
@@ -40,7 +31,6 @@ fn compiled(root: &Path, name: &str, out: &Path) -> PathBuf {
     rerun_if_changed(&source);
     rerun_if_changed(&source.with_extension("h"));
     rerun_if_changed(&host.join("layout.h"));
-    rerun_if_changed(&host.join("table.h"));
     rerun_if_changed(&include.join("recorder.h"));
     object
 }

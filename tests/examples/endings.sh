@@ -7,10 +7,8 @@ while read -r name inputs fuel number statement left free; do
             "$run" "examples/$name.txt" --inputs "$inputs" --fuel "$fuel"
         expect "$number" ": ending $number (" "$run" "examples/$name.txt" --inputs "$inputs" --fuel "$fuel"
     done
-    expect 0 'both runs have the same answer and the same execution memory; ' \
+    expect 0 'both runs have the same answer and the same execution memory' \
         demo "examples/$name.txt" --inputs "$inputs" --fuel "$fuel"
-    [ "$number" -eq 42 ] || [ "$number" -eq 50 ] ||
-        expect 0 '; the observation memory is its mirror' demo "examples/$name.txt" --inputs "$inputs" --fuel "$fuel"
 done < <(grep -v '^#' tests/examples/expected)
 
 for file in examples/*.txt; do
@@ -30,38 +28,31 @@ diff tests/examples/P1.listing <("$program" list "$scratch/P1")
 expect 0 'accepted' check --target "$scratch/target"
 expect 33 'at statement 29' watch --target "$scratch/target"
 
-# At 42 and 50 the two memories may part: here by the block whose own store ended the run.
-expect 0 'no mirror is promised: block 4 is live in the execution memory and unused in the observation memory' \
-    demo examples/cells-kept-at-a-stop.txt
-
-# told NUMBER LINE EXAMPLE WORD..: both runs, and the demo of both, end a source table so and have the line below.
+# told NUMBER WORDS EXAMPLE WORD..: both runs, and the demo of both, tell the ending of a source table in these words.
 told() {
     local run
     for run in run watch; do
-        expect "$1" $'\n  '"$2"$'\n' "$run" "examples/$3.txt" "${@:4}"
+        expect "$1" " run: ending $1 ($2) at statement " "$run" "examples/$3.txt" "${@:4}"
     done
-    [ "$("$program" demo "examples/$3.txt" "${@:4}" | grep -cxF "  $2")" -eq 2 ] ||
-        fail "recorder demo examples/$3.txt ${*:4}: not twice '$2'"
-    passed=$((passed + 1))
+    shows "plain run: ending $1 ($2) at statement " demo "examples/$3.txt" "${@:4}"
+    shows "watched run: ending $1 ($2) at statement " demo "examples/$3.txt" "${@:4}"
 }
-told 42 '*p: block 4 is dead; its offset 0 was used' read-after-free
-told 42 '*p: block 4 is dead; its offset 0 was used' read-after-free-asserted
-told 42 '*(p + 1): block 4 is dead; its offset 1 was used' store-after-free
-told 50 '*(p + i): offset 3 is outside block 5, which has 3 cells' one-past-the-end
-told 50 '*(v0 + 2): offset 2 is outside block 2, which has 2 cells' one-past-the-end-asserted
-told 50 '*(v0 + 2): offset 2 is outside block 2, which has 1 cell' one-past-the-end-asserted --inputs 7
-told 50 '*(v0 + -1): offset -1 is outside block 2, which has 2 cells' offset-below-zero
-told 50 '*(v0 + -1): offset -1 is outside block 2, which has 2 cells' offset-below-zero-asserted
-told 47 'the right side of the comparison points into a block that is not live' compare-after-free
-told 47 'the right side of the comparison points into a block that is not live' compare-after-free-asserted
+told 42 'block 4 is dead; its offset 0 was used' read-after-free
+told 42 'block 4 is dead; its offset 0 was used' read-after-free-asserted
+told 42 'block 4 is dead; its offset 1 was used' store-after-free
+told 50 'offset 3 is outside block 5, which has 3 cells' one-past-the-end
+told 50 'offset 2 is outside block 2, which has 2 cells' one-past-the-end-asserted
+told 50 'offset 2 is outside block 2, which has 1 cell' one-past-the-end-asserted --inputs 7
+told 50 'offset -1 is outside block 2, which has 2 cells' offset-below-zero
+told 50 'offset -1 is outside block 2, which has 2 cells' offset-below-zero-asserted
+told 47 'base, offset or length of a block not live, or a pointer into one compared' compare-after-free
+told 47 'base, offset or length of a block not live, or a pointer into one compared' compare-after-free-asserted
 
-# A target table's record is worked out again too, where it reads no temporary.
+# A target table's temporaries stand in no buffer, so that it is told in general words, a translation too.
 "$program" translate examples/read-after-free.txt "$scratch/dead" >"$scratch/said" || fail "translate"
 expect 42 'ending 42 (cell of a dead block) at statement 19' watch --target "$scratch/dead"
-expect 42 'block 4 is dead; its offset 0 was used' watch --target "$scratch/dead"
 "$program" translate examples/one-past-the-end.txt "$scratch/outside" >"$scratch/said" || fail "translate"
 expect 50 'ending 50 (offset outside a live block) at statement 18' watch --target "$scratch/outside"
-expect 50 'offset 3 is outside block 5, which has 3 cells' watch --target "$scratch/outside"
 
 # A new block whose own store is turned away: the execution memory alone knows it.
 unrecorded=$(table unrecorded <<'END'
@@ -74,7 +65,7 @@ unrecorded=$(table unrecorded <<'END'
 7 42 0 5 6 0 0   # *(v0 + 2) = new 1
 END
 )
-expect 50 ': offset 2 is outside block 2, which has 2 cells' watch "$unrecorded"
+expect 50 'ending 50 (offset 2 is outside block 2, which has 2 cells) at statement 7' watch "$unrecorded"
 shows $'  block 3: live and freeable\n    cell 3: undefined\n  dead names: none\n' watch "$unrecorded"
 shows $'  block 2: live\n    marks 1 to 2: initialised\n  dead names: none\n' watch "$unrecorded"
 
@@ -105,8 +96,8 @@ outside=$(sed 's/^36 .*/36 1 0 0 0 0 2/; s/^38 .*/38 11 0 37 0 0 0/; s/^39 .*/39
 dead=$(sed 's/^31 .*/31 43 0 30 0 0 0/; s/^32 .*/32 40 0 0 0 0 0/; s/^33 .*/33 44 0 31 32 0 0/' \
     "$outside" | table names-dead)
 for run in run watch; do
-    expect 50 ': offset 2 is outside block 305, which has 2 cells' "$run" "$outside"
-    expect 42 ': block 305 is dead; its offset 2 was used' "$run" "$dead"
+    expect 50 'ending 50 (offset 2 is outside block 305, which has 2 cells) at statement 40' "$run" "$outside"
+    expect 42 'ending 42 (block 305 is dead; its offset 2 was used) at statement 40' "$run" "$dead"
 done
 
 # Endings that only a hand-made target has: a block stored twice, and an empty temporary.

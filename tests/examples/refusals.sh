@@ -13,6 +13,12 @@ refused 1 " (the table's length is 0 or no multiple of 16 bytes)" "$(table nothi
 head -c 15 /dev/zero >"$scratch/short"
 refused 1 " (the table's length is 0" "$scratch/short"
 
+skips() {
+    local number
+    for number in $(seq "$1"); do
+        echo "$number 40 0 0 0 0 0"
+    done
+}
 refused 2 ' (too many records)' "$(skips 257 | table many)"
 refused 6 ' at record 1 (the last record is no statement, or another' "$(skips 256 | table full)"
 expect 2 'refusal 2 (too many records)' check --target "$(skips 4097 | table many-target)"
@@ -24,6 +30,15 @@ refused 5 ' at record 1 (child not smaller or of the wrong sort)' "$(table child
 refused 6 ' at record 1 (the last record is no statement' "$(table shape <<<'1 1 0 0 0 0 5')"
 refused 7 ' at record 1 (variable used out of scope' "$(printf '1 10 5 0 0 0 0\n2 2 0 1 0 0 0\n3 43 0 2 0 0 0\n' | table scope)"
 
+# deep N: N 'not' over a 'valid' of a term, which so comes to level N + 1; at level 64 it asks for t64.
+deep() {
+    printf '1 10 0 0 0 0 0\n2 2 0 1 0 0 0\n3 20 0 2 0 0 0\n4 30 0 3 0 0 0\n'
+    local number
+    for number in $(seq 5 $(($1 + 4))); do
+        echo "$number 33 0 $((number - 1)) 0 0 0"
+    done
+    echo "$(($1 + 5)) 48 0 $(($1 + 4)) 0 0 0"
+}
 refused 8 ' at record 3 (term or predicate that needs a temporary above 63)' "$(deep 63 | table deep)"
 expect 0 'ending 0 (finished)' watch "$(deep 62 | table less-deep)"
 

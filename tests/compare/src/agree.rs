@@ -97,19 +97,6 @@ pub fn used_pointer(case: &Case, margin: usize, what: Arguments) -> u32 {
     answer.number
 }
 
-/// The ending of the plain run of an unrefused case, worked out again by the C host from the statement and the memory
-/// left. There is no statement to be worked out at 0, and at 32 it was not begun.
-pub fn ending_again(case: &Case, margin: usize, what: Arguments) -> u32 {
-    let table = Lent::new(&case.table, margin);
-    let mut memory = Lent::new(&case.memory, margin);
-    let answer = library::run_plain(table.bytes(), &case.inputs, case.fuel, memory.bytes_mut());
-    if ![0, 32].contains(&answer.number) {
-        let again = host::ending_again(table.bytes(), answer, memory.bytes());
-        assert_eq!(again, answer.number, "{what}: {answer:?}");
-    }
-    answer.number
-}
-
 pub fn run_watched(case: &Case, margin: usize, what: Arguments) -> u32 {
     watched_left(case, margin, what).number
 }

@@ -1,4 +1,4 @@
-//! Safe wrappers over functions of the C host, as `host/used_pointer.h` and `host/evaluation.h` declare them.
+//! A safe wrapper over the C host's function, as `host/used_pointer.h` declares it.
 
 use crate::library::Returned;
 use reference::limits::EXECUTION_BYTES;
@@ -12,29 +12,6 @@ struct UsedPointer {
     offset: i64,
 }
 
-#[repr(C)]
-struct Moment {
-    table: *const u8,
-    memory: *const u8,
-    has_made_block: bool,
-    variables: [u32; 64],
-}
-
-#[repr(C)]
-struct Value {
-    kind: u32,
-    name: u32,
-    number: i64,
-}
-
-#[repr(C)]
-struct Outcome {
-    ending: u32,
-    record: u32,
-    operands: [Value; 2],
-    value: Value,
-}
-
 extern "C" {
     #[link_name = "used_pointer"]
     fn host_used_pointer(
@@ -43,8 +20,6 @@ extern "C" {
         memory: *const u8,
         used: *mut UsedPointer,
     ) -> bool;
-    fn moment_left(table: *const u8, statement: u32, number: u32, memory: *const u8) -> Moment;
-    fn run_again(at: *const Moment, statement: u32) -> Outcome;
 }
 
 /// The answer is a plain run's of this accepted table, and the memory what that run left: so the function needs no
@@ -56,14 +31,4 @@ pub fn used_pointer(table: &[u8], answer: Answer, memory: &[u8]) -> Option<Point
     let found = unsafe { host_used_pointer(table, answer.into(), memory, &mut used) };
     let UsedPointer { name, offset } = used;
     found.then_some(Pointer { name, offset })
-}
-
-/// The number that the statement of an answer comes to, worked out again. Table, answer and memory are as above.
-pub fn ending_again(table: &[u8], answer: Answer, memory: &[u8]) -> u32 {
-    assert_eq!(memory.len(), EXECUTION_BYTES);
-    let (table, memory) = (table.as_ptr(), memory.as_ptr());
-    unsafe {
-        let at = moment_left(table, answer.record, answer.number, memory);
-        run_again(&at, answer.record).ending
-    }
 }

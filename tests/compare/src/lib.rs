@@ -1,10 +1,9 @@
-//! The compiled library, and functions of the C host, beside the second implementation.
+//! The compiled library, and a function of the C host, beside the second implementation.
 
 pub mod agree;
 pub mod host;
 pub mod lent;
 pub mod library;
-pub mod text;
 
 use reference::generator::{Case, Generator};
 use std::collections::BTreeSet;
