@@ -1,6 +1,7 @@
 -- The fields of the record are those of its statement.
-use Rattle.std.proofs.Common.{arith, sym, ◌∙◌}
+use Rattle.std.proofs.Common.{◌≡◌, arith}
 use Rattle.rules.specs.Kinds.{target}
+use Rattle.rules.specs.Records.{kind_of}
 use Rattle.rules.proofs.Runs.StatementArms.{statement-within}
 use Rattle.rules.proofs.Runs.TargetFields.{store-block-fields, delete-block-fields}
 use Rattle.watched_noting.proofs.CallLaws.{note-last}
@@ -14,7 +15,8 @@ mark-first-requires c = statement-within target c.args.table.now c.args.n c.requ
 
 pub record_block-requires : goal.record_block-requires
 record_block-requires c =
-    let q = sym c.kind-kind.ensures ∙ c.in-68.is in (
+    let e = c.kind-kind.ensures in
+    let q : kind_of c.args.table.now c.args.n ≡ 68 = omega arith in (
       omega (arith, c.mark-first.ensures, store-block-fields c.args.table.now c.args.n c.requires.0 q),
       c.requires.2,
     )

@@ -5,4 +5,4 @@ use Rattle.watched_noting.proofs.record_marked.Goals as goal
 
 pub returns-clause-owners : goal.returns-clause-owners
 returns-clause-owners c =
-    owned-is c.mark_cells.ensures.view refl (mark_all-owned c.store_block.ensures.owners c.args.name c.args.count)
+    owned-is c.mark_cells.ensures.view refl (mark_all-owned c.store_block.ensures.owners _ _)
