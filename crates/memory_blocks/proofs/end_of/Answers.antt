@@ -1,4 +1,4 @@
-use Rattle.std.proofs.Common.{◌≡◌, ◌≤◌, ◌∙◌, sym, ap, subst, arith}
+use Rattle.std.proofs.Common.{◌≤◌, ◌∙◌, sym, ap, subst, arith}
 use Rattle.rules.specs.Sizes.{name_count}
 use Rattle.rules.specs.Memory.{is_free, cell_of}
 use Rattle.rules.specs.Layout.{memory_of}

@@ -1,5 +1,5 @@
 -- Where a name was found, and where cells for the block were.
-use Rattle.std.proofs.Common.{◌≡◌, ℕ, List, refl, sym, ◌∙◌, arith}
+use Rattle.std.proofs.Common.{◌≡◌, ℕ, refl, sym, ◌∙◌, arith}
 use Rattle.rules.specs.Layout.{memory_of}
 use Rattle.rules.specs.declared.{Search.Search}
 use Rattle.rules.specs.Memory.{Memory, Use, next_name, free_run, made, make_block, with_block}
