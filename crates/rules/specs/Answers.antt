@@ -1,8 +1,8 @@
 -- What each entry point answers: number, values and every lent buffer, of what went in.
 use Rattle.std.specs.Prelude.{ℕ, zero, suc, ◌/◌, Bool, false, ◌||◌, List, [], ◌∷◌, eqb, ℤ, length, drop}
 use Rattle.rules.specs.Words.{put, integer_at}
-use Rattle.rules.specs.Records.{Record, record_count}
-use Rattle.rules.specs.Kinds.{Language, source, target}
+use Rattle.rules.specs.Records.{record_count}
+use Rattle.rules.specs.Kinds.{source, target}
 use Rattle.rules.specs.Checker.{refuse_if, ◌otherwise◌, check, inputs_fault, output_fault, memory_fault}
 use Rattle.rules.specs.Checker.{observation_fault}
 use Rattle.rules.specs.Nodes.{source_program, target_program}

@@ -5,7 +5,7 @@ use Rattle.std.proofs.Math.Option.{Option, none, some}
 use Rattle.std.specs.Int.Signed.{le_z}
 use Rattle.rules.specs.Sizes.{input_limit, temporary_count, memory_length, observation_length}
 use Rattle.rules.specs.Records.{Record, fields_of, record_count, kind_of, mark_of, record_at}
-use Rattle.rules.specs.Kinds.{Language, source, target, Sort, statement, sort_number, Field, unnamed, child}
+use Rattle.rules.specs.Kinds.{Language, source, target, statement, sort_number, Field, unnamed, child}
 use Rattle.rules.specs.Kinds.{number, Literal, zero_literal, any_literal, statement_literal, Form, form_of}
 use Rattle.rules.specs.Kinds.{beside, record_limit}
 use Rattle.rules.specs.Types.{Search, Checked}

@@ -1,5 +1,5 @@
 -- "Demand 3 in full", as one statement over every accepted source table, inputs, fuel and old memories.
-use Rattle.std.specs.Prelude.{ℕ, ◌≤◌, Bool, true, false, List, ◌≢◌, ◌≡◌, length}
+use Rattle.std.specs.Prelude.{ℕ, ◌≤◌, false, List, ◌≢◌, ◌≡◌, length}
 use Rattle.rules.specs.Sizes.{memory_length, observation_length}
 use Rattle.rules.specs.Records.{record_count}
 use Rattle.rules.specs.Kinds.{source, target}

@@ -3,7 +3,7 @@ use Rattle.std.specs.Prelude.{ℕ, zero, suc, List, [], ◌∷◌, get_or}
 use Rattle.std.proofs.Math.Option.{Option, none, some}
 use Rattle.rules.specs.Trees.{Place, Expression, Predicate, Statement, skip, assign, new, free, sequence, branch}
 use Rattle.rules.specs.Trees.{while, let_in, assert}
-use Rattle.rules.specs.Memory.{Memory, Change, changed, stopped, Made, made, unmade}
+use Rattle.rules.specs.Memory.{Change, changed, stopped, Made, made, unmade}
 use Rattle.rules.specs.Evaluation.{Variables, extend}
 use Rattle.rules.specs.Types.{Test}
 

@@ -1,5 +1,5 @@
 -- The bytes of both memories, and back.
-use Rattle.std.specs.Prelude.{ℕ, zero, suc, ◌+◌, ◌*◌, Bool, true, false, List, [], ◌∷◌, ◌++◌, eqb, ℤ, pos, get_or}
+use Rattle.std.specs.Prelude.{ℕ, zero, suc, ◌+◌, ◌*◌, Bool, List, [], ◌∷◌, ◌++◌, eqb, ℤ, pos, get_or}
 use Rattle.rules.specs.Sizes.{name_count, cell_count, blocks_length}
 use Rattle.rules.specs.Words.{digits, word_at, integer_at, integer_bytes, flat, tabulate}
 use Rattle.rules.specs.Memory.{Memory, one}

@@ -1,8 +1,8 @@
 -- The text of a listing: "one line a target record: number, kind, mark, A, B, C, literal; for a refused table one line,
 -- refusal number and record".
-use Rattle.std.specs.Prelude.{ℕ, zero, suc, ◌+◌, ◌/◌, ◌%◌, Bool, true, false, List, [], ◌∷◌, ◌++◌, ltb, ℤ, pos, negsuc}
+use Rattle.std.specs.Prelude.{ℕ, zero, suc, ◌+◌, ◌/◌, ◌%◌, true, false, List, [], ◌∷◌, ◌++◌, ltb, ℤ, pos, negsuc}
 use Rattle.rules.specs.Records.{Record}
-use Rattle.rules.specs.Kinds.{Language, source}
+use Rattle.rules.specs.Kinds.{source}
 use Rattle.rules.specs.Checker.{check}
 use Rattle.rules.specs.Translation.{translated_records}
 use Rattle.rules.specs.Types.{Checked}

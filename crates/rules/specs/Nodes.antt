@@ -1,5 +1,5 @@
 -- The tree that each record of a table is, by a left fold: node n is made of record n and of the nodes before it.
-use Rattle.std.specs.Prelude.{ℕ, zero, suc, Bool, true, false, cond, ◌&&◌, List, [], ◌∷◌, ◌++◌, map, ◌≡◌, ltb, leb, eqb, ℤ, pos, nat_abs, get_or}
+use Rattle.std.specs.Prelude.{ℕ, zero, suc, Bool, true, false, cond, ◌&&◌, List, [], ◌∷◌, ◌++◌, map, ◌≡◌, ltb, leb, eqb, pos, nat_abs, get_or}
 use Rattle.std.proofs.Math.Option.{Option, none, some}
 use Rattle.rules.specs.Records.{Record, fields_of, record_count, kind_of, record_at, literal_of}
 use Rattle.rules.specs.Kinds.{Language, source, target, sort_number, Field, unnamed, child, number, Form, form_of}

@@ -1,6 +1,6 @@
 -- The observation memory and its nine calls: store block, delete block, initialise, five queries, and whether a block is
 -- live.
-use Rattle.std.specs.Prelude.{ℕ, zero, suc, ◌+◌, Bool, true, false, not, ◌&&◌, ◌||◌, List, [], ◌∷◌, map, ltb, leb, ℤ, pos, negsuc, length, get_or, set, replicate}
+use Rattle.std.specs.Prelude.{ℕ, zero, suc, ◌+◌, Bool, true, false, not, ◌&&◌, List, [], ◌∷◌, map, ltb, leb, ℤ, pos, negsuc, get_or, set, replicate}
 use Rattle.rules.specs.Sizes.{name_count, cell_count}
 use Rattle.rules.specs.Trees.{Query}
 use Rattle.rules.specs.Memory.{Memory, recorded_of, is_live, named, located_in, lowest_run, fill, on_integer, set_named}

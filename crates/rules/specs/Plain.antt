@@ -1,7 +1,7 @@
 -- The plain run.
 use Rattle.std.specs.Prelude.{ℕ, zero, suc}
 use Rattle.rules.specs.Trees.{Statement}
-use Rattle.rules.specs.Memory.{Memory, Change, changed, stopped, Use, fixed, make_block, end_block}
+use Rattle.rules.specs.Memory.{Memory, Change, changed, stopped, fixed, make_block, end_block}
 use Rattle.rules.specs.Memory.{assigned, allocated, freed}
 use Rattle.rules.specs.Evaluation.{Variables, evaluate_source, find_source, evaluate_predicate, condition}
 use Rattle.rules.specs.Flow.{Outcome, Meaning, run_by}

@@ -1,13 +1,13 @@
 -- The watched run.
-use Rattle.std.specs.Prelude.{ℕ, zero, suc, List, [], ◌∷◌, get_or, set, replicate}
+use Rattle.std.specs.Prelude.{ℕ, suc, List, [], ◌∷◌, get_or, set, replicate}
 use Rattle.std.proofs.Math.Option.{Option, none, some}
 use Rattle.rules.specs.Sizes.{temporary_count}
-use Rattle.rules.specs.Trees.{Operator, Expression, Place}
+use Rattle.rules.specs.Trees.{Expression, Place}
 use Rattle.rules.specs.TargetTrees.{TargetStatement, skip, assign, new, free, sequence, branch, while, let_in}
 use Rattle.rules.specs.TargetTrees.{take_address, take_value, take_operation, take_query, take_not, branch_on}
 use Rattle.rules.specs.TargetTrees.{assert_on}
 use Rattle.rules.specs.TargetTrees as target
-use Rattle.rules.specs.Memory.{Memory, Change, changed, stopped, change_in, Use, fixed, made_in, make_block}
+use Rattle.rules.specs.Memory.{Memory, Change, changed, stopped, change_in, fixed, made_in, make_block}
 use Rattle.rules.specs.Memory.{end_block, assigned, allocated, freed, on_value}
 use Rattle.rules.specs.Flow.{Outcome, finished, into, next, after, decide, turns, in_let}
 use Rattle.rules.specs.Plain.{asserted}

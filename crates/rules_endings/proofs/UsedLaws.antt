@@ -23,7 +23,7 @@ use Rattle.rules.proofs.Runs.Keeping.{AnyValue, Gives, Finds, TestStops, on_valu
 use Rattle.rules.proofs.Runs.Operations.{operate-gives, query_memory-gives, tested-stops, condition-stops}
 use Rattle.rules.proofs.Runs.Operations.{opposite-gives}
 use Rattle.rules_endings.specs.UsedPointers.{astray, in_turn, used_by, used_to, used_by_term, unless_decided}
-use Rattle.rules_endings.specs.UsedPointers.{used_by_predicate, IsDead, Outside, IsOutside, ToldApart}
+use Rattle.rules_endings.specs.UsedPointers.{used_by_predicate, IsDead, IsOutside, ToldApart}
 use Rattle.rules.specs.declared.{Pointer.Pointer, Value.Value, Evaluated.Evaluated, Found.Found, Test.Test}
 use Rattle.rules.specs.declared.{Located.Located, Block.Block, Recorded.Recorded, Cell.Cell, Temporary.Temporary}
 

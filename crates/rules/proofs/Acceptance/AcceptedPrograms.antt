@@ -10,7 +10,7 @@ use Rattle.rules.specs.Checker.{check}
 use Rattle.rules.specs.Nodes.{NodeOf, sort_of_node, node_at, HasSort}
 use Rattle.rules.specs.Types.{Checked}
 use Rattle.rules.proofs.Acceptance.Sound.{start_scope}
-use Rattle.rules.proofs.Acceptance.Acceptance.{Accepted, accepted-says}
+use Rattle.rules.proofs.Acceptance.Acceptance.{accepted-says}
 use Rattle.rules.proofs.Acceptance.AcceptedTrees.{accepted-last}
 use Rattle.rules.proofs.Acceptance.KindViews.{form_at, KindOf}
 use Rattle.rules.proofs.Acceptance.FormLaws.{node_as}

@@ -9,9 +9,9 @@ use borrow.Author.Tests.{ltb-true, le-leb}
 use lib.Dec.{ltb, leb, eqb}
 use mir.Syntax.{w64}
 use mir.Val.{to_z}
-use lib.ListN.{length, take, drop, get_or, length-append, get_or-append}
-use Rattle.rules.specs.Words.{part, little, word_at, integer_at}
-use Rattle.rules.specs.Records.{Record, record_count, start, kind_of, mark_of, child_a, child_b, child_c, literal_of}
+use lib.ListN.{length, take, get_or, length-append, get_or-append}
+use Rattle.rules.specs.Words.{part, little, word_at}
+use Rattle.rules.specs.Records.{Record, record_count, start, kind_of}
 use Rattle.rules.specs.Records.{fields_of, record_at}
 use Rattle.rules.specs.Kinds.{Language, sort_number, Field, unnamed, child, number, Form, field_of, form_of}
 use Rattle.rules.specs.Checker.{fields_fit, sort_of, child_fits, children_fit, fault_of, record_fault}

@@ -2,7 +2,7 @@
 use Prim.Native.Nat.{ℕ}
 use native.Mathlib.Omega.{arith}
 use mathlib.Core.List.{List}
-use mathlib.Core.Path.{◌≡◌, refl}
+use mathlib.Core.Path.{refl}
 use Rattle.rules.specs.Records.{mark_of, literal_of}
 use Rattle.rules.specs.Kinds.{target, Sort, statement_literal}
 use lib.IntN.{nat_abs}

@@ -12,7 +12,6 @@ use Rattle.rules.specs.Checker.{check, inputs_fault}
 use Rattle.rules.specs.Nodes.{source_program, target_program}
 use Rattle.rules.specs.TargetTrees.{TargetStatement}
 use Rattle.rules.specs.Memory.{start_memory}
-use Rattle.rules.specs.Observation.{Observation}
 use Rattle.rules.specs.Flow.{ending}
 use Rattle.rules.specs.Plain.{start_variables}
 use Rattle.rules.specs.Watched.{start_temporaries, WatchedState, watch}

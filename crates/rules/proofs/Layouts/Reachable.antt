@@ -17,7 +17,6 @@ use Rattle.rules.specs.Evaluation.{Variables, Holding, no_temporaries, held, eva
 use Rattle.rules.specs.Evaluation.{evaluate_source, find_source, evaluate_predicate, condition}
 use Rattle.rules.specs.Evaluation.{extend}
 use Rattle.rules.specs.Observation.{Observation, Noted}
-use Rattle.rules.specs.Observation as observation
 use Rattle.rules.specs.Flow.{Outcome, into, after, run_by}
 use Rattle.rules.specs.Plain.{asserted, run, start_variables}
 use Rattle.rules.specs.Watched.{start_temporaries, temporary_of, WatchedState, with_memory, value_in, place_in}

@@ -11,7 +11,7 @@ use borrow.Author.Tests.{ne_eqb}
 use lib.ListN.{length, get_or, set, replicate, length-set, length-replicate}
 use lib.Seq.{get_or-set_same, get_or-set_other}
 use Rattle.rules.specs.Sizes.{name_count, cell_count}
-use Rattle.rules.specs.Memory.{named, lowest_run, one, fill, set_named}
+use Rattle.rules.specs.Memory.{named, lowest_run, fill, set_named}
 use Rattle.rules.specs.Observation.{Observation, record_of, covers, covered, mark_run, with_marks, empty_observation}
 use Rattle.rules.specs.Observation.{initialise, kept, pointer_to, mark_all}
 use Rattle.rules.specs.Watched.{called_on}

@@ -1,6 +1,5 @@
 -- A watched run of any target statement, a hand-made one too, keeps the execution memory's invariant.
 use Prim.Native.Nat.{ℕ, ◌≤◌}
-use Rattle.rules.specs.Trees.{Expression, Place}
 use Rattle.rules.specs.TargetTrees.{TargetStatement}
 use Rattle.rules.specs.Memory.{Memory, Change, change_in, fixed, make_block, assigned, allocated, freed}
 use Rattle.rules.specs.Evaluation.{Variables, address_of, condition}
@@ -8,8 +7,8 @@ use Rattle.rules.specs.Observation.{Noted, noted, refused}
 use Rattle.rules.specs.Flow.{ending}
 use Rattle.rules.specs.Watched.{WatchedState, with_memory, value_in, place_in, holding, taken, observed, watch}
 use Rattle.rules.proofs.Runs.Keeping.{AnyNumber, AnyValue, any-test, any-evaluated, ChangeKeeps}
-use Rattle.rules.proofs.Runs.Outcomes.{Onwards, outcomes-state, change-in, made_in_lem}
-use Rattle.rules.proofs.Runs.TargetRuns.{WatchKeeps, watch-reaches, taken-keeps, assigning, allocating, freeing}
+use Rattle.rules.proofs.Runs.Outcomes.{outcomes-state, change-in, made_in_lem}
+use Rattle.rules.proofs.Runs.TargetRuns.{WatchKeeps, watch-reaches, taken-keeps}
 use Rattle.rules.proofs.Runs.TargetRuns.{operating, querying, negating, storing, deleting, initialising}
 use Rattle.rules.proofs.Memory.Invariant.{Invariant, Onward, onward-itself, onward_then}
 use Rattle.rules.proofs.Memory.BlockChanges.{onward-end}

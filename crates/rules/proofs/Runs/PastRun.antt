@@ -1,7 +1,7 @@
 -- The plain run is the run past false assertions, up to the first that is false.
 use Prim.Native.Nat.{ℕ, zero, suc, ◌≤◌}
 use native.Mathlib.Omega.{arith}
-use mathlib.Core.Path.{◌≡◌, refl, sym, ap, ◌∙◌}
+use mathlib.Core.Path.{◌≡◌, refl, ◌∙◌}
 use mathlib.Core.List.{List, [], ◌∷◌, ◌++◌}
 use Rattle.rules.specs.Trees.{Statement, skip, assign, new, free, sequence, branch, while, let_in, assert}
 use Rattle.rules.specs.Memory.{Memory, Change, changed, stopped, change_in, fixed, Made, made, unmade, made_in}

@@ -1,13 +1,13 @@
 -- An expression or a place of a source table is one of the target table with the same bytes.
 use Prim.Native.Nat.{ℕ, zero, suc, ◌≤◌, ◌<◌}
 use native.Mathlib.Omega.{arith}
-use mathlib.Core.Bool.{Bool, true, false, cond, ◌&&◌}
+use mathlib.Core.Bool.{Bool, true, cond, ◌&&◌}
 use mathlib.Core.List.{List}
-use mathlib.Core.Option.{Option, some}
-use mathlib.Core.Path.{◌≡◌, refl, sym, ap, ap₂, ◌∙◌, subst}
+use mathlib.Core.Option.{some}
+use mathlib.Core.Path.{◌≡◌, refl, sym, ap, ap₂, ◌∙◌}
 use borrow.Author.Tests.{lt-ltb, le-leb, eq-eqb}
 use lib.Dec.{ltb, eqb}
-use lib.IntN.{ℤ, pos}
+use lib.IntN.{ℤ}
 use Rattle.rules.specs.Records.{record_count, kind_of, mark_of, child_a, child_b, child_c, literal_of, record_at}
 use Rattle.rules.specs.Kinds.{Language, source, target, Sort, sort_number, expression, place, term, predicate}
 use Rattle.rules.specs.Kinds.{statement, Field, unnamed, child, number, Literal, zero_literal, any_literal}
@@ -27,9 +27,9 @@ use Rattle.rules.proofs.Acceptance.KindViews.{form_at, SourceKind, literal, read
 use Rattle.rules.proofs.Acceptance.KindViews.{variable}
 use Rattle.rules.proofs.Acceptance.KindViews.{pointed}
 use Rattle.rules.proofs.Acceptance.NodeLaws.{node_before, node-earlier}
-use Rattle.rules.proofs.Acceptance.FormLaws.{FieldHolds, MarkHolds, LiteralHolds, FormHolds, node_as, nodes_under}
+use Rattle.rules.proofs.Acceptance.FormLaws.{FieldHolds, LiteralHolds, FormHolds, node_as, nodes_under}
 use Rattle.rules.proofs.Acceptance.FormLaws.{node-built}
-use Rattle.rules.proofs.Acceptance.Standing.{Stands, stands, stands_at}
+use Rattle.rules.proofs.Acceptance.Standing.{stands, stands_at}
 use Rattle.rules.proofs.Simulation.PredicateSimulation.{embed-is, embed_place-is}
 
 and-join : (a b : Bool) → a ≡ true → b ≡ true → (a && b) ≡ true

@@ -7,7 +7,6 @@ use Rattle.rules.specs.Kinds.{target, statement}
 use Rattle.rules.specs.TargetTrees.{TargetStatement}
 use Rattle.rules.specs.Nodes.{TargetNode, operator_of, query_of, target_statement, HasSort, target_expression_at}
 use Rattle.rules.specs.Nodes.{target_place_at, target_statement_at, number_at}
-use Rattle.rules.specs.Memory.{change_in, assigned, allocated, freed}
 use Rattle.rules.specs.Evaluation.{Variables, address_of, condition, extend}
 use Rattle.rules.specs.Flow.{finished, ended, into, next, after, decide, in_let}
 use Rattle.rules.specs.Plain.{asserted}

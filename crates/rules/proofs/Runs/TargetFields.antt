@@ -8,7 +8,7 @@ use mathlib.Core.Logic.{◌≢◌}
 use mathlib.Core.Path.{◌≡◌, refl, sym, subst}
 use borrow.Author.Tests.{leb-true}
 use lib.Dec.{T, leb, eqb}
-use lib.IntN.{ℤ, pos, nat_abs}
+use lib.IntN.{ℤ, pos}
 use lib.Signed.{non_neg}
 use mir.Syntax.{w32}
 use mir.Val.{Fits}

@@ -6,7 +6,7 @@ use Rattle.rules.specs.TargetTrees.{TargetStatement, skip, assign, new, free, se
 use Rattle.rules.specs.TargetTrees.{take_address, take_value, take_operation, take_query, take_not, branch_on}
 use Rattle.rules.specs.TargetTrees.{assert_on}
 use Rattle.rules.specs.TargetTrees as target
-use Rattle.rules.specs.Memory.{Memory, Change, change_in, fixed, Made, made_in, make_block, end_block, assigned}
+use Rattle.rules.specs.Memory.{Change, change_in, fixed, Made, made_in, make_block, end_block, assigned}
 use Rattle.rules.specs.Memory.{allocated, freed}
 use Rattle.rules.specs.Memory.{on_value}
 use Rattle.rules.specs.Numbers.{Liveness}

@@ -7,7 +7,7 @@ use lib.Seq.{get_or-set_same}
 use Rattle.rules.specs.Memory.{Memory, recorded_of, block_of, locate, read_cell, set_cell, next_name, free_run, fixed}
 use Rattle.rules.specs.Memory.{freeable, with_block, made_in, make_at, end_block, on_place, store_new, allocated}
 use Rattle.rules.specs.Evaluation.{Variables, pointed_by, address_of}
-use Rattle.rules.specs.Observation.{Observation, noted, store_block, delete_block, initialise, pointer_to, mirror}
+use Rattle.rules.specs.Observation.{Observation, noted, store_block, initialise, pointer_to, mirror}
 use Rattle.rules.specs.Flow.{Outcome, finished, ending, into, next, after, in_let}
 use Rattle.rules.specs.Watched.{Temporaries, temporary_of, held_in, WatchedState, watching, with_memory, taken}
 use Rattle.rules.specs.Watched.{observed, called_on, called_on_two}

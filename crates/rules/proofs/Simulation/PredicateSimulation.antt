@@ -15,7 +15,7 @@ use Rattle.rules.specs.Memory.{Memory, read_cell, on_value, on_place, live_block
 use Rattle.rules.specs.Evaluation.{Variables, pointed_by, address_of, operated, evaluate, find_place, query_memory}
 use Rattle.rules.specs.Evaluation.{evaluate_source, find_source, evaluate_term, on_test, opposite, and_then, or_else}
 use Rattle.rules.specs.Evaluation.{evaluate_predicate, condition}
-use Rattle.rules.specs.Observation.{Observation, query_observation, mirror, live_record}
+use Rattle.rules.specs.Observation.{Observation, mirror, live_record}
 use Rattle.rules.specs.Flow.{TreePath, Outcome, finished, ended, into, next, after, decide}
 use Rattle.rules.specs.Watched.{Temporaries, temporary_of, held_in, WatchedState, watching, taken, watch}
 use Rattle.rules.specs.Translation.{embed, embed_place, translate_term, translate_predicate}

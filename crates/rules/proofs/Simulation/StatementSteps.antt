@@ -8,11 +8,11 @@ use Rattle.rules.specs.Numbers.{tested}
 use Rattle.rules.specs.Memory.{Memory, recorded_of, block_of, locate, at_cell, set_cell, Change, changed, stopped}
 use Rattle.rules.specs.Memory.{change_in, assigned, free_of, freed}
 use Rattle.rules.specs.Evaluation.{Variables, address_of, condition}
-use Rattle.rules.specs.Observation.{Observation, delete_block, initialise, pointer_to, mirror}
+use Rattle.rules.specs.Observation.{Observation, pointer_to, mirror}
 use Rattle.rules.specs.Flow.{TreePath, Outcome, finished, ended, ending, into, next, after, decide, turns}
 use Rattle.rules.specs.Plain.{asserted}
-use Rattle.rules.specs.Watched.{Temporaries, temporary_of, held_in, WatchedState, watching, with_memory, taken}
-use Rattle.rules.specs.Watched.{holding, observed, called_on}
+use Rattle.rules.specs.Watched.{Temporaries, temporary_of, WatchedState, watching, with_memory, taken}
+use Rattle.rules.specs.Watched.{holding, observed}
 use Rattle.rules.proofs.Runs.TargetRuns.{initialising, deleting}
 use Rattle.rules.proofs.Memory.Invariant.{Invariant}
 use Rattle.rules.proofs.Runs.DefinedValues.{Defined, FairEvaluated}
