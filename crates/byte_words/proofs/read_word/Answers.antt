@@ -26,7 +26,7 @@ loop-i-preserved c =
     let l = c.loop-i in
     let b : c.wide.result < 256 = omega (arith, c.wide.ensures, c.type_inv.s (a.at + (l.i - 1))) in
     let k : a.n - (l.i - 1) ≡ suc (a.n - l.i) = omega arith in
-    let more = read_more a.s.now a.at a.n l.i l.v c.requires.1 c.loop-i-test.true l.invariant.in_range l.invariant.value in
+    let more = read_more a.s.now a.at a.n l.i l.v c.requires.1 (omega arith) l.invariant.in_range l.invariant.value in
     record {
       in_range = omega arith;
       value = rw c.wide.ensures more;
