@@ -4,12 +4,13 @@ use Rattle.watched.proofs.EntryLaws.{entry-ends}
 use Rattle.watched.proofs.run_memories.Goals as goal
 
 pub run_table-r-requires : goal.run_table-r-requires
-run_table-r-requires c =
-    (c.requires.0,
-    record {
-      counted = counted_start c.args.inputs.now c.args.mem.now c.requires.1 c.requires.2 c.start-counts.ensures;
-      owned = c.start_observation.ensures.owners;
-    })
+run_table-r-requires c = (
+  c.requires.0,
+  record {
+    counted = counted_start c.args.inputs.now c.args.mem.now c.requires.1 c.requires.2 c.start-counts.ensures;
+    owned = c.start_observation.ensures.owners;
+  },
+)
 
 pub overflow_cast-result : goal.overflow_cast-result
 overflow_cast-result c = free-fits c.run_table-r.ensures.counts
