@@ -186,6 +186,12 @@ module _ {t : List ℕ} {n : ℕ} {ρ : Variables} {entry : List ℕ} {fuel m : 
             (memory_of l) f,
       )
 
+-- a let's block is still one, whatever ran
+pub inside-block : (x : Statement) (ρ : Variables) (k r : ℕ) (p : List ℕ) {a b : List ℕ} (f : ℕ)
+    → Ran (run x ρ (memory_of a) f) r p a b → Invariant (memory_of a) → LetBlock (memory_of a) k → LetBlock (memory_of b) k
+inside-block x ρ k r p {a} f w v h =
+    subst (λ (m : Memory). LetBlock m k) (sym w.memory.view) (let-kept k h (plain-onward x ρ (memory_of a) f v))
+
 -- a let's child ran: where it finished, the block ends
 module _ (t : List ℕ) (n : ℕ) (ρ : Variables) (k r : ℕ) (p : List ℕ) {a b : List ℕ} (f : ℕ)
     (w : Ran (run (statement_at t (child_a t n)) (extend ρ (mark_of t n) k) (memory_of a) f) r p a b) where
@@ -194,12 +200,6 @@ module _ (t : List ℕ) (n : ℕ) (ρ : Variables) (k r : ℕ) (p : List ℕ) {a
 
   abbrev child : Statement
   child = statement_at t (child_a t n)
-
-  -- its block is still a let's
-  pub inside-block : Invariant (memory_of a) → LetBlock (memory_of a) k → LetBlock (memory_of b) k
-  inside-block v h =
-      subst (λ (m : Memory). LetBlock m k) (sym w.memory.view)
-      (let-kept k h (plain-onward child (extend ρ (mark_of t n) k) (memory_of a) f v))
 
   pub inside-ends : r ≡ 0 → {c : List ℕ} → Becomes b c (end_block (memory_of b) k)
       → Ran (enclosed t n ρ (memory_of a) f k) r p a c

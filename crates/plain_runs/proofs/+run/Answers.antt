@@ -1,5 +1,5 @@
 -- What runs first of a statement is part of what remains of it; the members ask of one another what stands in the table.
-use Rattle.std.proofs.Common.{◌≡◌, ◌≢◌, ℕ, List, [], ◌-◌, ◌<◌, refl, sym, ap, ◌∙◌, length, set, arith, rules}
+use Rattle.std.proofs.Common.{◌≡◌, ◌≢◌, ℕ, List, ◌-◌, ◌<◌, refl, sym, ap, ◌∙◌, length, set, arith, rules}
 use Rattle.rules.specs.Records.{kind_of, mark_of, child_a, child_b}
 use Rattle.rules.specs.Nodes.{expression_at, statement_at}
 use Rattle.rules.specs.Flow.{ending}
@@ -333,17 +333,12 @@ child : (T : List ℕ) (n k x v r : ℕ) (vs l p l₁ : List ℕ) (f : ℕ) → 
 child T n k x v r vs l p l₁ f g i j h w =
     rw (i, variables-set vs v k (omega (arith, g, j, h)), j) at w
 
+-- whatever the variables are with which the child ran
 pub run_inside-end-requires : goal.run_inside-end-requires
 run_inside-end-requires t c =
-    let a = c.args in
     let h = c.requires in
-    let g : length a.variables ≡ 64 = search rules in
-    let w = child a.table.now a.n a.k _ _ _ a.variables a.mem.now c.run-r.new.progress _ (fuel_in a.progress.now) g
-    c.child_a.ensures c.mark-v.ensures h.0.mark c.run-r.ensures.outcome in (
-      c.run-r.ensures.counts,
-      inside-block a.table.now a.n (variables_of a.variables) a.k c.run-r.result c.run-r.new.progress
-          (fuel_in a.progress.now) w h.1.invariant h.2,
-    )
+    let w = c.run-r.ensures in
+    (w.counts, inside-block _ _ c.args.k c.run-r.result c.run-r.new.progress _ w.outcome h.1.invariant h.2)
 
 pub run_inside-returns-then-r-eq0-clause-outcome : goal.run_inside-returns-then-r-eq0-clause-outcome
 run_inside-returns-then-r-eq0-clause-outcome t c =
