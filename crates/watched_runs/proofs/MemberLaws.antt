@@ -5,8 +5,8 @@ use mathlib.Core.List.{List}
 use mathlib.Core.Logic.{◌≢◌, inl, inr}
 use mathlib.Core.Path.{◌≡◌, refl, sym, ap, ◌∙◌, subst}
 use Rattle.rules.specs.Records.{kind_of, mark_of, child_a, child_b, child_c}
-use Rattle.rules.specs.Memory.{Memory, fixed, Made, made, unmade, made_in, make_block, end_block}
-use Rattle.rules.specs.Flow.{Outcome, finished, ended, Ending, ending, into, next, decide, in_let}
+use Rattle.rules.specs.Memory.{Memory, fixed, Made, made, made_in, make_block, end_block}
+use Rattle.rules.specs.Flow.{Outcome, finished, ending, into, next, decide, in_let}
 use Rattle.rules.specs.TargetTrees.{TargetStatement}
 use Rattle.rules.specs.Evaluation.{Variables, condition, extend}
 use Rattle.rules.specs.Watched.{WatchedState, with_memory, value_in, holding, watch}
@@ -203,6 +203,13 @@ module _ {t : List ℕ} {n : ℕ} {ρ : Variables} {entry : Lent} {fuel m : ℕ}
         watch-fuel (target_statement_at t b) ρ (state_of x) f,
       )
 
+-- a let's block is still one, whatever ran
+pub inside-block : (s : TargetStatement) (ρ : Variables) (k : ℕ) {r : Ended} {x y : Lent} (f : ℕ)
+    → Ran (watch_from s ρ x f) r x y → Invariant (memory_of x.memory) → LetBlock (memory_of x.memory) k
+    → LetBlock (memory_of y.memory) k
+inside-block s ρ k {r} {x} f w v h =
+    subst (λ (m : Memory). LetBlock m k) (sym w.memory.view) (let-kept k h (watched-onward s ρ (state_of x) f v))
+
 -- a let's child ran: where it finished, the block ends
 module _ (t : List ℕ) (n : ℕ) (ρ : Variables) (k : ℕ) {r : Ended} {x y : Lent} (f : ℕ)
     (w : Ran (watch_from (target_statement_at t (child_a t n)) (extend ρ (mark_of t n) k) x f) r x y) where
@@ -211,13 +218,6 @@ module _ (t : List ℕ) (n : ℕ) (ρ : Variables) (k : ℕ) {r : Ended} {x y : 
 
   abbrev child : TargetStatement
   child = target_statement_at t (child_a t n)
-
-  -- its block is still a let's
-  pub inside-block : Invariant (memory_of x.memory) → LetBlock (memory_of x.memory) k
-      → LetBlock (memory_of y.memory) k
-  inside-block v h =
-      subst (λ (m : Memory). LetBlock m k) (sym w.memory.view)
-      (let-kept k h (watched-onward child (extend ρ (mark_of t n) k) (state_of x) f v))
 
   pub inside-ends : r.number ≡ 0 → {l : List ℕ} → Becomes y.memory l (end_block (memory_of y.memory) k)
       → Ran (enclosed t n ρ x f k) r x (lent l y.observation y.temporaries)

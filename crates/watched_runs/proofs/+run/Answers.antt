@@ -1,5 +1,5 @@
 -- What runs first of a statement is part of what remains of it; the members ask of one another what stands in the table.
-use Rattle.std.proofs.Common.{◌≡◌, ◌≢◌, ℕ, List, ◌-◌, ◌<◌, refl, sym, ap, ◌∙◌, length, set, arith, rules}
+use Rattle.std.proofs.Common.{◌≡◌, ◌≢◌, ℕ, List, ◌-◌, ◌<◌, sym, ap, ◌∙◌, length, set, arith, rules}
 use Rattle.rules.specs.Records.{kind_of, mark_of, child_a, child_b}
 use Rattle.rules.specs.Nodes.{target_expression_at, target_statement_at, number_at}
 use Rattle.rules.specs.Evaluation.{Variables, condition, extend}
@@ -12,7 +12,7 @@ use Rattle.run_children.proofs.Sequences.{sequence-first, sequence-rest}
 use Rattle.run_endings.specs.declared.Ended.{Ended}
 use Rattle.run_variables.proofs.VariableLaws.{variables-set}
 use Rattle.watched_statements.specs.Watching.{Lent, lent, state_of, watch_from, Ready, Ran, Runs}
-use Rattle.watched_statements.proofs.Laws.{kept_same, kept_memory, ran-is, ran-from, ran-finished, ran-ended}
+use Rattle.watched_statements.proofs.Laws.{kept_memory, ran-is, ran-from, ran-finished, ran-ended}
 use Rattle.watched_statements.proofs.ReadyLaws.{ready-within, branch-parts, ready-then, ready-else, while-parts}
 use Rattle.watched_statements.proofs.ReadyLaws.{ready-turn, ready-inside, ready-run-first, ready-run-then}
 use Rattle.watched_statements.proofs.ReadyLaws.{run-first-within, run-first-smaller, run-then-smaller, run-first-alone}
@@ -284,16 +284,12 @@ child : (T : List ℕ) (n k b v : ℕ) (vs : List ℕ) (f : ℕ) {r : Ended} {x 
     → Runs T (child_a T n) (extend (variables_of vs) (mark_of T n) k) f r x y
 child T n k b v vs f g i j h w = rw (i, variables-set vs v k (omega (arith, g, j, h)), j) at w
 
+-- whatever the variables are with which the child ran
 pub run_inside-end-requires : goal.run_inside-end-requires
 run_inside-end-requires t c =
-    let a = c.args in
     let h = c.requires in
-    let g : length a.variables ≡ 64 = search rules in
-    let w = child a.table.now a.n a.k _ _ a.variables a.fuel g c.child_a-body.ensures c.mark-v.ensures h.0.mark
-    c.run-r.ensures.outcome in (
-      c.run-r.ensures.beside.counted,
-      inside-block a.table.now a.n (variables_of a.variables) a.k a.fuel w h.1.counted.invariant h.2,
-    )
+    let w = c.run-r.ensures in
+    (w.beside.counted, inside-block _ _ c.args.k _ w.outcome h.1.counted.invariant h.2)
 
 pub run_inside-returns-then-r-eq0-clause-outcome : goal.run_inside-returns-then-r-eq0-clause-outcome
 run_inside-returns-then-r-eq0-clause-outcome t c =
