@@ -18,13 +18,14 @@ use Rattle.checker.specs.Searches.{put_in, put_three}
 use Rattle.checker.specs.Scopes.{Given, Formed, Kept}
 use Rattle.checker.proofs.NoteLaws.{put_step, put-length, field-has}
 use Rattle.checker.proofs.TimesLaws.{times-as}
+use Rattle.std.specs.Prelude.{Ok, is_err}
 
-pub no-fault : (l : Language) (t : List ℕ) → Formed l t → (n : ℕ) → 1 ≤ n → n ≤ record_count t → record_fault l t n ≡ 0
+pub no-fault : (l : Language) (t : List ℕ) → Formed l t → (n : ℕ) → 1 ≤ n → n ≤ record_count t → record_fault l t n ≡ Ok tt
 no-fault l t h n a b =
     omega (
       arith,
       ltb-false 0 (record_fault l t n)
-          (each-passes t (λ n. ltb 0 (record_fault l t n)) h.records n a b),
+          (each-passes t (λ n. is_err (record_fault l t n)) h.records n a b),
     )
 
 pub passed-of : (l : Language) (t : List ℕ) → Kept l t → Passed l t

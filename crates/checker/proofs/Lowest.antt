@@ -4,9 +4,10 @@ use native.Mathlib.Omega.{arith}
 use mathlib.Core.Bool.{Bool, true, false, cond}
 use mathlib.Core.Path.{◌≡◌, sym, ap, subst, ◌∙◌}
 use Rattle.rules.specs.Checker.{lowest}
-use Rattle.rules.specs.declared.{Search.Search}
+use Rattle.rules.specs.Types.{Search}
 use Rattle.rules.proofs.Lists.SearchLaws.{Outcome, lowest-outcome}
 use Rattle.checker.specs.Searches.{search_of}
+use Rattle.std.specs.Prelude.{Some}
 
 -- of records n + 1 .. m
 abbrev pub Lowest : (ℕ → Bool) → ℕ → ℕ → ℕ → Type 0
@@ -18,7 +19,7 @@ unfolding lowest
 lowest-here p n k found r b e h i = go b e h
   where
     go : (b : Bool) → b ≡ p (suc n) → r ≡ cond b (suc n) found
-        → elim (p (suc n)) as (λ q. Search) [ true ↦ Search.At (suc n) | false ↦ lowest p (suc (suc n)) k ] ≡ search_of r
+        → elim (p (suc n)) as (λ q. Search) [ true ↦ Some (suc n) | false ↦ lowest p (suc (suc n)) k ] ≡ search_of r
     go true e h = rw (sym e) (ap search_of (sym h))
     go false e h = rw (sym e) (i ∙ ap search_of (sym h))
 

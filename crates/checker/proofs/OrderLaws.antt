@@ -9,7 +9,7 @@ use borrow.Author.Tests.{eq-eqb, ne_eqb, lt-ltb, le-ltb}
 use lib.Dec.{eqb, ltb}
 use lib.ListN.{length}
 use Rattle.rules.specs.Sizes.{target_limit}
-use Rattle.rules.specs.declared.{Search.Search, Checked.Checked}
+use Rattle.rules.specs.Types.{Search, Checked}
 use Rattle.rules.specs.Records.{record_count}
 use Rattle.rules.specs.Kinds.{Language, record_limit}
 use Rattle.rules.specs.Checker.{lowest_record, length_fault, count_fault, record_fault, shape_fault}
@@ -19,8 +19,10 @@ use Rattle.checker_forms.specs.Codes.{language_of}
 use Rattle.checker.specs.Searches.{search_of}
 use Rattle.checker.specs.Scopes.{Found, Kept}
 use Rattle.checker.specs.Order.{or_next, from_scopes, from_shapes, from_records}
+use Rattle.std.specs.Prelude.{None, Ok}
+use Rattle.std.specs.Prelude.{is_err}
 
-pub next-nothing : (rule : ℕ → ℕ) (s : Search) (next : Checked) → s ≡ Search.Nothing → next ≡ or_next rule s next
+pub next-nothing : (rule : ℕ → ℕ) (s : Search) (next : Checked) → s ≡ None → next ≡ or_next rule s next
 next-nothing rule s next e = sym (ap (λ (x : Search). or_next rule x next) e)
 
 pub next-none : (rule : ℕ → ℕ) (s : Search) (r : ℕ) (next : Checked) → s ≡ search_of r → r ≡ 0
@@ -32,7 +34,7 @@ pub next-at : (rule : ℕ → ℕ) (s : Search) (r : ℕ) (next : Checked) → s
 next-at rule s zero next e h = absurd (h refl)
 next-at rule s (suc n) next e h = sym (ap (λ (x : Search). or_next rule x next) e)
 
-none_found : (s : Search) (r : ℕ) → s ≡ search_of r → r ≡ 0 → s ≡ Search.Nothing
+none_found : (s : Search) (r : ℕ) → s ≡ search_of r → r ≡ 0 → s ≡ None
 none_found s r e h = e ∙ ap search_of h
 
 pub kept_of : (l : Language) (t : List ℕ) (misshapen hidden : ℕ) → Found l t misshapen hidden → misshapen ≡ 0
@@ -43,12 +45,12 @@ kept_of l t misshapen hidden h e = record {
 }
 
 -- ---- rules 3 to 5, tried record by record
-module _ (l : Language) (t : List ℕ) (n : ℕ) (before : (i : ℕ) → 1 ≤ i → i < n → record_fault l t i ≡ 0) where
+module _ (l : Language) (t : List ℕ) (n : ℕ) (before : (i : ℕ) → 1 ≤ i → i < n → record_fault l t i ≡ Ok tt) where
   abbrev faulty : ℕ → Bool
-  faulty i = ltb 0 (record_fault l t i)
+  faulty i = is_err (record_fault l t i)
 
   none_before : (i : ℕ) → 1 ≤ i → i < n → faulty i ≡ false
-  none_before i a b = le-ltb 0 (record_fault l t i) (omega (arith, before i a b))
+  none_before i a b = le-is_err (record_fault l t i) (omega (arith, before i a b))
 
   pub record-refused : (k : ℕ) → 1 ≤ n → n ≤ record_count t → k ≡ record_fault l t n → (k ≡ 0 → ⊥)
       → Checked.Refused k n ≡ from_records l t
@@ -57,17 +59,17 @@ module _ (l : Language) (t : List ℕ) (n : ℕ) (before : (i : ℕ) → 1 ≤ i
       let some : 0 < record_fault l t n = omega (arith, e, pos_of_ne-zero h) in
       ap (λ (i : ℕ). Checked.Refused i n) e
       ∙ sym (ap (λ (s : Search). or_next (record_fault l t) s (from_shapes l t))
-      (lowest-at faulty 1 (record_count t) n a (omega arith) (lt-ltb 0 (record_fault l t n) some) none_before))
+      (lowest-at faulty 1 (record_count t) n a (omega arith) (lt-is_err (record_fault l t n) some) none_before))
 
-  pub no_record : record_count t < n → lowest_record t faulty ≡ Search.Nothing
+  pub no_record : record_count t < n → lowest_record t faulty ≡ None
   no_record h = lowest-nothing faulty 1 (record_count t) (λ i a b. none_before i a (omega arith))
 
 -- ---- rule 8
-pub last-target : (b : Bool) (t : List ℕ) → b ≡ true → Checked.Accepted ≡ last_rule (language_of b) t
+pub last-target : (b : Bool) (t : List ℕ) → b ≡ true → (Ok tt) ≡ last_rule (language_of b) t
 last-target b t e = sym (ap (λ (x : Bool). last_rule (language_of x) t) e)
 
 pub last_none : (b : Bool) (t : List ℕ) (r : ℕ) → b ≡ false → lowest_record t (level_fault t) ≡ search_of r → r ≡ 0
-    → Checked.Accepted ≡ last_rule (language_of b) t
+    → (Ok tt) ≡ last_rule (language_of b) t
 last_none b t r e s h =
     sym (ap (λ (x : Bool). last_rule (language_of x) t) e ∙ ap (refuse_at 8) (s ∙ ap search_of h))
 

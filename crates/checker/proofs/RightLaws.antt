@@ -12,13 +12,15 @@ use Rattle.rules.specs.Kinds.{Language, source, target, Field, up_to, Form, look
 use Rattle.rules.specs.Checker.{field_fits, fields_fit, children_fit, fault_of, record_fault, parent_of}
 use Rattle.rules.specs.Checker.{is_let_of, in_scope, mark_in_scope, scope_fault, level_below, position_in, level_of}
 use Rattle.rules.specs.Checker.{level_fault}
-use Rattle.rules.specs.declared.{Search.Search}
+use Rattle.rules.specs.Types.{Search}
 use Rattle.rules.proofs.Acceptance.KindViews.{form_at}
 use Rattle.rules.proofs.Acceptance.ParentLaws.{Passed, IsParent, two-pass}
 use Rattle.rules.proofs.Acceptance.FormLaws.{fields_split}
 use Rattle.rules.proofs.Acceptance.ScopeLaws.{scope-child, scope-last, level-child, level-last}
 use Rattle.checker.specs.Scopes.{bit, out_of_scope, too_deep, child_level}
 use Rattle.checker.proofs.LevelLaws.{below-most, below-outside, position-most}
+use Rattle.std.specs.Prelude.{None, Some}
+use Rattle.std.specs.Prelude.{Ok}
 
 -- ---- the marks of 10 and 47 are variables
 four-less : (p q : Bool) → ◌≡◌ {A = ℕ} (cond p (cond q 0 5) 4) 0 → p ≡ true
@@ -26,7 +28,7 @@ four-less true q e = refl
 four-less false q e = absurd (omega arith)
 
 mark-of : (l : Language) (t : List ℕ) (n : ℕ) (f : Form) → form_of l (kind_of t n) ≡ some f → f.mark ≡ up_to 63
-    → record_fault l t n ≡ 0 → mark_of t n < 64
+    → record_fault l t n ≡ Ok tt → mark_of t n < 64
 unfolding record_fault
 mark-of l t n f e m h =
     let fit : fields_fit f (record_at t n) ≡ true =
@@ -50,10 +52,10 @@ use-mark : (l : Language) → ((form_at l 10).mark ≡ up_to 63) × ((form_at l 
 use-mark source = (refl, refl)
 use-mark target = (refl, refl)
 
-pub mark-used : (l : Language) (t : List ℕ) (n : ℕ) → record_fault l t n ≡ 0 → kind_of t n ≡ 10 → mark_of t n < 64
+pub mark-used : (l : Language) (t : List ℕ) (n : ℕ) → record_fault l t n ≡ Ok tt → kind_of t n ≡ 10 → mark_of t n < 64
 mark-used l t n h e = mark-of l t n (form_at l 10) (ap (form_of l) e ∙ use-form l) (use-mark l).0 h
 
-pub mark-let : (l : Language) (t : List ℕ) (n : ℕ) → record_fault l t n ≡ 0 → kind_of t n ≡ 47 → mark_of t n < 64
+pub mark-let : (l : Language) (t : List ℕ) (n : ℕ) → record_fault l t n ≡ Ok tt → kind_of t n ≡ 47 → mark_of t n < 64
 mark-let l t n h e = mark-of l t n (form_at l 47) (ap (form_of l) e ∙ let-form l) (use-mark l).1 h
 
 -- ---- scopes
@@ -86,7 +88,7 @@ same-pick true q b c h k = ap not (h refl)
 same-pick false true b c h k = k refl
 same-pick false false b c h k = refl
 
-pub scoped-fault : (l : Language) (t : List ℕ) (n s : ℕ) → record_fault l t n ≡ 0 → Scoped l t n s
+pub scoped-fault : (l : Language) (t : List ℕ) (n s : ℕ) → record_fault l t n ≡ Ok tt → Scoped l t n s
     → out_of_scope (kind_of t n) (mark_of t n) s ≡ scope_fault l t n
 unfolding scope_fault
 scoped-fault l t n s e h =
@@ -105,11 +107,11 @@ level-most t (suc d) n = go (parent_of source t n) (λ m. level-most t d m)
   where
     go : (s : Search) → ((m : ℕ) → level_of t d m ≤ 4 * d)
         → elim s as (λ q. ℕ) [
-          | Search.At m ↦ level_below (kind_of t m) (position_in (fields_of (record_at t m)) n) (level_of t d m)
-          | Search.Nothing ↦ 0
+          | Some m ↦ level_below (kind_of t m) (position_in (fields_of (record_at t m)) n) (level_of t d m)
+          | None ↦ 0
         ] ≤ 4 * suc d
-    go Search.Nothing f = omega arith
-    go (Search.At m) f =
+    go None f = omega arith
+    go (Some m) f =
         let i = position_in (fields_of (record_at t m)) n in
         omega (
           arith,

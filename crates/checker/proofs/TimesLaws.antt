@@ -22,6 +22,7 @@ use Rattle.checker_forms.proofs.FieldLaws.{field-none, field-child}
 use Rattle.checker.specs.Searches.{joined, noted, note_at, third_child, Room}
 use Rattle.checker.specs.Scopes.{Noted}
 use Rattle.checker.proofs.NoteLaws.{note_in, note_three, three-length, three-noted, note-digit, put-number}
+use Rattle.std.specs.Prelude.{Ok}
 
 abbrev in_three : ℕ → Record → ℕ → ℕ
 in_three x r j =
@@ -56,7 +57,7 @@ field-self d x p q =
     ap (λ (f : Field). times_in f x x) (field-child d (λ e. omega arith) (omega arith)) ∙ same-yes x
 
 -- the children of a record that keeps 3 to 5 stand before it, and are what stands in A, B and, but for a query, C
-module _ (l : Language) (t : List ℕ) (n : ℕ) (keeps : record_fault l t n ≡ 0) (notes : List ℕ) where
+module _ (l : Language) (t : List ℕ) (n : ℕ) (keeps : record_fault l t n ≡ Ok tt) (notes : List ℕ) where
   abbrev code : ℕ
   code = code_of l (kind_of t n)
 

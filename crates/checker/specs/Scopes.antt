@@ -1,12 +1,14 @@
 -- Variables in scope as the bits of a number, and what is noted below a record.
 use Rattle.std.specs.Prelude.{ℕ, zero, suc, ◌/◌, ◌%◌, ◌<◌, ◌≤◌, Bool, true, false, not, cond, List, ◌≡◌, eqb, ltb, leb, length, get_or}
-use Rattle.rules.specs.declared.{Search.Search}
 use Rattle.rules.specs.Sizes.{temporary_count}
 use Rattle.rules.specs.Records.{fields_of, record_count, kind_of, record_at}
 use Rattle.rules.specs.Kinds.{Language, record_limit}
 use Rattle.rules.specs.Checker.{lowest_record, record_fault, times_child_of, shape_fault, scope_fault, is_term_or_predicate}
 use Rattle.rules.specs.Checker.{level_below, position_in, highest_named}
 use Rattle.checker.specs.Searches.{search_of, noted}
+use Rattle.std.specs.Prelude.{None}
+use Rattle.rules.specs.Types.{Found}
+use Rattle.std.specs.Prelude.{is_err}
 
 unfoldable pub bit : ℕ → ℕ → Bool
 bit s zero = eqb (s % 2) 1
@@ -39,12 +41,12 @@ pub record Sized (l : Language) (t : List ℕ) : Type 0 where
 -- rules 1 to 5 are kept
 pub record Formed (l : Language) (t : List ℕ) : Type 0 where
   pub sized : Sized l t
-  pub records : lowest_record t (λ n. ltb 0 (record_fault l t n)) ≡ Search.Nothing
+  pub records : lowest_record t (λ n. is_err (record_fault l t n)) ≡ None
 
 -- rules 1 to 6 are kept
 pub record Kept (l : Language) (t : List ℕ) : Type 0 where
   pub formed : Formed l t
-  pub shapes : lowest_record t (shape_fault l t) ≡ Search.Nothing
+  pub shapes : lowest_record t (shape_fault l t) ≡ None
 
 -- a note for each record of a table that keeps 1 to 5, nothing being noted yet
 pub record Ready (l : Language) (t notes : List ℕ) : Type 0 where

@@ -19,6 +19,7 @@ use Rattle.checker_forms.specs.Codes.{fields_from}
 use Rattle.checker_forms.specs.Codes.{fields_there, entry, decoded, Coded, sort_by}
 use Rattle.checker_forms.proofs.CodeLaws.{code_of, code-of, sort-by}
 use Rattle.checker_forms.proofs.FieldLaws.{field-none, field-child, field-number, sort-digit}
+use Rattle.std.specs.Prelude.{Ok}
 
 -- three tests in a row
 pub third : (p q r : Bool) → p ≡ true → q ≡ true → r ≡ (p && q && r)
@@ -153,10 +154,10 @@ module _ (l : Language) (t : List ℕ) (n x : ℕ) (k : Coded l (kind_of t n) x)
       ap (fault_of l t n) (k.asks ∙ is_some)
 
 -- the kind of a record that keeps 3 is in the language
-pub kept-kind : (l : Language) (t : List ℕ) (n : ℕ) → record_fault l t n ≡ 0 → code_of l (kind_of t n) ≡ 0 → ⊥
+pub kept-kind : (l : Language) (t : List ℕ) (n : ℕ) → record_fault l t n ≡ Ok tt → code_of l (kind_of t n) ≡ 0 → ⊥
 kept-kind l t n h e = omega (arith, h, fault-none l t n (code_of l (kind_of t n)) (code-of l (kind_of t n)) e)
 
-pub kept-sort : (l : Language) (t : List ℕ) (n : ℕ) → record_fault l t n ≡ 0
+pub kept-sort : (l : Language) (t : List ℕ) (n : ℕ) → record_fault l t n ≡ Ok tt
     → sort_of l (kind_of t n) ≡ sort_by (kind_of t n)
 kept-sort l t n h = sort-by l (kind_of t n) (kept-kind l t n h)
 
@@ -165,7 +166,7 @@ fits-first : (p q : Bool) → ◌≡◌ {A = ℕ} (cond p (cond q 0 5) 4) 0 → 
 fits-first true q e = refl
 fits-first false q e = absurd (omega arith)
 
-pub kept_there : (l : Language) (t : List ℕ) (n : ℕ) → record_fault l t n ≡ 0
+pub kept_there : (l : Language) (t : List ℕ) (n : ℕ) → record_fault l t n ≡ Ok tt
     → let x = code_of l (kind_of t n) in
     (field_fits (field_from (x / 4096 % 16)) (child_a t n) ≡ true)
     × (field_fits (field_from (x / 256 % 16)) (child_b t n) ≡ true)

@@ -5,6 +5,7 @@ use Rattle.rules.specs.Kinds.{Language, source, target, Sort, expression, place,
 use Rattle.rules.specs.Kinds.{unnamed, child, number, between, Literal, zero_literal, any_literal, statement_literal}
 use Rattle.rules.specs.Kinds.{Form, form, beside, form_of}
 use Rattle.rules.specs.Checker.{all, field_fits, sort_of, record_fault}
+use Rattle.std.specs.Prelude.{Ok}
 
 abbrev pub language_of : Bool → Language
 language_of true = target
@@ -82,7 +83,7 @@ sort_by k = cond (ltb k 40) (k / 10 + 1) 5
 
 -- the records before n keep 3 to 5
 abbrev pub Before : Language → List ℕ → ℕ → Type 0
-Before l t n = (i : ℕ) → 1 ≤ i → i < n → record_fault l t i ≡ 0
+Before l t n = (i : ℕ) → 1 ≤ i → i < n → record_fault l t i ≡ Ok tt
 
 -- fields are what x asks
 unfoldable pub fields_there : ℕ → List ℕ → Bool

@@ -17,10 +17,12 @@ use Rattle.rules.proofs.Acceptance.FormLaws.{FieldHolds}
 use Rattle.rules.proofs.Acceptance.Standing.{stands, stands_at}
 use Rattle.rules.proofs.Acceptance.SoundSource.{up_to}
 use Rattle.table.specs.Within.{Within}
-use Rattle.rules.specs.declared.{Value.Value, Evaluated.Evaluated, Found.Found}
+use Rattle.rules.specs.declared.{Value.Value}
+use Rattle.rules.specs.Types.{Evaluated, Found}
 use Rattle.evaluation.specs.State.{Settles}
 use Rattle.evaluation.specs.declared.Settled.{Settled}
 use Rattle.evaluation.specs.declared.Settled.TheVariants as settled
+use Rattle.std.specs.Prelude.{Err, Ok}
 
 abbrev pub Stands : List ℕ → ℕ → Sort → Type 0
 Stands t n s = sort_of_node target (node_at target t n) ≡ sort_number s
@@ -73,18 +75,18 @@ module _ (t : List ℕ) (τ : Holding ℕ) (ρ : Variables) (m : Memory) where
 
   module _ (n : ℕ) where
     pub literal-arm : {z : ℤ} → Stands t n expression → kind_of t n ≡ 1 → z ≡ literal_of t n
-        → Evaluated.Value (Value.Integer z) ≡ value_at n
+        → Ok (Value.Integer z) ≡ value_at n
     unfolding evaluate
     literal-arm h d e =
-        ap (λ (z : ℤ). Evaluated.Value (Value.Integer z)) e
+        ap (λ (z : ℤ). Ok (Value.Integer z)) e
         ∙ sym (by-node (stands_at target t n 1 expression h d).node)
 
     pub read-arm : {r : Evaluated} {f : Found} {j : ℕ} → Stands t n expression → kind_of t n ≡ 2
-        → j ≡ child_a t n → f ≡ found_at j → r ≡ on_place f Evaluated.Stopped (read_cell m) → r ≡ value_at n
+        → j ≡ child_a t n → f ≡ found_at j → r ≡ on_place f Err (read_cell m) → r ≡ value_at n
     unfolding evaluate
     read-arm h d e f r =
         r
-        ∙ ap (λ (f : Found). on_place f Evaluated.Stopped (read_cell m)) (f ∙ ap found_at e)
+        ∙ ap (λ (f : Found). on_place f Err (read_cell m)) (f ∙ ap found_at e)
         ∙ sym (by-node (stands_at target t n 2 expression h d).node)
 
     pub address-arm : {r : Evaluated} {f : Found} {j : ℕ} → Stands t n expression → kind_of t n ≡ 3
@@ -128,10 +130,10 @@ module _ (t : List ℕ) (τ : Holding ℕ) (ρ : Variables) (m : Memory) where
         r ∙ ap₂ (operated (live_block m) (operator_of (mark_of t n))) (x ∙ ap value_at e) (y ∙ ap value_at f) ∙ sym h.value
 
     pub variable-arm : {v : ℕ} → Stands t n place → kind_of t n ≡ 10 → v ≡ mark_of t n
-        → Found.Place (record { name = ρ v; offset = pos 0 }) ≡ found_at n
+        → Ok (record { name = ρ v; offset = pos 0 }) ≡ found_at n
     unfolding evaluate
     variable-arm h d e =
-        ap (λ (v : ℕ). Found.Place (record { name = ρ v; offset = pos 0 })) e
+        ap (λ (v : ℕ). Ok (record { name = ρ v; offset = pos 0 })) e
         ∙ sym (by_place (stands_at target t n 10 place h d).node)
 
     pub pointer-arm : {r : Found} {x : Evaluated} {i : ℕ} → Stands t n place → kind_of t n ≡ 11

@@ -1,7 +1,7 @@
 -- What a run's own numbers stand for: the blocks of the variables.
 use Rattle.std.specs.Prelude.{ℕ, List, ◌≡◌, get_or}
 use Rattle.rules.specs.Evaluation.{Variables, Holding}
-use Rattle.rules.specs.declared.{Evaluated.Evaluated}
+use Rattle.rules.specs.Types.{Evaluated}
 use Rattle.evaluation.specs.declared.Settled.{Settled}
 use Rattle.evaluation.specs.declared.Settled.TheVariants as settled
 

@@ -21,10 +21,11 @@ use Rattle.rules.proofs.Acceptance.FormLaws.{FieldHolds}
 use Rattle.rules.proofs.Acceptance.Standing.{stands, stands_at}
 use Rattle.rules.proofs.Runs.SharedExpressions.{target-expression, evaluated-alike}
 use Rattle.table.specs.Within.{Within}
-use Rattle.rules.specs.declared.{Evaluated.Evaluated, Test.Test}
+use Rattle.rules.specs.Types.{Evaluated, Test}
 use Rattle.evaluation_predicates.specs.Joints.{joint_of}
 use Rattle.evaluation_predicates.specs.declared.Joint.{Joint}
 use Rattle.evaluation_predicates.specs.declared.Joint.TheVariants as joint
+use Rattle.std.specs.Prelude.{Err, Ok}
 
 abbrev pub Stands : List ℕ → ℕ → Sort → Type 0
 Stands t n s = sort_of_node source (node_at source t n) ≡ sort_number s
@@ -69,29 +70,29 @@ abbrev pub by_joint : Joint → Evaluated → Evaluated
 by_joint (joint.Decided e) b = e
 by_joint joint.Open b = b
 
-joint-and : (a b : Evaluated) → by_joint (joint_of false a) b ≡ on_value a Evaluated.Stopped (λ v. and_then v b)
-joint-and (Evaluated.Stopped k) b = refl
-joint-and (Evaluated.Value v) b = go (tested v)
+joint-and : (a b : Evaluated) → by_joint (joint_of false a) b ≡ on_value a Err (λ v. and_then v b)
+joint-and (Err k) b = refl
+joint-and (Ok v) b = go (tested v)
   where
     go : (t : Test)
-        → by_joint (on_test t (λ k. joint.Decided (Evaluated.Stopped k)) joint.Open
-        (joint.Decided (Evaluated.Value v))) b
-        ≡ on_test t Evaluated.Stopped b (Evaluated.Value v)
-    go Test.Yes = refl
-    go Test.No = refl
-    go (Test.Stopped k) = refl
+        → by_joint (on_test t (λ k. joint.Decided (Err k)) joint.Open
+        (joint.Decided (Ok v))) b
+        ≡ on_test t Err b (Ok v)
+    go (Ok true) = refl
+    go (Ok false) = refl
+    go (Err k) = refl
 
-joint-or : (a b : Evaluated) → by_joint (joint_of true a) b ≡ on_value a Evaluated.Stopped (λ v. or_else v b)
-joint-or (Evaluated.Stopped k) b = refl
-joint-or (Evaluated.Value v) b = go (tested v)
+joint-or : (a b : Evaluated) → by_joint (joint_of true a) b ≡ on_value a Err (λ v. or_else v b)
+joint-or (Err k) b = refl
+joint-or (Ok v) b = go (tested v)
   where
     go : (t : Test)
-        → by_joint (on_test t (λ k. joint.Decided (Evaluated.Stopped k)) (joint.Decided (Evaluated.Value v))
+        → by_joint (on_test t (λ k. joint.Decided (Err k)) (joint.Decided (Ok v))
         joint.Open) b
-        ≡ on_test t Evaluated.Stopped (Evaluated.Value v) b
-    go Test.Yes = refl
-    go Test.No = refl
-    go (Test.Stopped k) = refl
+        ≡ on_test t Err (Ok v) b
+    go (Ok true) = refl
+    go (Ok false) = refl
+    go (Err k) = refl
 
 module _ (t : List ℕ) (ρ : Variables) (m : Memory) where
   abbrev pub term_at : ℕ → Evaluated
@@ -108,7 +109,7 @@ module _ (t : List ℕ) (ρ : Variables) (m : Memory) where
   by-predicate e = ap (λ (x : SourceNode). evaluate_predicate (as_predicate x) ρ m) e
 
   abbrev pub asked_of : ℕ → Evaluated → Evaluated
-  asked_of q e = on_value e Evaluated.Stopped (query_memory (query_of q) m)
+  asked_of q e = on_value e Err (query_memory (query_of q) m)
 
   module _ (n : ℕ) where
     pub value-arm : {r : Evaluated} {j : ℕ} (τ : Temporaries) → Stands t n term → kind_of t n ≡ 20 → j ≡ child_a t n
@@ -179,11 +180,11 @@ module _ (t : List ℕ) (ρ : Variables) (m : Memory) where
         ∙ sym (by-predicate (stands_at source t n 32 predicate h d).node)
 
     pub negated-arm : {r x : Evaluated} {j : ℕ} → Stands t n predicate → kind_of t n ≡ 33 → j ≡ child_a t n
-        → x ≡ predicate_at j → r ≡ on_value x Evaluated.Stopped opposite → r ≡ predicate_at n
+        → x ≡ predicate_at j → r ≡ on_value x Err opposite → r ≡ predicate_at n
     unfolding evaluate_predicate
     negated-arm h d e x r =
         r
-        ∙ ap (λ (x : Evaluated). on_value x Evaluated.Stopped opposite) (x ∙ ap predicate_at e)
+        ∙ ap (λ (x : Evaluated). on_value x Err opposite) (x ∙ ap predicate_at e)
         ∙ sym (by-predicate (stands_at source t n 33 predicate h d).node)
 
     -- 'and' and 'or'

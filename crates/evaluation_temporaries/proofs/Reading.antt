@@ -13,11 +13,13 @@ use Rattle.rules.specs.Watched.{Temporaries, temporary_of, held_in}
 use Rattle.rules.proofs.Lists.Rows.{get_d_tabulate}
 use Rattle.memory_cells.proofs.Reading.{other-cell}
 use Rattle.evaluation_temporaries.specs.Bytes.{temporary_in, temporary_place, temporary_at, temporaries_of}
-use Rattle.rules.specs.declared.{Value.Value, Evaluated.Evaluated, Cell.Cell, Temporary.Temporary}
+use Rattle.rules.specs.declared.{Value.Value, Cell.Cell}
+use Rattle.rules.specs.Types.{Evaluated}
+use Rattle.std.specs.Prelude.{Err, None, Ok}
 
 pub temporary-in : (l : List ℕ) (n : ℕ) → n < 64 → temporary_of (temporaries_of l) n ≡ temporary_at l n
 unfolding temporaries_of
-temporary-in l n h = get_d_tabulate 64 0 n (temporary_at l) Temporary.Empty h ∙ ap (temporary_at l) (zero-add n)
+temporary-in l n h = get_d_tabulate 64 0 n (temporary_at l) None h ∙ ap (temporary_at l) (zero-add n)
 
 abbrev told : ℕ → ℕ → ℤ → Evaluated
 told k w z = held (temporary_in (cell_from k 0 w z))
@@ -39,19 +41,19 @@ module _ (l : List ℕ) (n : ℕ) (h : n < 64) where
   held_by : (k : ℕ) → kind ≡ k → told k name number ≡ held_in (temporaries_of l) n
   held_by k e = sym (held_at ∙ ap (λ (k : ℕ). told k name number) e)
 
-  pub empty-held : kind ≡ 0 → Evaluated.Stopped 49 ≡ held_in (temporaries_of l) n
+  pub empty-held : kind ≡ 0 → Err 49 ≡ held_in (temporaries_of l) n
   empty-held e = held_by 0 e
 
-  pub undefined-held : kind ≡ 1 → Evaluated.Value Value.Undefined ≡ held_in (temporaries_of l) n
+  pub undefined-held : kind ≡ 1 → Ok Value.Undefined ≡ held_in (temporaries_of l) n
   undefined-held e = held_by 1 e
 
-  pub integer-held : {z : ℤ} → kind ≡ 2 → z ≡ number → Evaluated.Value (Value.Integer z) ≡ held_in (temporaries_of l) n
-  integer-held e z = ap (λ (z : ℤ). Evaluated.Value (Value.Integer z)) z ∙ held_by 2 e
+  pub integer-held : {z : ℤ} → kind ≡ 2 → z ≡ number → Ok (Value.Integer z) ≡ held_in (temporaries_of l) n
+  integer-held e z = ap (λ (z : ℤ). Ok (Value.Integer z)) z ∙ held_by 2 e
 
   pub pointer-held : {w : ℕ} {z : ℤ} → kind ≢ 0 → kind ≢ 1 → kind ≢ 2 → w ≡ name → z ≡ number
-      → Evaluated.Value (Value.Pointer (record { name = w; offset = z })) ≡ held_in (temporaries_of l) n
+      → Ok (Value.Pointer (record { name = w; offset = z })) ≡ held_in (temporaries_of l) n
   pointer-held a b c w z =
-      ap₂ (λ (w : ℕ) (z : ℤ). Evaluated.Value (Value.Pointer (record { name = w; offset = z }))) w z
+      ap₂ (λ (w : ℕ) (z : ℤ). Ok (Value.Pointer (record { name = w; offset = z }))) w z
       ∙ ap (λ (x : Cell). held (temporary_in x)) (other-cell kind 0 name number a b c)
       ∙ sym held_at
 

@@ -4,12 +4,14 @@ use Rattle.rules.specs.Sizes.{temporary_count}
 use Rattle.rules.specs.Words.{word_at, integer_at, tabulate}
 use Rattle.rules.specs.Layout.{cell_from}
 use Rattle.rules.specs.Watched.{Temporaries}
-use Rattle.rules.specs.declared.{Cell.Cell, Temporary.Temporary}
+use Rattle.rules.specs.declared.{Cell.Cell}
+use Rattle.rules.specs.Types.{Temporary}
+use Rattle.std.specs.Prelude.{None, Some}
 
 -- a free cell is an empty temporary; an owner counts for nothing
 abbrev pub temporary_in : Cell → Temporary
-temporary_in Cell.Free = Temporary.Empty
-temporary_in (Cell.Holds o v) = Temporary.Holds v
+temporary_in Cell.Free = None
+temporary_in (Cell.Holds o v) = Some v
 
 -- 64 cells of 16 bytes, laid out as the memory's
 abbrev pub temporary_place : ℕ → ℕ

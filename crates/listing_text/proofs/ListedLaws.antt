@@ -9,14 +9,15 @@ use lib.ListN.{length}
 use Rattle.rules.specs.Words.{put}
 use Rattle.rules.specs.Kinds.{source}
 use Rattle.rules.specs.Checker.{check}
-use Rattle.rules.specs.declared.{Checked.Checked}
+use Rattle.rules.specs.Types.{Checked}
 use Rattle.rules.specs.Listing.{listing_by, listing}
 use Rattle.listing_text.specs.Text.{Written, refusal_line, translated_lines, longest_text, text_into, listed}
 use Rattle.listing_text.proofs.LongestText.{length-refusal}
 use Rattle.listing_text.proofs.TranslationLaws.{lines_fit}
+use Rattle.std.specs.Prelude.{Ok}
 
 -- by the checker's word
-pub accepted-listing : (t : List ℕ) → check source t ≡ Checked.Accepted → translated_lines t ≡ listing t
+pub accepted-listing : (t : List ℕ) → check source t ≡ (Ok tt) → translated_lines t ≡ listing t
 accepted-listing t e = ap (λ x. listing_by x t) (sym e)
 
 pub refused-listing : (t : List ℕ) (k n : ℕ) → check source t ≡ Checked.Refused k n → refusal_line k n ≡ listing t
@@ -27,7 +28,7 @@ pub longest : (t : List ℕ) → length (listing t) ≤ longest_text
 longest t = by_word (check source t) refl
   where
     by_word : (w : Checked) → check source t ≡ w → length (listing t) ≤ longest_text
-    by_word Checked.Accepted e = omega (arith, ap length (accepted-listing t e), lines_fit t e)
+    by_word (Ok tt) e = omega (arith, ap length (accepted-listing t e), lines_fit t e)
     by_word (Checked.Refused k n) e = omega (arith, ap length (refused-listing t k n e), length-refusal k n)
 
 -- by the length of the output

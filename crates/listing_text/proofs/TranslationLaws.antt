@@ -12,7 +12,7 @@ use Rattle.rules.specs.Words.{put, tabulate}
 use Rattle.rules.specs.Records.{record_count, record_at}
 use Rattle.rules.specs.Kinds.{source, target}
 use Rattle.rules.specs.Checker.{check}
-use Rattle.rules.specs.declared.{Checked.Checked, Answer.Answer}
+use Rattle.rules.specs.declared.{Answer.Answer}
 use Rattle.rules.specs.Nodes.{source_program}
 use Rattle.rules.specs.Emission.{statement_tree, tree_size}
 use Rattle.rules.specs.Translation.{translate, translated_records, translation}
@@ -31,8 +31,9 @@ use Rattle.rules.proofs.Translation.RecordBytes.{AllFit, no_record, table-record
 use Rattle.rules.proofs.Lists.Rows.{tabulate-list}
 use Rattle.listing_text.specs.Text.{records_of, table_lines, translated_lines, longest_text}
 use Rattle.listing_text.proofs.LongestText.{length-lines}
+use Rattle.std.specs.Prelude.{Ok}
 
-module _ (t : List ℕ) (a : check source t ≡ Checked.Accepted) where
+module _ (t : List ℕ) (a : check source t ≡ (Ok tt)) where
   tree-small : tree_size (statement_tree (translate (source_program t))) ≤ 3584
   tree-small = omega (arith, size-bound t a, (accepted-says source t a).not-too-many)
 
@@ -61,7 +62,7 @@ module _ (t : List ℕ) (a : check source t ≡ Checked.Accepted) where
 
   -- what the translator hands back, in an output that is long enough
   module _ (o : List ℕ) (room : 57344 ≤ length o) (m : List ℕ) (r : Answer)
-      (e : r ≡ (translated_by Checked.Accepted t o).answer) (f : m ≡ (translated_by Checked.Accepted t o).out) where
+      (e : r ≡ (translated_by (Ok tt) t o).answer) (f : m ≡ (translated_by (Ok tt) t o).out) where
     size : length (translation t) ≡ 16 * length (translated_records t)
     size = table-length (translated_records t)
 
@@ -70,7 +71,7 @@ module _ (t : List ℕ) (a : check source t ≡ Checked.Accepted) where
 
     pub record-count : r.«record» * 16 ≡ length (translation t)
     record-count =
-        let k : (translated_by Checked.Accepted t o).answer.«record» ≡ record_count (translation t) =
+        let k : (translated_by (Ok tt) t o).answer.«record» ≡ record_count (translation t) =
         rw (enough, translated_by) in
         omega (arith, ap (λ (x : Answer). x.«record») e, k, table-count (translated_records t), size)
 

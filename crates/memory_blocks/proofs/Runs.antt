@@ -12,7 +12,7 @@ use Rattle.rules.specs.Memory.{Memory, recorded_of, named, block_of, cell_of, is
 use Rattle.rules.specs.Memory.{free_run, next_name}
 use Rattle.rules.specs.Observation.{covers}
 use Rattle.rules.specs.Layout.{memory_of, block_place, cell_place, block_at, cell_from, cell_at}
-use Rattle.rules.specs.declared.{Search.Search, Recorded.Recorded, Block.Block, Cell.Cell}
+use Rattle.rules.specs.declared.{Recorded.Recorded, Block.Block, Cell.Cell}
 use Rattle.rules.proofs.Lists.RunLaws.{Held, lowest-at}
 use Rattle.rules.proofs.Lists.SearchLaws.{Outcome, lowest-outcome}
 use Rattle.rules.proofs.Memory.MemoryLaws.{named_in, named-map, coverage}
@@ -20,17 +20,18 @@ use Rattle.rules.proofs.Memory.Invariant.{Invariant, Owned, occupied, records_of
 use Rattle.rules.proofs.Memory.BlockEnds.{held-to-end, block-covers}
 use Rattle.memory_cells.proofs.Reading.{cell_in, block-named, count-blocks}
 use Rattle.block_places.specs.Ends.{end_at}
+use Rattle.std.specs.Prelude.{Some}
 
 -- the test of a cell, by the bytes
 abbrev pub free_in : List ℕ → ℕ → Bool
 free_in l i = is_free (cell_of (memory_of l) i)
 
-pub name-bound : (m : Memory) (k : ℕ) → next_name m ≡ Search.At k → (0 < k) × (k ≤ name_count)
+pub name-bound : (m : Memory) (k : ℕ) → next_name m ≡ Some k → (0 < k) × (k ≤ name_count)
 name-bound m k e =
     let w = subst (Outcome (λ (j : ℕ). is_unused (block_of m j)) 1 name_count) e (lowest-outcome _ 1 name_count) in
     (omega (arith, w.0), omega (arith, w.1))
 
-pub run-of-none : (m : Memory) → Search.At 0 ≡ free_run m 0
+pub run-of-none : (m : Memory) → Some 0 ≡ free_run m 0
 unfolding lowest_run all_free
 run-of-none m =
     sym (lowest-at (λ (j : ℕ). all_free (λ (i : ℕ). is_free (cell_of m i)) j 0) (suc cell_count) 0 0

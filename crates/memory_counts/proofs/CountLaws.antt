@@ -12,7 +12,7 @@ use Rattle.rules.specs.Sizes.{name_count, cell_count}
 use Rattle.rules.specs.Checker.{inputs_fault}
 use Rattle.rules.specs.Memory.{Memory, recorded_of, block_of, cell_of, store_cell, is_free, next_name, Use, made, make_block}
 use Rattle.rules.specs.Memory.{with_block, end_block, without_cells, count_free, start_memory}
-use Rattle.rules.specs.declared.{Pointer.Pointer, Value.Value, Search.Search, Recorded.Recorded, Block.Block, Cell.Cell}
+use Rattle.rules.specs.declared.{Pointer.Pointer, Value.Value, Recorded.Recorded, Block.Block, Cell.Cell}
 use Rattle.rules.proofs.Lists.RunLaws.{NoneBelow, lowest_given, none-taken, none-given, taken-within, given-within}
 use Rattle.rules.proofs.Memory.MemoryLaws.{fill-inside, fill-below, fill-above, coverage}
 use Rattle.rules.proofs.Runs.Keeping.{AnyNumber, MadeKeeps}
@@ -31,6 +31,7 @@ use Rattle.rules_counting.proofs.Adjusting.{store-blocks}
 use Rattle.rules_counting.proofs.Starting.{start-free, start-next}
 use Rattle.rules_counting.proofs.NextNames.{name-is, new-next, end-next, names-decide}
 use Rattle.memory_counts.specs.Counted.{free_in, next_in, lowest_in, start_counts, after_new, after_end, Counted}
+use Rattle.std.specs.Prelude.{Some}
 
 pub counted_is : {m m₁ : Memory} {c c₁ : List ℕ} → m₁ ≡ m → c₁ ≡ c → Counted m c → Counted m₁ c₁
 counted_is p q h = rw (p, q) h
@@ -38,7 +39,7 @@ counted_is p q h = rw (p, q) h
 module _ {m : Memory} {c : List ℕ} (h : Counted m c) where
   -- a new block, of the n cells from first on
   module _ (u : Use) (n k first : ℕ) (e : make_block m u n ≡ made k (with_block m u k first n))
-      (next : next_name m ≡ Search.At k) (bound : first + n ≤ cell_count) where
+      (next : next_name m ≡ Some k) (bound : first + n ≤ cell_count) where
     abbrev m₁ : Memory
     m₁ = with_block m u k first n
 

@@ -4,7 +4,8 @@ use lib.IntN.{ℤ, pos}
 use Rattle.rules.specs.Trees.{base, offset, block_length}
 use Rattle.rules.specs.Evaluation.{of_live, queried}
 use Rattle.rules.specs.Observation.{Observation, record_of, query_observation}
-use Rattle.rules.specs.declared.{Pointer.Pointer, Value.Value, Evaluated.Evaluated, Recorded.Recorded}
+use Rattle.rules.specs.declared.{Pointer.Pointer, Value.Value, Recorded.Recorded}
+use Rattle.rules.specs.Types.{Evaluated}
 use Rattle.observation_block_queries.specs.Spans.{span_of}
 
 module _ (o : Observation) (v : Value) (p : Pointer) (e : v ≡ Value.Pointer p) where

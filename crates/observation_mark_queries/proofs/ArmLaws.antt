@@ -5,7 +5,8 @@ use Rattle.rules.specs.Trees.{valid, initialised}
 use Rattle.rules.specs.Numbers.{truth_value}
 use Rattle.rules.specs.Evaluation.{is_valid, initialised_at, queried}
 use Rattle.rules.specs.Observation.{Observation, locate_mark, query_observation, is_marked}
-use Rattle.rules.specs.declared.{Pointer.Pointer, Value.Value, Evaluated.Evaluated, Located.Located}
+use Rattle.rules.specs.declared.{Pointer.Pointer, Value.Value}
+use Rattle.rules.specs.Types.{Evaluated, Located}
 
 module _ (o : Observation) (v : Value) (p : Pointer) (e : v ≡ Value.Pointer p) where
   pub query-valid : {at : Located} {b : Bool} {r : Evaluated} → at ≡ locate_mark o p → b ≡ is_valid at → r ≡ truth_value

@@ -15,9 +15,10 @@ use Rattle.rules.specs.Checker.{lowest}
 use Rattle.rules.specs.Memory.{lowest_run}
 use Rattle.rules.specs.Observation.{Observation, refused, record_of, mark_run, with_marks, store_at, store_sized}
 use Rattle.rules.specs.Layout.{observation_of}
-use Rattle.rules.specs.declared.{Search.Search, Recorded.Recorded}
+use Rattle.rules.specs.declared.{Recorded.Recorded}
 use Rattle.rules.proofs.Memory.ObservationOrder.{OrderlyObservation, mark_run-clear}
 use Rattle.observation_blocks.specs.Changes.{ObservationBecomes, with_named}
+use Rattle.std.specs.Prelude.{None, Some}
 
 -- ---- sizes
 pub size-positive : (w : ℤ) → lt_z w (pos 1) ≡ false → T (non_neg w)
@@ -30,12 +31,12 @@ size-range (pos n) e f =
     (omega (arith, lt_z-false (pos n) (pos 1) e), omega (arith, lt_z-false (pos cell_count) (pos n) f))
 size-range (negsuc n) e f = absurd (subst T e tt)
 
-no_run : (p : ℕ → Bool) (n : ℕ) → cell_count < n → lowest_run p n ≡ Search.Nothing
+no_run : (p : ℕ → Bool) (n : ℕ) → cell_count < n → lowest_run p n ≡ None
 unfolding lowest_run lowest
 no_run p n h = let none : suc cell_count - n ≡ 0 = omega arith in rw none refl
 
 module _ (o : Observation) (k : ℕ) where
-  none-stored : (n : ℕ) (b : Recorded) → store_at o k n b Search.Nothing ≡ refused 48
+  none-stored : (n : ℕ) (b : Recorded) → store_at o k n b None ≡ refused 48
   none-stored n Recorded.Unused = refl
   none-stored n (Recorded.Live first l) = refl
   none-stored n Recorded.Dead = refl
@@ -74,7 +75,7 @@ module _ (o : Observation) (k : ℕ) where
 
 -- ---- the marks of the run that is found are 0, so the block's record is all that is written
 pub becomes-stored : {l l' : List ℕ} (k first n : ℕ) → OrderlyObservation (observation_of l)
-    → mark_run (observation_of l) n ≡ Search.At first
+    → mark_run (observation_of l) n ≡ Some first
     → ObservationBecomes l l' (with_named (observation_of l) k (Recorded.Live first n))
     → ObservationBecomes l l' (with_marks (observation_of l) k (Recorded.Live first n) first n)
 becomes-stored {l} k first n y e b = rw (mark_run-clear (observation_of l) n first y e) b

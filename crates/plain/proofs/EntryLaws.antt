@@ -18,7 +18,8 @@ use Rattle.rules.specs.Plain.{run, start_variables}
 use Rattle.rules.specs.Layout.{memory_of, memory_image}
 use Rattle.rules.specs.Answers.{answer, inputs_of, plain_outcome, plain_ended, plain_refused}
 use Rattle.rules.specs.Answers.{plain_as, plain_by, PlainRun}
-use Rattle.rules.specs.declared.{Checked.Checked, Answer.Answer}
+use Rattle.rules.specs.declared.{Answer.Answer}
+use Rattle.rules.specs.Types.{Checked}
 use Rattle.rules.proofs.Acceptance.Sound.{start_scope}
 use Rattle.rules.proofs.Acceptance.AcceptedPrograms.{accepted-program, padded-program}
 use Rattle.rules.specs.Fits.{FitsMemory}
@@ -29,9 +30,10 @@ use Rattle.run_endings.specs.declared.Ended.{Ended}
 use Rattle.plain_runs.specs.Running.{Ready, EndsSo}
 use Rattle.plain_runs.proofs.Laws.{ran-is}
 use Rattle.plain.specs.Answering.{AnsweredBy}
+use Rattle.std.specs.Prelude.{Ok}
 
 -- ---- the start
-module _ (t l : List ℕ) (h : check source t ≡ Checked.Accepted) where
+module _ (t l : List ℕ) (h : check source t ≡ (Ok tt)) where
   pub table-length : length t ≤ target_limit * 16
   table-length = let a = accepted-program source t h in omega (arith, a.whole, a.not-too-many)
 
@@ -53,7 +55,7 @@ module _ (i : List ℕ) (e : inputs_fault i ≡ false) (l : List ℕ) (s : l ≡
   start-view = ap memory_of s ∙ memory-back (start_memory (inputs_of i)) start_fits
 
   -- what a run leaves has its length
-  pub exit_length : (t : List ℕ) (f : ℕ) (r : Ended) (l₁ : List ℕ) → check source t ≡ Checked.Accepted
+  pub exit_length : (t : List ℕ) (f : ℕ) (r : Ended) (l₁ : List ℕ) → check source t ≡ (Ok tt)
       → EndsSo (ending (run (source_program t) start_variables (memory_of l) f)) r l l₁ → length l₁ ≡ memory_length
   exit_length t f r l₁ h w =
       let o = plain_outcome t i f in
@@ -81,24 +83,24 @@ module _ (i : List ℕ) (e : inputs_fault i ≡ false) (l : List ℕ) (s : l ≡
 -- ---- the rules 9 and 21
 module _ (t i : List ℕ) (f : ℕ) (m : List ℕ) where
   by-faults : (b c : Bool) → inputs_fault i ≡ b → memory_fault m ≡ c
-      → plain_by Checked.Accepted t i f m ≡ plain_as (refuse_if 9 b otherwise refuse_if 21 c) t i f m
+      → plain_by (Ok tt) t i f m ≡ plain_as (refuse_if 9 b otherwise refuse_if 21 c) t i f m
   by-faults b c p q = λ j. plain_as (refuse_if 9 (p j) otherwise refuse_if 21 (q j)) t i f m
 
   pub refuse-inputs : (r : Answer) → inputs_fault i ≡ true → r ≡ answer 9 0 0 0
-      → AnsweredBy (plain_by Checked.Accepted t i f m) r m
+      → AnsweredBy (plain_by (Ok tt) t i f m) r m
   refuse-inputs r p e =
       subst (λ (x : PlainRun). AnsweredBy x r m) (sym (by-faults true (memory_fault m) p refl))
       (record { answer = e; memory = refl })
 
   pub refuse-memory : (r : Answer) → inputs_fault i ≡ false → memory_fault m ≡ true → r ≡ answer 21 0 0 0
-      → AnsweredBy (plain_by Checked.Accepted t i f m) r m
+      → AnsweredBy (plain_by (Ok tt) t i f m) r m
   refuse-memory r p q e =
       subst (λ (x : PlainRun). AnsweredBy x r m) (sym (by-faults false true p q))
       (record { answer = e; memory = refl })
 
   pub run-both : (r : Answer) (exit : List ℕ) → inputs_fault i ≡ false → memory_fault m ≡ false
       → AnsweredBy (plain_ended (ending (plain_outcome t i f))) r exit
-      → AnsweredBy (plain_by Checked.Accepted t i f m) r exit
+      → AnsweredBy (plain_by (Ok tt) t i f m) r exit
   run-both r exit p q h = subst (λ (x : PlainRun). AnsweredBy x r exit) (sym (by-faults false false p q)) h
 
 -- ---- the checker's answer

@@ -9,7 +9,7 @@ use Rattle.rules.specs.Flow.{Outcome, ending, after}
 use Rattle.rules.specs.Plain.{asserted, run}
 use Rattle.rules.specs.Layout.{memory_of}
 use Rattle.rules.specs.Nodes.{expression_at, place_at, predicate_at, statement_at}
-use Rattle.rules.specs.declared.{Test.Test}
+use Rattle.rules.specs.Types.{Test}
 use Rattle.rules.proofs.Runs.PlainArms.{run-assign, run-assert}
 use Rattle.memory_counts.specs.Counted.{Counted}
 use Rattle.memory_counts.proofs.CountLaws.{counted_is}
@@ -17,15 +17,17 @@ use Rattle.memory_cells.specs.Changes.{change_memory}
 use Rattle.run_changes.proofs.ChangeLaws.{becomes-is}
 use Rattle.run_changes.proofs.CountedChanges.{counted-assigned}
 use Rattle.plain_runs.specs.Running.{Ready, Ran}
+use Rattle.std.specs.Prelude.{Err, Ok}
+use Rattle.std.specs.Prelude.{true, false}
 
 after-state : (n : ℕ) (ρ : Variables) (f : ℕ) (x : Change Memory) → (ending (after n ρ f x)).state ≡ change_memory x
 after-state n ρ f (changed m) = refl
 after-state n ρ f (stopped c m) = refl
 
 asserted-state : (m : Memory) (t : Test) → change_memory (asserted m t) ≡ m
-asserted-state m Test.Yes = refl
-asserted-state m Test.No = refl
-asserted-state m (Test.Stopped c) = refl
+asserted-state m (Ok true) = refl
+asserted-state m (Ok false) = refl
+asserted-state m (Err c) = refl
 
 module _ {t : List ℕ} {n : ℕ} (ρ : Variables) (l : List ℕ) (f : ℕ) (h : Ready t n) where
   -- the memory that one change leaves

@@ -9,7 +9,7 @@ use Rattle.rules.specs.Trees.{Statement}
 use Rattle.rules.specs.Flow.{Outcome, finished, ended, Ending, ending, next, after}
 use Rattle.rules.specs.Plain.{asserted, run}
 use Rattle.rules.specs.Layout.{memory_of}
-use Rattle.rules.specs.declared.{Test.Test}
+use Rattle.rules.specs.Types.{Test}
 use Rattle.rules.specs.Answers.{plain_endings}
 use Rattle.rules.proofs.Lists.Among.{Among, among-not}
 use Rattle.rules.proofs.Runs.Endings.{EndsAmong, run-endings}
@@ -20,6 +20,8 @@ use Rattle.run_endings.specs.Ending.{concluded, assert_number, fuel_in, after_st
 use Rattle.run_endings.proofs.EndingLaws.{concluded-ends, ended-statement, ended-number, ended-fuel}
 use Rattle.run_changes.specs.Changing.{Does}
 use Rattle.plain_runs.specs.Running.{EndsSo, Ran}
+use Rattle.std.specs.Prelude.{Err, Ok}
+use Rattle.std.specs.Prelude.{true, false}
 
 -- ---- outcomes: their endings count
 pub ran-is : {e d : Ending Memory} {r : Ended} {a b : List ℕ} → e ≡ d → EndsSo d r a b → EndsSo e r a b
@@ -40,9 +42,9 @@ ran-change (stopped c m) k n ρ f h w =
 ran-assert : (t : Test) (k n : ℕ) (ρ : Variables) (f : ℕ) {a : List ℕ}
     → EndsAmong plain_endings (after n ρ f (asserted (memory_of a) t)) → k ≡ assert_number t
     → EndsSo (ending (after n ρ f (asserted (memory_of a) t))) (concluded k n f) a a
-ran-assert Test.Yes k n ρ f h e = record { answer = rw e refl; memory = becomes-same refl }
-ran-assert Test.No k n ρ f h e = record { answer = rw e refl; memory = becomes-same refl }
-ran-assert (Test.Stopped c) k n ρ f h e =
+ran-assert (Ok true) k n ρ f h e = record { answer = rw e refl; memory = becomes-same refl }
+ran-assert (Ok false) k n ρ f h e = record { answer = rw e refl; memory = becomes-same refl }
+ran-assert (Err c) k n ρ f h e =
     record { answer = rw e (concluded-ends c n f (ends_above c h)); memory = becomes-same refl }
 
 -- the number 0 says that it finished, any other that it ended

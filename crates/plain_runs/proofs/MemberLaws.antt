@@ -11,7 +11,7 @@ use Rattle.rules.specs.Evaluation.{Variables, evaluate_source, condition, extend
 use Rattle.rules.specs.Flow.{Outcome, finished, ended, Ending, ending, into, next, decide, in_let}
 use Rattle.rules.specs.Plain.{plain_meaning, run}
 use Rattle.rules.specs.Layout.{memory_of}
-use Rattle.rules.specs.declared.{Test.Test}
+use Rattle.rules.specs.Types.{Test}
 use Rattle.rules.specs.Nodes.{expression_at, statement_at}
 use Rattle.rules.proofs.Runs.Fuel.{run-fuel}
 use Rattle.rules.proofs.Runs.Outcomes.{into-ending, next-ending, decide-ending}
@@ -31,6 +31,7 @@ use Rattle.run_children.proofs.Sequences.{first-is, rest-is}
 use Rattle.plain_runs.specs.Running.{Ready, enclosed, EndsSo, Ran}
 use Rattle.run_changes.proofs.ChangeLaws.{becomes-same, becomes-is, becomes-then, made_by, unmade-by}
 use Rattle.plain_runs.proofs.Laws.{ran-is, ran-stops, run-finished, next-goes, next-stays}
+use Rattle.std.specs.Prelude.{Err}
 
 -- what came before counts for the bytes alone
 pub ran-from : {e : Ending Memory} {r : Ended} {m : Memory} {a b c : List ℕ} → Becomes a b m → EndsSo e r b c
@@ -57,7 +58,7 @@ module _ {t : List ℕ} {n : ℕ} (ρ : Variables) (h : Ready t n) where
       (into-ending 2 (run (statement_at t (child_c t n)) ρ m f))
       ∙ ap (λ (y : Test). ending (deciding m y f)) e
 
-  pub branch-stops : kind_of t n ≡ 45 → (m : Memory) (f k : ℕ) → condition_in m ≡ Test.Stopped k
+  pub branch-stops : kind_of t n ≡ 45 → (m : Memory) (f k : ℕ) → condition_in m ≡ Err k
       → run (statement_at t n) ρ m f ≡ ended k n ρ [] m f
   branch-stops q m f k e =
       run-branch t n h.is ρ m f q
@@ -80,7 +81,7 @@ module _ {t : List ℕ} {n : ℕ} (ρ : Variables) (h : Ready t n) where
       (next-ending 1 (run (statement_at t (child_b t n)) ρ m₁ (f - 1)) _ _ (λ m₂ f₁. refl)) refl
       ∙ ap (λ (y : Test). ending (turning m₁ y (f - 1))) e
 
-  pub turn-stops : kind_of t n ≡ 46 → (m₁ : Memory) (f : ℕ) → 0 < f → (k : ℕ) → condition_in m₁ ≡ Test.Stopped k
+  pub turn-stops : kind_of t n ≡ 46 → (m₁ : Memory) (f : ℕ) → 0 < f → (k : ℕ) → condition_in m₁ ≡ Err k
       → run (statement_at t n) ρ m₁ f ≡ ended k n ρ [] m₁ (f - 1)
   turn-stops q m₁ f z k e =
       let d : f ≡ suc (f - 1) = omega arith in

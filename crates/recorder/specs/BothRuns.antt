@@ -8,8 +8,10 @@ use Rattle.rules.specs.Checker.{observation_fault}
 use Rattle.rules.specs.Translation.{translation}
 use Rattle.rules.specs.Answers.{answer, PlainRun, WatchedRun, run_plain, run_watched}
 use Rattle.rules.specs.Demand3.{Agreement}
-use Rattle.rules.specs.declared.{Checked.Checked, Answer.Answer}
+use Rattle.rules.specs.declared.{Answer.Answer}
+use Rattle.rules.specs.Types.{Checked}
 use Rattle.recorder.specs.declared.Both.{Both}
+use Rattle.std.specs.Prelude.{Ok}
 
 abbrev pub both : Answer → Answer → Both
 both p w = record { plain = p; watched = w }
@@ -48,7 +50,7 @@ both_ran t i f x =
 
 abbrev pub both_as : Checked → List ℕ → List ℕ → ℕ → Lent → BothRuns
 both_as (Checked.Refused k n) t i f x = both_refused k n x
-both_as Checked.Accepted t i f x = both_ran t i f x
+both_as (Ok tt) t i f x = both_ran t i f x
 
 -- 9, 21 for either memory, 22 and 20, in this order, where the checker refuses nothing
 abbrev pub both_by : Checked → List ℕ → List ℕ → ℕ → Lent → BothRuns
@@ -64,7 +66,7 @@ run_both t i f x = both_by (check source t) t i f x
 
 -- both runs may start: an accepted table, inputs without fault, and memories of the right lengths
 pub record Ready (t i : List ℕ) (x : Lent) : Type 0 where
-  pub accepted : check source t ≡ Checked.Accepted
+  pub accepted : check source t ≡ (Ok tt)
   pub inputs : inputs_fault i ≡ false
   pub memory : length x.memory ≡ memory_length
   pub second : length x.second ≡ memory_length

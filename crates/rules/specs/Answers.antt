@@ -14,6 +14,8 @@ use Rattle.rules.specs.Watched.{WatchedState, watching, watch, start_temporaries
 use Rattle.rules.specs.Translation.{translation}
 use Rattle.rules.specs.Layout.{memory_image, observation_image}
 use Rattle.rules.specs.Types.{Checked, Answer}
+use Rattle.std.specs.Prelude.{Err, Ok}
+use Rattle.rules.specs.Types.{Refusal, Rule, rule_number}
 
 -- `record` is the refused record, the source statement of an ending, or a translation's record count
 abbrev pub answer : ℕ → ℕ → ℕ → ℕ → Answer
@@ -54,8 +56,8 @@ watched_endings = 48 ∷ 49 ∷ plain_endings
 
 -- "The checker answers 0 with record 0 for an accepted table." "Numbers 1–22 return the number and record (0 where none)"
 abbrev pub checked_answer : Checked → Answer
-checked_answer Checked.Accepted = answer 0 0 0 0
-checked_answer (Checked.Refused k n) = answer k n 0 0
+checked_answer (Ok u) = answer 0 0 0 0
+checked_answer (Err r) = answer (rule_number r.rule) r.«record» 0 0
 
 abbrev pub check_source : List ℕ → Answer
 check_source t = checked_answer (check source t)
@@ -70,14 +72,14 @@ pub record Translated : Type 0 where
 
 -- "A translation returns 0 and its record count; bytes past it stay."
 abbrev pub translated_as : Checked → List ℕ → List ℕ → Translated
-translated_as (Checked.Refused k n) bytes out = record { answer = answer k n 0 0; out = out }
-translated_as Checked.Accepted bytes out = record { answer = answer 0 (record_count bytes) 0 0; out = put out 0 bytes }
+translated_as (Err r) bytes out = record { answer = answer (rule_number r.rule) r.«record» 0 0; out = out }
+translated_as (Ok u) bytes out = record { answer = answer 0 (record_count bytes) 0 0; out = put out 0 bytes }
 
 -- 20 is tried where the checker of the table refuses nothing
 abbrev pub translated_by : Checked → List ℕ → List ℕ → Translated
 translated_by c t out =
     let bytes = translation t in
-    translated_as (c otherwise refuse_if 20 (output_fault bytes out)) bytes out
+    translated_as (c otherwise refuse_if Rule.Output (output_fault bytes out)) bytes out
 
 abbrev pub translate_source : List ℕ → List ℕ → Translated
 translate_source t out = translated_by (check source t) t out
@@ -99,8 +101,8 @@ pub record PlainRun : Type 0 where
   pub answer : Answer
   pub memory : List ℕ
 
-abbrev pub plain_refused : ℕ → ℕ → List ℕ → PlainRun
-plain_refused k n memory = record { answer = answer k n 0 0; memory = memory }
+abbrev pub plain_refused : Refusal → List ℕ → PlainRun
+plain_refused r memory = record { answer = answer (rule_number r.rule) r.«record» 0 0; memory = memory }
 
 -- "A run clears both memories": what the memory held before counts for nothing
 abbrev pub plain_outcome : List ℕ → List ℕ → ℕ → Outcome Memory
@@ -110,13 +112,13 @@ abbrev pub plain_ended : Ending Memory → PlainRun
 plain_ended e = record { answer = ending_answer (λ m. m) e; memory = memory_image e.state }
 
 abbrev pub plain_as : Checked → List ℕ → List ℕ → ℕ → List ℕ → PlainRun
-plain_as (Checked.Refused k n) t i f memory = plain_refused k n memory
-plain_as Checked.Accepted t i f memory = plain_ended (ending (plain_outcome t i f))
+plain_as (Err r) t i f memory = plain_refused r memory
+plain_as (Ok u) t i f memory = plain_ended (ending (plain_outcome t i f))
 
 -- 9 and 21, in this order, where the checker refuses nothing
 abbrev pub plain_by : Checked → List ℕ → List ℕ → ℕ → List ℕ → PlainRun
 plain_by c t i f memory =
-    plain_as (c otherwise refuse_if 9 (inputs_fault i) otherwise refuse_if 21 (memory_fault memory)) t i f memory
+    plain_as (c otherwise refuse_if Rule.Inputs (inputs_fault i) otherwise refuse_if Rule.Memory (memory_fault memory)) t i f memory
 
 abbrev pub run_plain : List ℕ → List ℕ → ℕ → List ℕ → PlainRun
 run_plain t i f memory = plain_by (check source t) t i f memory
@@ -127,8 +129,9 @@ pub record WatchedRun : Type 0 where
   pub memory : List ℕ
   pub observation : List ℕ
 
-abbrev pub watched_refused : ℕ → ℕ → List ℕ → List ℕ → WatchedRun
-watched_refused k n memory observation = record { answer = answer k n 0 0; memory = memory; observation = observation }
+abbrev pub watched_refused : Refusal → List ℕ → List ℕ → WatchedRun
+watched_refused r memory observation =
+    record { answer = answer (rule_number r.rule) r.«record» 0 0; memory = memory; observation = observation }
 
 abbrev pub watched_start : List ℤ → WatchedState
 watched_start inputs = watching (start_memory inputs) (start_observation (length inputs)) start_temporaries
@@ -144,15 +147,15 @@ watched_ended e = record {
 }
 
 abbrev pub watched_as : Checked → List ℕ → List ℕ → ℕ → List ℕ → List ℕ → WatchedRun
-watched_as (Checked.Refused k n) t i f memory observation = watched_refused k n memory observation
-watched_as Checked.Accepted t i f memory observation = watched_ended (ending (watched_outcome t i f))
+watched_as (Err r) t i f memory observation = watched_refused r memory observation
+watched_as (Ok u) t i f memory observation = watched_ended (ending (watched_outcome t i f))
 
 -- 9, 21 and 22
 abbrev pub watched_by : Checked → List ℕ → List ℕ → ℕ → List ℕ → List ℕ → WatchedRun
 watched_by c t i f memory observation =
     watched_as
-    (c otherwise refuse_if 9 (inputs_fault i) otherwise refuse_if 21 (memory_fault memory)
-    otherwise refuse_if 22 (observation_fault observation))
+    (c otherwise refuse_if Rule.Inputs (inputs_fault i) otherwise refuse_if Rule.Memory (memory_fault memory)
+    otherwise refuse_if Rule.Observation (observation_fault observation))
     t i f memory observation
 
 abbrev pub run_watched : List ℕ → List ℕ → ℕ → List ℕ → List ℕ → WatchedRun

@@ -9,11 +9,13 @@ use Rattle.rules.specs.Kinds.{Language, source, target, statement, sort_number, 
 use Rattle.rules.specs.Kinds.{number, Literal, zero_literal, any_literal, statement_literal, Form, form_of}
 use Rattle.rules.specs.Kinds.{beside, record_limit}
 use Rattle.rules.specs.Types.{Search, Checked}
+use Rattle.std.specs.Prelude.{Result, Err, None, Ok, Some, is_err}
+use Rattle.rules.specs.Types.{Rule}
 
 -- the lowest of k numbers from j on that passes a test
 unfoldable pub lowest : (ℕ → Bool) → ℕ → ℕ → Search
-lowest p j zero = Search.Nothing
-lowest p j (suc k) = elim (p j) [ true ↦ Search.At j | false ↦ lowest p (suc j) k ]
+lowest p j zero = None
+lowest p j (suc k) = elim (p j) [ true ↦ Some j | false ↦ lowest p (suc j) k ]
 
 -- "within one number the lowest record is named"
 abbrev pub lowest_record : List ℕ → (ℕ → Bool) → Search
@@ -64,13 +66,14 @@ child_fits l t n (number p) x = true
 abbrev pub children_fit : Language → List ℕ → ℕ → Form → Record → Bool
 children_fit l t n f r = all (beside (child_fits l t n) f 0 (fields_of r))
 
--- 3, 4 or 5 at record n, or 0. "3 kind not in the language."
-abbrev pub fault_of : Language → List ℕ → ℕ → Option Form → ℕ
-fault_of l t n none = 3
+-- what 3, 4 and 5 say of record n. "3 kind not in the language."
+abbrev pub fault_of : Language → List ℕ → ℕ → Option Form → Result Unit Rule
+fault_of l t n none = Err Rule.Kind
 fault_of l t n (some f) =
-    cond (fields_fit f (record_at t n)) (cond (children_fit l t n f (record_at t n)) 0 5) 4
+    cond (fields_fit f (record_at t n)) (cond (children_fit l t n f (record_at t n)) (Ok tt) (Err Rule.Child))
+    (Err Rule.Field)
 
-unfoldable pub record_fault : Language → List ℕ → ℕ → ℕ
+unfoldable pub record_fault : Language → List ℕ → ℕ → Result Unit Rule
 record_fault l t n = fault_of l t n (form_of l (kind_of t n))
 
 -- how often record n is a child: in a field, of record m, of the records 1 .. k
@@ -114,8 +117,8 @@ in_scope l t (suc d) x n =
       | true ↦ true
       | false ↦
           elim (parent_of l t n) [
-            | Search.Nothing ↦ false
-            | Search.At m ↦
+            | None ↦ false
+            | Some m ↦
                 elim (is_let_of t m x) [ true ↦ true | false ↦ in_scope l t d x m ]
           ]
     ]
@@ -157,8 +160,8 @@ unfoldable pub level_of : List ℕ → ℕ → ℕ → ℕ
 level_of t zero n = 0
 level_of t (suc d) n =
     elim (parent_of source t n) [
-      | Search.At m ↦ level_below (kind_of t m) (position_in (fields_of (record_at t m)) n) (level_of t d m)
-      | Search.Nothing ↦ 0
+      | Some m ↦ level_below (kind_of t m) (position_in (fields_of (record_at t m)) n) (level_of t d m)
+      | None ↦ 0
     ]
 
 -- the highest temporary that a term's or predicate's own target records name at level n: tn of 61 and 66,
@@ -178,35 +181,42 @@ level_fault t n =
     ]
 
 -- what a rule says: it refuses the whole, the record found, or nothing
-abbrev pub refuse_if : ℕ → Bool → Checked
-refuse_if rule true = Checked.Refused rule 0
-refuse_if rule false = Checked.Accepted
+abbrev pub refused : Rule → ℕ → Checked
+refused rule n = Err (record { rule = rule; «record» = n })
 
-abbrev pub refuse_by : (ℕ → ℕ) → Search → Checked
-refuse_by rule (Search.At n) = Checked.Refused (rule n) n
-refuse_by rule Search.Nothing = Checked.Accepted
+abbrev pub refuse_if : Rule → Bool → Checked
+refuse_if rule true = refused rule 0
+refuse_if rule false = Ok tt
 
-abbrev pub refuse_at : ℕ → Search → Checked
-refuse_at rule s = refuse_by (λ n. rule) s
+abbrev pub refused_at : ℕ → Result Unit Rule → Checked
+refused_at n (Ok u) = Ok u
+refused_at n (Err rule) = refused rule n
+
+abbrev pub refuse_by : (ℕ → Result Unit Rule) → Search → Checked
+refuse_by says (Some n) = refused_at n (says n)
+refuse_by says None = Ok tt
+
+abbrev pub refuse_at : Rule → Search → Checked
+refuse_at rule s = refuse_by (λ n. Err rule) s
 
 -- a rule is tried where the one before it refuses nothing
 infixr 20 ◌otherwise◌
 abbrev pub ◌otherwise◌ : Checked → Checked → Checked
-Checked.Accepted otherwise c = c
-(Checked.Refused k n) otherwise c = Checked.Refused k n
+(Ok u) otherwise c = c
+(Err r) otherwise c = Err r
 
 abbrev pub last_rule : Language → List ℕ → Checked
-last_rule source t = refuse_at 8 (lowest_record t (level_fault t))
-last_rule target t = Checked.Accepted
+last_rule source t = refuse_at Rule.Level (lowest_record t (level_fault t))
+last_rule target t = (Ok tt)
 
 -- "Checked in this order; .. 3–5 are tried record by record."
 unfoldable pub check : Language → List ℕ → Checked
 check l t =
-    refuse_if 1 (length_fault t)
-    otherwise refuse_if 2 (count_fault l t)
-    otherwise refuse_by (record_fault l t) (lowest_record t (λ n. ltb 0 (record_fault l t n)))
-    otherwise refuse_at 6 (lowest_record t (shape_fault l t))
-    otherwise refuse_at 7 (lowest_record t (scope_fault l t))
+    refuse_if Rule.Length (length_fault t)
+    otherwise refuse_if Rule.Count (count_fault l t)
+    otherwise refuse_by (record_fault l t) (lowest_record t (λ n. is_err (record_fault l t n)))
+    otherwise refuse_at Rule.Shape (lowest_record t (shape_fault l t))
+    otherwise refuse_at Rule.Scope (lowest_record t (scope_fault l t))
     otherwise last_rule l t
 
 -- "9 inputs no multiple of 8 bytes, none, or over 256"

@@ -14,7 +14,7 @@ use Rattle.rules.specs.Translation.{translation}
 use Rattle.rules.specs.Origins.{target_records, sum}
 use Rattle.rules.specs.Layout.{memory_of, observation_image}
 use Rattle.rules.specs.Answers.{is_in, refusals, PlainRun, WatchedRun, inputs_of, plain_ended, run_plain, run_watched}
-use Rattle.rules.specs.declared.Checked.TheVariants.{Accepted}
+use Rattle.std.specs.Prelude.{Ok}
 
 -- "Take the source table run by these rules with one change": the run that goes on past false assertions
 abbrev pub past_outcome : List ℕ → List ℕ → ℕ → Outcome PastState
@@ -23,7 +23,7 @@ past_outcome t i f = run_past (source_program t) start_variables (start_memory (
 -- what plain run p, watched run w of the translation, and the run that goes on past false assertions owe one another
 pub record Agreement (t i : List ℕ) (f : ℕ) (p : PlainRun) (w : WatchedRun) : Type 0 where
   -- "The translation is refused by none of 1–8."
-  pub accepted : check target (translation t) ≡ Accepted
+  pub accepted : check target (translation t) ≡ Ok tt
   -- "At most 14 target records come from each source record."; those of all source records are the whole translation
   pub bounded : (n : ℕ) → 1 ≤ n → n ≤ record_count t → target_records t n ≤ 14
   pub all-counted : sum (record_count t) (target_records t) ≡ record_count (translation t)
@@ -47,6 +47,6 @@ pub record Agreement (t i : List ℕ) (f : ℕ) (p : PlainRun) (w : WatchedRun) 
 abbrev pub Demand3 : Type 0
 Demand3 =
     (t i : List ℕ) (f : ℕ) (memory memory₁ observation : List ℕ)
-    → check source t ≡ Accepted → inputs_fault i ≡ false
+    → check source t ≡ Ok tt → inputs_fault i ≡ false
     → length memory ≡ memory_length → length memory₁ ≡ memory_length → length observation ≡ observation_length
     → Agreement t i f (run_plain t i f memory) (run_watched (translation t) i f memory₁ observation)

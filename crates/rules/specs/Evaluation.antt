@@ -8,6 +8,8 @@ use Rattle.rules.specs.Numbers.{Liveness, operate, truth_value, tested}
 use Rattle.rules.specs.Memory.{Memory, recorded_of, block_of, cell_of, located_in, read_cell, on_value}
 use Rattle.rules.specs.Memory.{live_block, on_place, on_pointer}
 use Rattle.rules.specs.Types.{Pointer, Value, Evaluated, Found, Test, Located, Recorded, Cell, Temporary}
+use Rattle.std.specs.Prelude.{Err, None, Ok, Some}
+use Rattle.rules.specs.Types.{Miss, Stop}
 
 -- the block of each variable
 abbrev pub Variables : Type 0
@@ -18,35 +20,35 @@ abbrev pub Holding : Type 0 → Type 0
 Holding T = T → Temporary
 
 abbrev pub no_temporaries : Holding ⊥
-no_temporaries t = Temporary.Empty
+no_temporaries t = None
 
 -- "49 empty temporary"
 abbrev pub held : Temporary → Evaluated
-held Temporary.Empty = Evaluated.Stopped 49
-held (Temporary.Holds v) = Evaluated.Value v
+held None = Err Stop.EmptyTemporary
+held (Some v) = Ok v
 
 -- a place that a value points to, "as soon as the place is worked out"
 abbrev pub pointed_by : Evaluated → Found
-pointed_by e = on_value e Found.Stopped (λ v. on_pointer v Found.Stopped Found.Place)
+pointed_by e = on_value e Err (λ v. on_pointer v Err Ok)
 
 abbrev pub address_of : Found → Evaluated
-address_of f = on_place f Evaluated.Stopped (λ p. Evaluated.Value (Value.Pointer p))
+address_of f = on_place f Err (λ p. Ok (Value.Pointer p))
 
 -- A, then B, then the operation
 abbrev pub operated : Liveness → Operator → Evaluated → Evaluated → Evaluated
-operated live o a b = on_value a Evaluated.Stopped (λ x. on_value b Evaluated.Stopped (λ y. operate live o x y))
+operated live o a b = on_value a Err (λ x. on_value b Err (λ y. operate live o x y))
 
 -- "Places evaluate expressions and expressions read places."
 unfoldable mutual
   pub evaluate : {T : Type 0} → Expression T → Holding T → Variables → Memory → Evaluated
-  evaluate (literal z) τ ρ m = Evaluated.Value (Value.Integer z)
-  evaluate (read p) τ ρ m = on_place (find_place p τ ρ m) Evaluated.Stopped (read_cell m)
+  evaluate (literal z) τ ρ m = Ok (Value.Integer z)
+  evaluate (read p) τ ρ m = on_place (find_place p τ ρ m) Err (read_cell m)
   evaluate (address p) τ ρ m = address_of (find_place p τ ρ m)
   evaluate (operation o a b) τ ρ m = operated (live_block m) o (evaluate a τ ρ m) (evaluate b τ ρ m)
   evaluate (shifted a b) τ ρ m = operated (live_block m) shift (evaluate a τ ρ m) (evaluate b τ ρ m)
 
   pub find_place : {T : Type 0} → Place T → Holding T → Variables → Memory → Found
-  find_place (variable x) τ ρ m = Found.Place (record { name = ρ x; offset = pos 0 })
+  find_place (variable x) τ ρ m = Ok (record { name = ρ x; offset = pos 0 })
   find_place (pointed e) τ ρ m = pointed_by (evaluate e τ ρ m)
   find_place (temporary t) τ ρ m = pointed_by (held (τ t))
 
@@ -58,20 +60,20 @@ is_initialised (Cell.Holds o (Value.Integer z)) = true
 is_initialised (Cell.Holds o (Value.Pointer p)) = true
 
 abbrev pub is_valid : Located → Bool
-is_valid (Located.At i) = true
-is_valid Located.Dead = false
-is_valid Located.Outside = false
+is_valid (Ok i) = true
+is_valid (Err Miss.Dead) = false
+is_valid (Err Miss.Outside) = false
 
 abbrev pub initialised_at : (ℕ → Bool) → Located → Bool
-initialised_at marked (Located.At i) = marked i
-initialised_at marked Located.Dead = false
-initialised_at marked Located.Outside = false
+initialised_at marked (Ok i) = marked i
+initialised_at marked (Err Miss.Dead) = false
+initialised_at marked (Err Miss.Outside) = false
 
 -- "47 base, offset or length of a block not live"
 abbrev pub of_live : Recorded → (ℕ → Value) → Evaluated
-of_live Recorded.Unused f = Evaluated.Stopped 47
-of_live (Recorded.Live first n) f = Evaluated.Value (f n)
-of_live Recorded.Dead f = Evaluated.Stopped 47
+of_live Recorded.Unused f = Err Stop.NotLive
+of_live (Recorded.Live first n) f = Ok (f n)
+of_live Recorded.Dead f = Err Stop.NotLive
 
 -- a query of a pointer whose block is b; marked tells the initialised cells
 unfoldable pub queried : Query → Recorded → (ℕ → Bool) → Pointer → Evaluated
@@ -84,7 +86,7 @@ queried block_length b marked p = of_live b (λ n. Value.Integer (pos n))
 -- "21–23, 30, 31 and 64 take a pointer"
 abbrev pub query_memory : Query → Memory → Value → Evaluated
 query_memory q m v =
-    on_pointer v Evaluated.Stopped (λ p.
+    on_pointer v Err (λ p.
     queried q (recorded_of (block_of m p.name)) (λ i. is_initialised (cell_of m i)) p)
 
 abbrev pub evaluate_source : Expression ⊥ → Variables → Memory → Evaluated
@@ -95,40 +97,40 @@ find_source p ρ m = find_place p no_temporaries ρ m
 
 unfoldable pub evaluate_term : Term → Variables → Memory → Evaluated
 evaluate_term (value e) ρ m = evaluate_source e ρ m
-evaluate_term (asked q t) ρ m = on_value (evaluate_term t ρ m) Evaluated.Stopped (query_memory q m)
+evaluate_term (asked q t) ρ m = on_value (evaluate_term t ρ m) Err (query_memory q m)
 evaluate_term (combined o a b) ρ m = operated (live_block m) o (evaluate_term a ρ m) (evaluate_term b ρ m)
 
 -- by a test of a value: what to go on with where it is true, and where it is 0
-abbrev pub on_test : {A : Type 0} → Test → (ℕ → A) → A → A → A
-on_test Test.Yes stop x y = x
-on_test Test.No stop x y = y
-on_test (Test.Stopped k) stop x y = stop k
+abbrev pub on_test : {A : Type 0} → Test → (Stop → A) → A → A → A
+on_test (Ok true) stop x y = x
+on_test (Ok false) stop x y = y
+on_test (Err k) stop x y = stop k
 
 -- "65 tn takes 1 if t(n+1) is 0, else 0", and kind 33 alike
 abbrev pub opposite : Value → Evaluated
-opposite v = on_test (tested v) Evaluated.Stopped (truth_value false) (truth_value true)
+opposite v = on_test (tested v) Err (truth_value false) (truth_value true)
 
 -- "'and' and 'or' skip B when A decides"
 abbrev pub and_then : Value → Evaluated → Evaluated
-and_then v b = on_test (tested v) Evaluated.Stopped b (Evaluated.Value v)
+and_then v b = on_test (tested v) Err b (Ok v)
 
 abbrev pub or_else : Value → Evaluated → Evaluated
-or_else v b = on_test (tested v) Evaluated.Stopped (Evaluated.Value v) b
+or_else v b = on_test (tested v) Err (Ok v) b
 
 unfoldable pub evaluate_predicate : Predicate → Variables → Memory → Evaluated
-evaluate_predicate (holds q t) ρ m = on_value (evaluate_term t ρ m) Evaluated.Stopped (query_memory q m)
+evaluate_predicate (holds q t) ρ m = on_value (evaluate_term t ρ m) Err (query_memory q m)
 evaluate_predicate (compared o a b) ρ m = operated (live_block m) o (evaluate_term a ρ m) (evaluate_term b ρ m)
-evaluate_predicate (negated a) ρ m = on_value (evaluate_predicate a ρ m) Evaluated.Stopped opposite
+evaluate_predicate (negated a) ρ m = on_value (evaluate_predicate a ρ m) Err opposite
 evaluate_predicate (both a b) ρ m =
     let later = evaluate_predicate b ρ m in
-    on_value (evaluate_predicate a ρ m) Evaluated.Stopped (λ v. and_then v later)
+    on_value (evaluate_predicate a ρ m) Err (λ v. and_then v later)
 evaluate_predicate (either a b) ρ m =
     let later = evaluate_predicate b ρ m in
-    on_value (evaluate_predicate a ρ m) Evaluated.Stopped (λ v. or_else v later)
+    on_value (evaluate_predicate a ρ m) Err (λ v. or_else v later)
 
 -- a condition: what an expression, a predicate or a temporary tells
 abbrev pub condition : Evaluated → Test
-condition e = on_value e Test.Stopped tested
+condition e = on_value e Err tested
 
 -- variable x has block k from here on
 abbrev pub extend : Variables → ℕ → ℕ → Variables

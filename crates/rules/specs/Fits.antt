@@ -7,6 +7,7 @@ use Rattle.rules.specs.Memory.{Memory, recorded_of}
 use Rattle.rules.specs.Observation.{Observation}
 use Rattle.rules.specs.Evaluation.{Variables}
 use Rattle.rules.specs.Types.{Pointer, Value, Block, Recorded, Cell, Temporary}
+use Rattle.std.specs.Prelude.{None, Some}
 
 -- a predicate of every element of a list
 pub data All {A : Type 0} (P : A → Type 0) : List A → Type 0 where
@@ -44,8 +45,8 @@ FitsCell Cell.Free = Unit {0}
 FitsCell (Cell.Holds o v) = FitsName o × FitsValue v
 
 abbrev pub FitsTemporary : Temporary → Type 0
-FitsTemporary Temporary.Empty = Unit {0}
-FitsTemporary (Temporary.Holds v) = FitsValue v
+FitsTemporary None = Unit {0}
+FitsTemporary (Some v) = FitsValue v
 
 pub record FitsMemory (m : Memory) : Type 0 where
   pub block-count : length m.blocks ≡ name_count

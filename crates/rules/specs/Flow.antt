@@ -6,6 +6,9 @@ use Rattle.rules.specs.Trees.{while, let_in, assert}
 use Rattle.rules.specs.Memory.{Change, changed, stopped, Made, made, unmade}
 use Rattle.rules.specs.Evaluation.{Variables, extend}
 use Rattle.rules.specs.Types.{Test}
+use Rattle.std.specs.Prelude.{Err, Ok}
+use Rattle.rules.specs.Types.{Stop, stop_number}
+use Rattle.std.specs.Prelude.{true, false}
 
 -- the path down a program to a statement: the child taken at each statement, A being 0
 abbrev pub TreePath : Type 0
@@ -36,7 +39,7 @@ statement_on parts (n ∷ w) a = of_child (get_or (parts a) n none) (λ b. state
 -- what no answer tells: the variables' blocks as then, and the path to the statement
 pub data Outcome (S : Type 0) : Type 0 where
   finished : S → ℕ → Outcome S
-  ended : ℕ → ℕ → Variables → TreePath → S → ℕ → Outcome S
+  ended : Stop → ℕ → Variables → TreePath → S → ℕ → Outcome S
 
 -- "Endings return number, source statement, fuel left ..": what answers tell of an outcome. "0 finished (statement 0)."
 pub record Ending (S : Type 0) : Type 0 where
@@ -47,7 +50,7 @@ pub record Ending (S : Type 0) : Type 0 where
 
 abbrev pub ending : {S : Type 0} → Outcome S → Ending S
 ending (finished x f) = record { number = 0; statement = 0; state = x; fuel = f }
-ending (ended c s ρ w x f) = record { number = c; statement = s; state = x; fuel = f }
+ending (ended c s ρ w x f) = record { number = stop_number c; statement = s; state = x; fuel = f }
 
 -- a statement is child n of another
 abbrev pub into : {S : Type 0} → ℕ → Outcome S → Outcome S
@@ -65,15 +68,15 @@ after s ρ f (stopped c x) = ended c s ρ [] x f
 
 -- go on by a test of statement s
 abbrev pub decide : {S : Type 0} → ℕ → Variables → Test → S → ℕ → Outcome S → Outcome S → Outcome S
-decide s ρ Test.Yes x f a b = a
-decide s ρ Test.No x f a b = b
-decide s ρ (Test.Stopped c) x f a b = ended c s ρ [] x f
+decide s ρ (Ok true) x f a b = a
+decide s ρ (Ok false) x f a b = b
+decide s ρ (Err c) x f a b = ended c s ρ [] x f
 
 -- "One unit of fuel .. goes for each while test, before the condition is evaluated"; "32 fuel is 0 at a while test".
 -- The first number only bounds the turns: it starts as the fuel, of which each turn takes one.
 unfoldable pub turns : {S : Type 0} → ℕ → ℕ → Variables → (S → Test) → (S → ℕ → Outcome S) → S → ℕ → Outcome S
-turns zero s ρ holds body x f = ended 32 s ρ [] x f
-turns (suc g) s ρ holds body x zero = ended 32 s ρ [] x zero
+turns zero s ρ holds body x f = ended Stop.NoFuel s ρ [] x f
+turns (suc g) s ρ holds body x zero = ended Stop.NoFuel s ρ [] x zero
 turns (suc g) s ρ holds body x (suc f) =
     decide s ρ (holds x) x f (next (body x f) (λ x₁ f₁. turns g s ρ holds body x₁ f₁)) (finished x f)
 

@@ -2,12 +2,11 @@
 use Rattle.std.specs.Prelude.{ℕ, suc, Bool, true, false, ◌&&◌, ◌||◌, List, [], ◌∷◌, ◌++◌, leb, eqb, get_or}
 use Rattle.std.proofs.Math.Option.{Option, none, some}
 use Rattle.rules.specs.Sizes.{source_limit, target_limit}
-
-pub data Language : Type 0 where
-  source target : Language
-
-pub data Sort : Type 0 where
-  expression place term predicate statement : Sort
+pub use Rattle.rules.specs.declared.Language.{Language}
+pub use Rattle.rules.specs.declared.Language.TheVariants.{Source as source, Target as target}
+pub use Rattle.rules.specs.declared.Sort.{Sort}
+pub use Rattle.rules.specs.declared.Sort.TheVariants.{Expression as expression, Place as place, Term as term}
+pub use Rattle.rules.specs.declared.Sort.TheVariants.{Predicate as predicate, Statement as statement}
 
 -- sorts are compared by a number of their own
 abbrev pub sort_number : Sort → ℕ

@@ -6,6 +6,8 @@ use Rattle.rules.specs.Kinds.{source}
 use Rattle.rules.specs.Checker.{check}
 use Rattle.rules.specs.Translation.{translated_records}
 use Rattle.rules.specs.Types.{Checked}
+use Rattle.std.specs.Prelude.{Err, Ok}
+use Rattle.rules.specs.Types.{rule_number}
 
 -- "figures here are decimal": a number's digits in ASCII, at most k of them; 64 bits have at most 20
 unfoldable pub decimal_digits : ℕ → ℕ → List ℕ
@@ -37,8 +39,8 @@ record_lines n [] = []
 record_lines n (r ∷ rs) = record_line n r ++ record_lines (suc n) rs
 
 abbrev pub listing_by : Checked → List ℕ → List ℕ
-listing_by Checked.Accepted t = record_lines 1 (translated_records t)
-listing_by (Checked.Refused k n) t = line (natural k) (natural n ∷ [])
+listing_by (Ok u) t = record_lines 1 (translated_records t)
+listing_by (Err r) t = line (natural (rule_number r.rule)) (natural r.«record» ∷ [])
 
 abbrev pub listing : List ℕ → List ℕ
 listing t = listing_by (check source t) t

@@ -3,6 +3,11 @@ use Rattle.std.specs.Prelude.{ℕ, zero, suc, ◌+◌, ◌-◌, Bool, true, fals
 use Rattle.rules.specs.Sizes.{name_count, cell_count}
 use Rattle.rules.specs.Checker.{lowest}
 use Rattle.rules.specs.Types.{Pointer, Value, Evaluated, Found, Located, Search, Block, Recorded, Cell}
+use Rattle.std.specs.Prelude.{Err, None, Ok, Some}
+use Rattle.rules.specs.Types.{Miss, Stop}
+-- a block of 42 is freeable, that of a let is fixed
+pub use Rattle.rules.specs.declared.Use.{Use}
+pub use Rattle.rules.specs.declared.Use.TheVariants.{Fixed as fixed, Freeable as freeable}
 
 -- block records by name from 1, cells from 0
 pub record Memory : Type 0 where
@@ -42,35 +47,35 @@ cell_of m i = get_or m.cells i Cell.Free
 
 -- "Valid: the block is live and the offset inside."
 abbrev pub located_in : Recorded → ℤ → Located
-located_in Recorded.Unused o = Located.Dead
-located_in (Recorded.Live first n) (pos o) = cond (ltb o n) (Located.At (first + o)) Located.Outside
-located_in (Recorded.Live first n) (negsuc o) = Located.Outside
-located_in Recorded.Dead o = Located.Dead
+located_in Recorded.Unused o = (Err Miss.Dead)
+located_in (Recorded.Live first n) (pos o) = cond (ltb o n) (Ok (first + o)) (Err Miss.Outside)
+located_in (Recorded.Live first n) (negsuc o) = (Err Miss.Outside)
+located_in Recorded.Dead o = (Err Miss.Dead)
 
 unfoldable pub locate : Memory → Pointer → Located
 locate m p = located_in (recorded_of (block_of m p.name)) p.offset
 
 -- at a cell's reading and storing. 02 §2: "42 means that the block is dead", "50, offset outside a live block, found
 -- after 42"
-abbrev pub at_cell : {A : Type 0} → (ℕ → A) → (ℕ → A) → Located → A
-at_cell at stop (Located.At i) = at i
-at_cell at stop Located.Dead = stop 42
-at_cell at stop Located.Outside = stop 50
+abbrev pub at_cell : {A : Type 0} → (ℕ → A) → (Stop → A) → Located → A
+at_cell at stop (Ok i) = at i
+at_cell at stop (Err Miss.Dead) = stop Stop.DeadBlock
+at_cell at stop (Err Miss.Outside) = stop Stop.OutsideBlock
 
 -- "41 undefined cell read"; no pointer leads to a free cell
 abbrev pub defined : Cell → Evaluated
-defined Cell.Free = Evaluated.Stopped 41
-defined (Cell.Holds o Value.Undefined) = Evaluated.Stopped 41
-defined (Cell.Holds o (Value.Integer z)) = Evaluated.Value (Value.Integer z)
-defined (Cell.Holds o (Value.Pointer p)) = Evaluated.Value (Value.Pointer p)
+defined Cell.Free = Err Stop.UndefinedCell
+defined (Cell.Holds o Value.Undefined) = Err Stop.UndefinedCell
+defined (Cell.Holds o (Value.Integer z)) = Ok (Value.Integer z)
+defined (Cell.Holds o (Value.Pointer p)) = Ok (Value.Pointer p)
 
 abbrev pub read_cell : Memory → Pointer → Evaluated
-read_cell m p = at_cell (λ i. defined (cell_of m i)) Evaluated.Stopped (locate m p)
+read_cell m p = at_cell (λ i. defined (cell_of m i)) Err (locate m p)
 
 -- a change of a run's state, the memory or what holds it, or a stop with the state as it is then
 pub data Change (S : Type 0) : Type 0 where
   changed : S → Change S
-  stopped : ℕ → S → Change S
+  stopped : Stop → S → Change S
 
 -- a change of the memory in a state that takes it
 abbrev pub change_in : {S : Type 0} → (Memory → S) → Change Memory → Change S
@@ -117,10 +122,6 @@ fill (y ∷ ys) zero zero x = y ∷ ys
 fill (y ∷ ys) zero (suc n) x = x ∷ fill ys zero n x
 fill (y ∷ ys) (suc s) n x = y ∷ fill ys s n x
 
--- a block of 42 is freeable, that of a let is fixed
-pub data Use : Type 0 where
-  fixed freeable : Use
-
 abbrev pub block_for : Use → ℕ → ℕ → Block
 block_for fixed first n = Block.Fixed first n
 block_for freeable first n = Block.Freeable first n
@@ -134,16 +135,16 @@ with_block m u k first n = record {
 -- a new block's name and the state with it, or "31 all names given", then "30 no run of free cells long enough"
 pub data Made (S : Type 0) : Type 0 where
   made : ℕ → S → Made S
-  unmade : ℕ → Made S
+  unmade : Stop → Made S
 
 abbrev pub made_in : {S : Type 0} → (Memory → S) → Made Memory → Made S
 made_in put (made k m) = made k (put m)
 made_in put (unmade c) = unmade c
 
 abbrev pub make_at : Memory → Use → ℕ → Search → Search → Made Memory
-make_at m u n Search.Nothing run = unmade 31
-make_at m u n (Search.At k) Search.Nothing = unmade 30
-make_at m u n (Search.At k) (Search.At first) = made k (with_block m u k first n)
+make_at m u n None run = unmade Stop.NamesGiven
+make_at m u n (Some k) None = unmade Stop.NoRun
+make_at m u n (Some k) (Some first) = made k (with_block m u k first n)
 
 abbrev pub make_block : Memory → Use → ℕ → Made Memory
 make_block m u n = make_at m u n (next_name m) (free_run m n)
@@ -161,23 +162,23 @@ abbrev pub end_block : Memory → ℕ → Memory
 end_block m k = without_cells m k (recorded_of (block_of m k))
 
 -- by what evaluating gave
-abbrev pub on_value : {A : Type 0} → Evaluated → (ℕ → A) → (Value → A) → A
-on_value (Evaluated.Value v) stop next = next v
-on_value (Evaluated.Stopped k) stop next = stop k
+abbrev pub on_value : {A : Type 0} → Evaluated → (Stop → A) → (Value → A) → A
+on_value (Ok v) stop next = next v
+on_value (Err k) stop next = stop k
 
-abbrev pub on_place : {A : Type 0} → Found → (ℕ → A) → (Pointer → A) → A
-on_place (Found.Place p) stop next = next p
-on_place (Found.Stopped k) stop next = stop k
+abbrev pub on_place : {A : Type 0} → Found → (Stop → A) → (Pointer → A) → A
+on_place (Ok p) stop next = next p
+on_place (Err k) stop next = stop k
 
 -- by the sort of a value: "40 wrong sort of value"
-abbrev pub on_integer : {A : Type 0} → Value → (ℕ → A) → (ℤ → A) → A
-on_integer Value.Undefined stop next = stop 40
+abbrev pub on_integer : {A : Type 0} → Value → (Stop → A) → (ℤ → A) → A
+on_integer Value.Undefined stop next = stop Stop.WrongSort
 on_integer (Value.Integer z) stop next = next z
-on_integer (Value.Pointer p) stop next = stop 40
+on_integer (Value.Pointer p) stop next = stop Stop.WrongSort
 
-abbrev pub on_pointer : {A : Type 0} → Value → (ℕ → A) → (Pointer → A) → A
-on_pointer Value.Undefined stop next = stop 40
-on_pointer (Value.Integer z) stop next = stop 40
+abbrev pub on_pointer : {A : Type 0} → Value → (Stop → A) → (Pointer → A) → A
+on_pointer Value.Undefined stop next = stop Stop.WrongSort
+on_pointer (Value.Integer z) stop next = stop Stop.WrongSort
 on_pointer (Value.Pointer p) stop next = next p
 
 -- "41 place A takes expression B"
@@ -191,9 +192,9 @@ store_new m p (unmade c) = stopped c m
 
 -- "45 size below 1"; "at a new block 45, 31, 30 after 40"
 abbrev pub new_of_size : Memory → Pointer → ℤ → Change Memory
-new_of_size m p (pos zero) = stopped 45 m
+new_of_size m p (pos zero) = stopped Stop.SizeBelowOne m
 new_of_size m p (pos (suc n)) = store_new m p (make_block m freeable (suc n))
-new_of_size m p (negsuc n) = stopped 45 m
+new_of_size m p (negsuc n) = stopped Stop.SizeBelowOne m
 
 -- "42 place A takes a new block of B cells"
 abbrev pub allocated : Memory → Found → Evaluated → Change Memory
@@ -204,15 +205,15 @@ allocated m f e =
 
 -- "46 free of a pointer to anything but the first cell of a live freeable block"
 abbrev pub free_of : Memory → ℕ → Block → Change Memory
-free_of m k Block.Unused = stopped 46 m
-free_of m k (Block.Fixed first n) = stopped 46 m
+free_of m k Block.Unused = stopped Stop.WrongFree m
+free_of m k (Block.Fixed first n) = stopped Stop.WrongFree m
 free_of m k (Block.Freeable first n) = changed (end_block m k)
-free_of m k Block.Dead = stopped 46 m
+free_of m k Block.Dead = stopped Stop.WrongFree m
 
 abbrev pub free_at : Memory → ℕ → ℤ → Change Memory
 free_at m k (pos zero) = free_of m k (block_of m k)
-free_at m k (pos (suc o)) = stopped 46 m
-free_at m k (negsuc o) = stopped 46 m
+free_at m k (pos (suc o)) = stopped Stop.WrongFree m
+free_at m k (negsuc o) = stopped Stop.WrongFree m
 
 abbrev pub freed : Memory → Evaluated → Change Memory
 freed m e =

@@ -13,6 +13,7 @@ use Rattle.rules.specs.Trees.{combined, Predicate, holds, compared, negated, bot
 use Rattle.rules.specs.Trees as tree
 use Rattle.rules.specs.TargetTrees.{TargetStatement}
 use Rattle.rules.specs.TargetTrees as target-tree
+use Rattle.std.specs.Prelude.{is_ok}
 
 -- Operators by their numbers. Kind 5 names no operator, so that its mark is 0 ("Fields not named are zero"), and 0 is
 -- the shift: the code runs kind 5 by its mark, as it runs kind 4. No accepted record has a number above 8.
@@ -222,7 +223,7 @@ guarded l false x = junk_node l
 abbrev pub node_from : (l : Language) → List ℕ → ℕ → List (NodeOf l) → NodeOf l
 node_from l t n cs =
     guarded l
-    (ltb 0 n && leb n (record_count t) && eqb (record_fault l t n) 0 && nodes_fit l (form_of l (kind_of t n)) cs)
+    (ltb 0 n && leb n (record_count t) && is_ok (record_fault l t n) && nodes_fit l (form_of l (kind_of t n)) cs)
     (build_node l n (record_at t n) cs)
 
 abbrev pub node_in : (l : Language) → List (NodeOf l) → ℕ → NodeOf l

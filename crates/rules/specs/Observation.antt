@@ -7,6 +7,8 @@ use Rattle.rules.specs.Memory.{Memory, recorded_of, is_live, named, located_in, 
 use Rattle.rules.specs.Memory.{on_pointer}
 use Rattle.rules.specs.Evaluation.{is_initialised, queried}
 use Rattle.rules.specs.Types.{Pointer, Value, Evaluated, Located, Search, Recorded}
+use Rattle.std.specs.Prelude.{Err, None, Ok, Some}
+use Rattle.rules.specs.Types.{Miss, Stop}
 
 -- block records by name from 1, marks from 0: "1 for initialised"
 pub record Observation : Type 0 where
@@ -36,24 +38,24 @@ mark_run o n = lowest_run (λ i. not (covered o.blocks i)) n
 -- a call's change of the memory, or its ending
 pub data Noted : Type 0 where
   noted : Observation → Noted
-  refused : ℕ → Noted
+  refused : Stop → Noted
 
 abbrev pub with_marks : Observation → ℕ → Recorded → ℕ → ℕ → Observation
 with_marks o k b first n = record { blocks = set_named o.blocks k b; marks = fill o.marks first n false }
 
 -- "48 .. store not at offset 0, of a known name, below 1 or without marks": a name from 1 on that is unused
 abbrev pub store_at : Observation → ℕ → ℕ → Recorded → Search → Noted
-store_at o k n Recorded.Unused Search.Nothing = refused 48
-store_at o k n Recorded.Unused (Search.At first) = noted (with_marks o k (Recorded.Live first n) first n)
-store_at o k n (Recorded.Live first l) run = refused 48
-store_at o k n Recorded.Dead run = refused 48
+store_at o k n Recorded.Unused None = refused Stop.Contradiction
+store_at o k n Recorded.Unused (Some first) = noted (with_marks o k (Recorded.Live first n) first n)
+store_at o k n (Recorded.Live first l) run = refused Stop.Contradiction
+store_at o k n Recorded.Dead run = refused Stop.Contradiction
 
 abbrev pub store_sized : Observation → ℕ → ℤ → ℤ → Noted
 store_sized o k (pos zero) (pos (suc n)) = store_at o k (suc n) (record_of o k) (mark_run o (suc n))
-store_sized o k (pos zero) (pos zero) = refused 48
-store_sized o k (pos zero) (negsuc n) = refused 48
-store_sized o k (pos (suc i)) z = refused 48
-store_sized o k (negsuc i) z = refused 48
+store_sized o k (pos zero) (pos zero) = refused Stop.Contradiction
+store_sized o k (pos zero) (negsuc n) = refused Stop.Contradiction
+store_sized o k (pos (suc i)) z = refused Stop.Contradiction
+store_sized o k (negsuc i) z = refused Stop.Contradiction
 
 abbrev pub store_block : Observation → Value → Value → Noted
 store_block o v w =
@@ -61,14 +63,14 @@ store_block o v w =
 
 -- "48 .. delete not at offset 0 of a live block"
 abbrev pub delete_at : Observation → ℕ → Recorded → Noted
-delete_at o k Recorded.Unused = refused 48
+delete_at o k Recorded.Unused = refused Stop.Contradiction
 delete_at o k (Recorded.Live first n) = noted (with_marks o k Recorded.Dead first n)
-delete_at o k Recorded.Dead = refused 48
+delete_at o k Recorded.Dead = refused Stop.Contradiction
 
 abbrev pub delete_from : Observation → ℕ → ℤ → Noted
 delete_from o k (pos zero) = delete_at o k (record_of o k)
-delete_from o k (pos (suc i)) = refused 48
-delete_from o k (negsuc i) = refused 48
+delete_from o k (pos (suc i)) = refused Stop.Contradiction
+delete_from o k (negsuc i) = refused Stop.Contradiction
 
 abbrev pub delete_block : Observation → Value → Noted
 delete_block o v = on_pointer v refused (λ p. delete_from o p.name p.offset)
@@ -78,9 +80,9 @@ abbrev pub locate_mark : Observation → Pointer → Located
 locate_mark o p = located_in (record_of o p.name) p.offset
 
 abbrev pub mark_at : Observation → Located → Noted
-mark_at o (Located.At i) = noted (record { blocks = o.blocks; marks = set o.marks i true })
-mark_at o Located.Dead = refused 48
-mark_at o Located.Outside = refused 48
+mark_at o (Ok i) = noted (record { blocks = o.blocks; marks = set o.marks i true })
+mark_at o (Err Miss.Dead) = refused Stop.Contradiction
+mark_at o (Err Miss.Outside) = refused Stop.Contradiction
 
 abbrev pub initialise : Observation → Value → Noted
 initialise o v = on_pointer v refused (λ p. mark_at o (locate_mark o p))
@@ -92,7 +94,7 @@ live_record o k = is_live (record_of o k)
 -- the five queries
 abbrev pub query_observation : Query → Observation → Value → Evaluated
 query_observation q o v =
-    on_pointer v Evaluated.Stopped (λ p. queried q (record_of o p.name) (λ i. is_marked o i) p)
+    on_pointer v Err (λ p. queried q (record_of o p.name) (λ i. is_marked o i) p)
 
 abbrev pub empty_observation : Observation
 empty_observation = record { blocks = replicate name_count Recorded.Unused; marks = replicate cell_count false }

@@ -4,7 +4,7 @@ use Rattle.rules.specs.Records.{fields_of, record_count, kind_of, record_at}
 use Rattle.rules.specs.Kinds.{source, between}
 use Rattle.rules.specs.Checker.{total, parent_of}
 use Rattle.rules.specs.Nodes.{by_kind, ◌gives◌}
-use Rattle.rules.specs.Types.{Search}
+use Rattle.std.specs.Prelude.{None, Some}
 
 -- "Parts listed in order nest as 44(first, 44(second, ..))": the records of a list, from those of its parts
 abbrev pub list_records : ℕ → List ℕ → ℕ
@@ -66,8 +66,8 @@ unfoldable pub copies_of : List ℕ → ℕ → ℕ → ℕ
 copies_of t zero n = 1
 copies_of t (suc d) n =
     elim (parent_of source t n) [
-      | Search.At m ↦ copies_in t m n * copies_of t d m
-      | Search.Nothing ↦ 1
+      | Some m ↦ copies_in t m n * copies_of t d m
+      | None ↦ 1
     ]
 
 -- how many target records come from record n

@@ -7,6 +7,8 @@ use Rattle.rules.specs.Evaluation.{Variables, evaluate_predicate, condition}
 use Rattle.rules.specs.Flow.{Outcome, Ending, Meaning, run_by}
 use Rattle.rules.specs.Plain.{plain_meaning}
 use Rattle.rules.specs.Types.{Test}
+use Rattle.std.specs.Prelude.{Err, Ok}
+use Rattle.std.specs.Prelude.{true, false}
 
 -- "it is false then if its predicate gives 0, and not false if working the predicate out ends the run"
 pub data Verdict : Type 0 where
@@ -29,9 +31,9 @@ reach x r = record { memory = x.memory; assertions = x.assertions ++ (r ∷ []) 
 
 -- the one change: all else is as in the plain run
 abbrev pub asserted_past : ℕ → PastState → ℕ → Test → Change PastState
-asserted_past s x f Test.Yes = changed (reach x (reached holds s x.memory f))
-asserted_past s x f Test.No = changed (reach x (reached fails s x.memory f))
-asserted_past s x f (Test.Stopped c) = stopped c (reach x (reached undecided s x.memory f))
+asserted_past s x f (Ok true) = changed (reach x (reached holds s x.memory f))
+asserted_past s x f (Ok false) = changed (reach x (reached fails s x.memory f))
+asserted_past s x f (Err c) = stopped c (reach x (reached undecided s x.memory f))
 
 abbrev pub past_meaning : Meaning PastState
 past_meaning = record {

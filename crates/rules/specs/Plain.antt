@@ -6,12 +6,15 @@ use Rattle.rules.specs.Memory.{assigned, allocated, freed}
 use Rattle.rules.specs.Evaluation.{Variables, evaluate_source, find_source, evaluate_predicate, condition}
 use Rattle.rules.specs.Flow.{Outcome, Meaning, run_by}
 use Rattle.rules.specs.Types.{Test}
+use Rattle.std.specs.Prelude.{Err, Ok}
+use Rattle.rules.specs.Types.{Stop}
+use Rattle.std.specs.Prelude.{true, false}
 
 -- "33 assertion false"
 abbrev pub asserted : {S : Type 0} → S → Test → Change S
-asserted x Test.Yes = changed x
-asserted x Test.No = stopped 33 x
-asserted x (Test.Stopped c) = stopped c x
+asserted x (Ok true) = changed x
+asserted x (Ok false) = stopped Stop.FalseAssertion x
+asserted x (Err c) = stopped c x
 
 -- the state of a plain run is its memory
 abbrev pub plain_meaning : Meaning Memory

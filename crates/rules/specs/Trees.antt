@@ -1,15 +1,16 @@
 -- The trees of a source table. Expressions and places serve both languages: T is what names a temporary,
 -- ⊥ in a source table, which has none, and a number in a target table.
 use Rattle.std.specs.Prelude.{ℕ, ℤ}
-
 -- "1 add, 2 subtract, 3 multiply, 4 divide toward zero, 5 divide to nearest .., 6 at most, 7 equal, 8 pointer shift";
 -- where a half goes, 02 §1 decides
-pub data Operator : Type 0 where
-  add subtract multiply divide nearest at_most equal shift : Operator
-
+pub use Rattle.rules.specs.declared.Operator.{Operator}
+pub use Rattle.rules.specs.declared.Operator.TheVariants.{Add as add, Subtract as subtract, Multiply as multiply}
+pub use Rattle.rules.specs.declared.Operator.TheVariants.{Divide as divide, Nearest as nearest, AtMost as at_most}
+pub use Rattle.rules.specs.declared.Operator.TheVariants.{Equal as equal, Shift as shift}
 -- "1 valid, 2 initialised, 3 base address, 4 offset, 5 length"
-pub data Query : Type 0 where
-  valid initialised base offset block_length : Query
+pub use Rattle.rules.specs.declared.Query.{Query}
+pub use Rattle.rules.specs.declared.Query.TheVariants.{Valid as valid, Initialised as initialised, Base as base}
+pub use Rattle.rules.specs.declared.Query.TheVariants.{Offset as offset, BlockLength as block_length}
 
 mutual
   pub data Expression (T : Type 0) : Type 0 where

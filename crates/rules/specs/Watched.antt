@@ -16,16 +16,17 @@ use Rattle.rules.specs.Evaluation.{condition, extend}
 use Rattle.rules.specs.Observation.{Observation, Noted, noted, refused, store_block, delete_block, initialise}
 use Rattle.rules.specs.Observation.{live_record, query_observation}
 use Rattle.rules.specs.Types.{Value, Evaluated, Found, Temporary}
+use Rattle.std.specs.Prelude.{Err, None, Ok, Some}
 
 -- "64 temporaries t0–t63, empty at first"
 abbrev pub Temporaries : Type 0
 Temporaries = List Temporary
 
 abbrev pub start_temporaries : Temporaries
-start_temporaries = replicate temporary_count Temporary.Empty
+start_temporaries = replicate temporary_count None
 
 abbrev pub temporary_of : Temporaries → Holding ℕ
-temporary_of τ n = get_or τ n Temporary.Empty
+temporary_of τ n = get_or τ n None
 
 abbrev pub held_in : Temporaries → ℕ → Evaluated
 held_in τ n = held (temporary_of τ n)
@@ -76,9 +77,9 @@ holding x n = held_in x.temporaries n
 
 -- temporary n takes what evaluating gave
 abbrev pub taken : WatchedState → ℕ → Evaluated → Change WatchedState
-taken x n (Evaluated.Value v) =
-    changed (watching x.memory x.observation (set x.temporaries n (Temporary.Holds v)))
-taken x n (Evaluated.Stopped c) = stopped c x
+taken x n (Ok v) =
+    changed (watching x.memory x.observation (set x.temporaries n (Some v)))
+taken x n (Err c) = stopped c x
 
 -- the observation memory takes what a call gave
 abbrev pub observed : WatchedState → Noted → Change WatchedState
@@ -113,8 +114,8 @@ watch (take_value s n e) ρ x f = after s ρ f (taken x n (value_in e ρ x))
 watch (take_operation s n q) ρ x f =
     after s ρ f (taken x n (operated (live_record x.observation) q (holding x (suc n)) (holding x (suc (suc n)))))
 watch (take_query s n q) ρ x f =
-    after s ρ f (taken x n (on_value (holding x (suc n)) Evaluated.Stopped (query_observation q x.observation)))
-watch (take_not s n) ρ x f = after s ρ f (taken x n (on_value (holding x (suc n)) Evaluated.Stopped opposite))
+    after s ρ f (taken x n (on_value (holding x (suc n)) Err (query_observation q x.observation)))
+watch (take_not s n) ρ x f = after s ρ f (taken x n (on_value (holding x (suc n)) Err opposite))
 watch (branch_on s n a b) ρ x f =
     decide s ρ (condition (holding x n)) x f (into 1 (watch a ρ x f)) (into 2 (watch b ρ x f))
 watch (assert_on s n) ρ x f = after s ρ f (asserted x (condition (holding x n)))

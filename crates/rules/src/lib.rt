@@ -2,6 +2,10 @@
 
 #![tactic(auto)]
 
+ghost use Rattle.std.specs.Prelude.{◌≡◌};
+ghost use Rattle.rules.specs.Types.{stop_number, rule_number, missed};
+ghost use Rattle.rules.specs.Nodes.{operator_of, query_of};
+
 // The numbers of `specs/Sizes.antt`, by the same names.
 pub const NAME_COUNT: usize = 4095;
 
@@ -47,15 +51,104 @@ pub type Variables = [u16; VARIABLE_COUNT];
 // What a run counts as it goes: the free cells; a cell below which none is free; and the next name, one past the last
 // where all names are given. The order keeps the two that a new block adjusts alike apart, so that the compiler does not
 // read both at once just after one was written.
-pub type Counts = [usize; 3];
+#[derive(Clone, Copy)]
+pub struct Counts {
+    pub free: usize,
+    pub lowest: usize,
+    pub next: usize,
+}
 
 // How far a run is: the fuel left; and the statement that it stopped at, once it has stopped.
-pub type Progress = [u32; 2];
+#[derive(Clone, Copy)]
+pub struct Progress {
+    pub fuel: u32,
+    pub statement: u32,
+}
 
 // The live block that has each mark, by its name, 0 where none has; and last a mark below which each has an owner.
 pub const OWNERS_LENGTH: usize = CELL_COUNT + 1;
 
 pub type MarkOwners = [u16; OWNERS_LENGTH];
+
+// The two languages of tables.
+#[derive(Clone, Copy, Debug, PartialEq, Eq)]
+pub enum Language {
+    Source,
+    Target,
+}
+
+// The sorts of records.
+#[derive(Clone, Copy, Debug, PartialEq, Eq)]
+pub enum Sort {
+    Expression,
+    Place,
+    Term,
+    Predicate,
+    Statement,
+}
+
+// "1 add, 2 subtract, 3 multiply, 4 divide toward zero, 5 divide to nearest .., 6 at most, 7 equal, 8 pointer shift".
+#[derive(Clone, Copy, Debug, PartialEq, Eq)]
+pub enum Operator {
+    Add,
+    Subtract,
+    Multiply,
+    Divide,
+    Nearest,
+    AtMost,
+    Equal,
+    Shift,
+}
+
+// The operator of a number that a table has; a shift's record has none.
+impl From<u8> for Operator {
+    ghost from_gives = { λ number operator. operator ≡ operator_of number };
+
+    fn from(number: u8) -> Operator {
+        match number {
+            1 => Operator::Add,
+            2 => Operator::Subtract,
+            3 => Operator::Multiply,
+            4 => Operator::Divide,
+            5 => Operator::Nearest,
+            6 => Operator::AtMost,
+            7 => Operator::Equal,
+            _ => Operator::Shift,
+        }
+    }
+}
+
+// "1 valid, 2 initialised, 3 base address, 4 offset, 5 length".
+#[derive(Clone, Copy, Debug, PartialEq, Eq)]
+pub enum Query {
+    Valid,
+    Initialised,
+    Base,
+    Offset,
+    BlockLength,
+}
+
+// The query of a number that a table has.
+impl From<u8> for Query {
+    ghost from_gives = { λ number query. query ≡ query_of number };
+
+    fn from(number: u8) -> Query {
+        match number {
+            1 => Query::Valid,
+            2 => Query::Initialised,
+            3 => Query::Base,
+            4 => Query::Offset,
+            _ => Query::BlockLength,
+        }
+    }
+}
+
+// A block of 42 is freeable, that of a let is fixed.
+#[derive(Clone, Copy, Debug, PartialEq, Eq)]
+pub enum Use {
+    Fixed,
+    Freeable,
+}
 
 // "a pointer with its block name and offset"; the offset may lie outside the block.
 #[derive(Clone, Copy)]
@@ -72,50 +165,67 @@ pub enum Value {
     Pointer(Pointer),
 }
 
-// What evaluating gives: a value, or the number of the ending.
-#[derive(Clone, Copy)]
-pub enum Evaluated {
-    Value(Value),
-    Stopped(u32),
+// Why a run stops, by the number of its ending: "30 no run of free cells long enough. 31 all names given. 32 fuel is 0 at
+// a while test. 33 assertion false. 40 wrong sort of value. 41 undefined cell read. 42 cell in a dead block. 43 overflow.
+// 44 zero divisor. 45 size below 1. 46 free of a pointer to anything but the first cell of a live freeable block. 47 base,
+// offset or length of a block not live. 48 observation call that contradicts the record. 49 empty temporary. 50 offset
+// outside a live block."
+#[derive(Clone, Copy, Debug, PartialEq, Eq)]
+pub enum Stop {
+    NoRun = 30,
+    NamesGiven = 31,
+    NoFuel = 32,
+    FalseAssertion = 33,
+    WrongSort = 40,
+    UndefinedCell = 41,
+    DeadBlock = 42,
+    Overflow = 43,
+    ZeroDivisor = 44,
+    SizeBelowOne = 45,
+    WrongFree = 46,
+    NotLive = 47,
+    Contradiction = 48,
+    EmptyTemporary = 49,
+    OutsideBlock = 50,
 }
 
-// What finding a place gives: where it is, or the number of the ending.
-#[derive(Clone, Copy)]
-pub enum Found {
-    Place(Pointer),
-    Stopped(u32),
+impl From<Stop> for u32 {
+    ghost from_gives = { λ stop number. number ≡ stop_number stop };
+
+    fn from(stop: Stop) -> u32 {
+        stop as u32
+    }
 }
+
+// What evaluating gives, if it does not stop.
+pub type Evaluated = Result<Value, Stop>;
+
+// What finding a place gives: where it is.
+pub type Found = Result<Pointer, Stop>;
 
 // "Conditions are integers, true when not 0".
-#[derive(Clone, Copy)]
-pub enum Test {
-    Yes,
-    No,
-    Stopped(u32),
-}
+pub type Test = Result<bool, Stop>;
 
-// What an operator on integers gives.
-#[derive(Clone, Copy)]
-pub enum Number {
-    Is(i64),
-    Overflow,
-    ZeroDivisor,
-}
-
-// Where a pointer leads: a cell, or none because its block is not live or its offset outside.
-#[derive(Clone, Copy)]
-pub enum Located {
-    At(usize),
+// Why a pointer leads to no cell: its block is not live, or its offset lies outside.
+#[derive(Clone, Copy, Debug, PartialEq, Eq)]
+pub enum Miss {
     Dead,
     Outside,
 }
 
-// The lowest of several numbers that pass a test, if one does.
-#[derive(Clone, Copy)]
-pub enum Search {
-    At(usize),
-    Nothing,
+impl From<Miss> for Stop {
+    ghost from_gives = { λ miss stop. stop ≡ missed miss };
+
+    fn from(miss: Miss) -> Stop {
+        match miss {
+            Miss::Dead => Stop::DeadBlock,
+            Miss::Outside => Stop::OutsideBlock,
+        }
+    }
 }
+
+// Where a pointer leads: a cell.
+pub type Located = Result<usize, Miss>;
 
 // A block of the execution memory: "0 unused, 1 live and fixed, 2 live and freeable, 3 dead".
 // A live one has its first cell and its length.
@@ -142,19 +252,43 @@ pub enum Cell {
     Holds(u16, Value),
 }
 
-// A temporary is "empty at first".
-#[derive(Clone, Copy)]
-pub enum Temporary {
-    Empty,
-    Holds(Value),
+// By what rule a call is turned away, by its number: "1 length 0 or no multiple of 16. 2 too many records. 3 kind not in
+// the language. 4 mark, operator, query, literal or child presence against the rules. 5 child not smaller or of the wrong
+// sort. 6 shape. 7 variable used out of scope, or let while in scope. 8 a term or predicate" too deep. "9 inputs no
+// multiple of 8 bytes, none, or over 256. 20 output shorter than the translation. 21, 22" a memory of another length.
+#[derive(Clone, Copy, Debug, PartialEq, Eq)]
+pub enum Rule {
+    Length = 1,
+    Count = 2,
+    Kind = 3,
+    Field = 4,
+    Child = 5,
+    Shape = 6,
+    Scope = 7,
+    Level = 8,
+    Inputs = 9,
+    Output = 20,
+    Memory = 21,
+    Observation = 22,
 }
 
-// What the checker says: a refusal has the number and the record.
-#[derive(Clone, Copy)]
-pub enum Checked {
-    Accepted,
-    Refused(u32, u32),
+impl From<Rule> for u32 {
+    ghost from_gives = { λ rule number. number ≡ rule_number rule };
+
+    fn from(rule: Rule) -> u32 {
+        rule as u32
+    }
 }
+
+// The rule that is broken and the record that breaks it, 0 where it is none.
+#[derive(Clone, Copy, Debug, PartialEq, Eq)]
+pub struct Refusal {
+    pub rule: Rule,
+    pub record: u32,
+}
+
+// What the checker says.
+pub type Checked = Result<(), Refusal>;
 
 // What an entry point returns. `record` is the refused record, the source statement of an ending,
 // or a translation's record count.

@@ -8,7 +8,8 @@ use lib.ListN.{length, length-map}
 use Rattle.rules.specs.Sizes.{cell_count}
 use Rattle.rules.specs.Memory.{Memory, recorded_of, named, block_of, set_named, Change, stopped, locate, store_cell}
 use Rattle.rules.specs.Memory.{next_name, free_run, Use, block_for, with_block, make_at, make_block, end_block, count_free}
-use Rattle.rules.specs.declared.{Pointer.Pointer, Value.Value, Search.Search, Block.Block}
+use Rattle.rules.specs.declared.{Pointer.Pointer, Value.Value, Block.Block}
+use Rattle.rules.specs.Types.{Search}
 use Rattle.rules.specs.declared.{Recorded.Recorded}
 use Rattle.rules.proofs.Runs.Keeping.{AnyNumber, MadeKeeps, at-cell}
 use Rattle.rules.proofs.Memory.MemoryLaws.{map-set_named, named-map, named_in}
@@ -16,6 +17,7 @@ use Rattle.rules.proofs.Memory.Invariant.{Invariant, changed_memory}
 use Rattle.rules.proofs.Memory.Totals.{length_of, live_length, total}
 use Rattle.rules.proofs.Memory.Room.{HasRoom, room}
 use Rattle.rules.proofs.Memory.BlockChanges.{onward-make, recorded-for, end-invariant, dead-is-not-live}
+use Rattle.std.specs.Prelude.{None, Some}
 
 -- the lengths of live blocks, after the block of one name was set
 live-set_named : (l : List Recorded) (k : ℕ) (x : Recorded) → 1 ≤ k → k ≤ length l
@@ -41,9 +43,9 @@ pub new-takes : (m : Memory) (u : Use) (n : ℕ) → Invariant m
 new-takes m u n y = go (next_name m) (free_run m n) (room m n)
   where
     go : (r s : Search) → HasRoom m n r s → MadeKeeps (λ k m₁. Takes m n m₁) AnyNumber (make_at m u n r s)
-    go Search.Nothing s h = tt
-    go (Search.At k) Search.Nothing h = tt
-    go (Search.At k) (Search.At first) h =
+    go None s h = tt
+    go (Some k) None h = tt
+    go (Some k) (Some first) h =
         let z = live-block m.blocks k (block_for u first n) h.from (omega (arith, h.to, y.names)) in
         omega (
           arith,

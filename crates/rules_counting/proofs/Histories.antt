@@ -12,7 +12,8 @@ use Rattle.rules.specs.Observation.{Noted, noted, refused}
 use Rattle.rules.specs.Flow.{ending}
 use Rattle.rules.specs.Plain.{plain_meaning, run}
 use Rattle.rules.specs.Watched.{WatchedState, with_memory, value_in, place_in, holding, taken, observed, watch}
-use Rattle.rules.specs.declared.{Pointer.Pointer, Value.Value, Evaluated.Evaluated, Found.Found, Located.Located}
+use Rattle.rules.specs.declared.{Pointer.Pointer, Value.Value}
+use Rattle.rules.specs.Types.{Evaluated, Found, Located}
 use Rattle.rules.specs.declared.{Block.Block, Recorded.Recorded, Cell.Cell}
 use Rattle.rules.proofs.Runs.Keeping.{AnyNumber, AnyValue, any-test, any-evaluated, ChangeKeeps, MadeKeeps}
 use Rattle.rules.proofs.Runs.Outcomes.{AnyBlock, staying, outcomes-state, change-in, made_in_lem, made_more, asserted-keeps}
@@ -20,6 +21,8 @@ use Rattle.rules.proofs.Runs.SourceRuns.{MeaningKeeps, run-reaches}
 use Rattle.rules.proofs.Runs.TargetRuns.{WatchKeeps, watch-reaches, taken-keeps, operating, querying, negating}
 use Rattle.rules.proofs.Runs.TargetRuns.{storing, deleting, initialising}
 use Rattle.rules_counting.specs.Counting.{History, stored, block_made, block_ended}
+use Rattle.std.specs.Prelude.{Err, Ok}
+use Rattle.rules.specs.Types.{Miss}
 
 module _ (m₀ : Memory) where
   abbrev Keeps : Change Memory → Type 0
@@ -35,9 +38,9 @@ module _ (m₀ : Memory) where
       to l = at_cell (λ i. changed (set_cell m i (Cell.Holds p.name v))) (λ k. stopped k m) l
 
       go : (l : Located) → locate m p ≡ l → Keeps (to l)
-      go (Located.At i) e = stored p v h (ap to e)
-      go Located.Dead e = (tt, h)
-      go Located.Outside e = (tt, h)
+      go (Ok i) e = stored p v h (ap to e)
+      go (Err Miss.Dead) e = (tt, h)
+      go (Err Miss.Outside) e = (tt, h)
 
   pub new-history : {m : Memory} → History m₀ m → (u : Use) (n : ℕ) → KeepsMade (make_block m u n)
   new-history {m} h u n = go (make_block m u n) refl
@@ -56,9 +59,9 @@ module _ (m₀ : Memory) where
 
   -- what a statement does
   assigned-history : {m : Memory} → History m₀ m → (f : Found) (e : Evaluated) → Keeps (assigned m f e)
-  assigned-history h (Found.Stopped k) e = (tt, h)
-  assigned-history h (Found.Place p) (Evaluated.Stopped k) = (tt, h)
-  assigned-history h (Found.Place p) (Evaluated.Value v) = store-history h p v
+  assigned-history h (Err k) e = (tt, h)
+  assigned-history h (Ok p) (Err k) = (tt, h)
+  assigned-history h (Ok p) (Ok v) = store-history h p v
 
   new-stored : {m : Memory} → History m₀ m → (p : Pointer) (r : Made Memory) → KeepsMade r → Keeps (store_new m p r)
   new-stored h p (made k m₁) g = store-history g p (Value.Pointer (record { name = k; offset = pos 0 }))
@@ -70,11 +73,11 @@ module _ (m₀ : Memory) where
   sized-history h p (negsuc n) = (tt, h)
 
   allocated-history : {m : Memory} → History m₀ m → (f : Found) (e : Evaluated) → Keeps (allocated m f e)
-  allocated-history h (Found.Stopped k) e = (tt, h)
-  allocated-history h (Found.Place p) (Evaluated.Stopped k) = (tt, h)
-  allocated-history h (Found.Place p) (Evaluated.Value Value.Undefined) = (tt, h)
-  allocated-history h (Found.Place p) (Evaluated.Value (Value.Integer z)) = sized-history h p z
-  allocated-history h (Found.Place p) (Evaluated.Value (Value.Pointer q)) = (tt, h)
+  allocated-history h (Err k) e = (tt, h)
+  allocated-history h (Ok p) (Err k) = (tt, h)
+  allocated-history h (Ok p) (Ok Value.Undefined) = (tt, h)
+  allocated-history h (Ok p) (Ok (Value.Integer z)) = sized-history h p z
+  allocated-history h (Ok p) (Ok (Value.Pointer q)) = (tt, h)
 
   free-history : {m : Memory} → History m₀ m → (k : ℕ) (b : Block) → Keeps (free_of m k b)
   free-history h k Block.Unused = (tt, h)
@@ -88,10 +91,10 @@ module _ (m₀ : Memory) where
   free_at-history h k (negsuc o) = (tt, h)
 
   freed-history : {m : Memory} → History m₀ m → (e : Evaluated) → Keeps (freed m e)
-  freed-history h (Evaluated.Stopped k) = (tt, h)
-  freed-history h (Evaluated.Value Value.Undefined) = (tt, h)
-  freed-history h (Evaluated.Value (Value.Integer z)) = (tt, h)
-  freed-history h (Evaluated.Value (Value.Pointer p)) = free_at-history h p.name p.offset
+  freed-history h (Err k) = (tt, h)
+  freed-history h (Ok Value.Undefined) = (tt, h)
+  freed-history h (Ok (Value.Integer z)) = (tt, h)
+  freed-history h (Ok (Value.Pointer p)) = free_at-history h p.name p.offset
 
   -- the plain run
   plain-keeps : MeaningKeeps plain_meaning (History m₀) (λ m m₁. History m₀ m₁) AnyBlock AnyNumber

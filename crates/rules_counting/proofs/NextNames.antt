@@ -12,7 +12,8 @@ use Rattle.rules.specs.Sizes.{name_count}
 use Rattle.rules.specs.Checker.{lowest}
 use Rattle.rules.specs.Memory.{Memory, recorded_of, named, block_of, is_unused, next_name, free_run, Use, block_for, with_block}
 use Rattle.rules.specs.Memory.{without_cells, make_at, make_block, end_block}
-use Rattle.rules.specs.declared.{Search.Search, Block.Block, Recorded.Recorded}
+use Rattle.rules.specs.declared.{Block.Block, Recorded.Recorded}
+use Rattle.rules.specs.Types.{Search}
 use Rattle.rules.proofs.Lists.SearchLaws.{lowest-nothing, lowest-at}
 use Rattle.rules.proofs.Runs.Keeping.{AnyNumber, MadeKeeps}
 use Rattle.rules.proofs.Memory.MemoryLaws.{named-set_named-other}
@@ -20,26 +21,27 @@ use Rattle.rules.proofs.Memory.Invariant.{Invariant, becomes-given}
 use Rattle.rules.proofs.Memory.Room.{Room, HasRoom, room}
 use Rattle.rules.proofs.Memory.BlockChanges.{onward-make, make-given, end-given}
 use Rattle.rules_counting.specs.Counting.{name_from}
+use Rattle.std.specs.Prelude.{None, Some}
 
-pub name-past : (k : ℕ) → name_count < k → Search.Nothing ≡ name_from k
-name-past k h = sym (ap (λ (b : Bool). cond b Search.Nothing (Search.At k)) (lt-ltb name_count k h))
+pub name-past : (k : ℕ) → name_count < k → None ≡ name_from k
+name-past k h = sym (ap (λ (b : Bool). cond b None (Some k)) (lt-ltb name_count k h))
 
-pub name-at : (k : ℕ) → k ≤ name_count → Search.At k ≡ name_from k
-name-at k h = sym (ap (λ (b : Bool). cond b Search.Nothing (Search.At k)) (le-ltb name_count k h))
+pub name-at : (k : ℕ) → k ≤ name_count → Some k ≡ name_from k
+name-at k h = sym (ap (λ (b : Bool). cond b None (Some k)) (le-ltb name_count k h))
 
 -- and back
 abbrev place_of : Search → ℕ
-place_of (Search.At i) = i
-place_of Search.Nothing = 0
+place_of (Some i) = i
+place_of None = 0
 
 abbrev is_at : Search → Bool
-is_at (Search.At i) = true
-is_at Search.Nothing = false
+is_at (Some i) = true
+is_at None = false
 
-pub name-is : (j k : ℕ) → name_from j ≡ Search.At k → (j ≡ k) × (j ≤ name_count)
+pub name-is : (j k : ℕ) → name_from j ≡ Some k → (j ≡ k) × (j ≤ name_count)
 name-is j k e = go (ltb name_count j) refl e
   where
-    go : (b : Bool) → ltb name_count j ≡ b → cond b Search.Nothing (Search.At j) ≡ Search.At k
+    go : (b : Bool) → ltb name_count j ≡ b → cond b None (Some j) ≡ Some k
         → (j ≡ k) × (j ≤ name_count)
     go true t q = absurd (true≢false (sym (ap is_at q)))
     go false t q = (ap place_of q, ltb-false name_count j t)
@@ -53,7 +55,7 @@ next-is m k from to lower here = go (ltb name_count k) refl
     unused : ℕ → Bool
     unused j = is_unused (block_of m j)
 
-    go : (b : Bool) → ltb name_count k ≡ b → next_name m ≡ cond b Search.Nothing (Search.At k)
+    go : (b : Bool) → ltb name_count k ≡ b → next_name m ≡ cond b None (Some k)
     go true e = lowest-nothing unused 1 name_count (λ j p q. lower j p (omega (arith, ltb-true name_count k e)))
     go false e =
         let h : k ≤ name_count = omega (arith, ltb-false name_count k e) in
@@ -72,9 +74,9 @@ new-next m u n y = go (next_name m) (free_run m n) (room m n)
 
     go : (r s : Search) → HasRoom m n r s
         → MadeKeeps (λ k m₁. next_name m₁ ≡ name_from (suc k)) AnyNumber (make_at m u n r s)
-    go Search.Nothing s h = tt
-    go (Search.At k) Search.Nothing h = tt
-    go (Search.At k) (Search.At first) h =
+    go None s h = tt
+    go (Some k) None h = tt
+    go (Some k) (Some first) h =
         next-is (with_block m u k first n) (suc k) (omega arith) (omega (arith, h.to)) lower here
       where
         lower : (j : ℕ) → 1 ≤ j → j < suc k → is_unused (block_of (with_block m u k first n) j) ≡ false

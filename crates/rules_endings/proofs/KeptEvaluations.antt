@@ -18,25 +18,28 @@ use Rattle.rules.proofs.Memory.Invariant.{occupied, Invariant}
 use Rattle.rules.proofs.Memory.BlockChanges.{covered-once}
 use Rattle.rules.proofs.Memory.Pointing.{Leads, leads}
 use Rattle.rules.proofs.Memory.Room.{Room}
-use Rattle.rules.specs.declared.{Pointer.Pointer, Value.Value, Evaluated.Evaluated, Found.Found, Located.Located}
+use Rattle.rules.specs.declared.{Pointer.Pointer, Value.Value}
+use Rattle.rules.specs.Types.{Evaluated, Found, Located}
 use Rattle.rules.specs.declared.{Block.Block, Cell.Cell}
+use Rattle.std.specs.Prelude.{Err, Ok}
+use Rattle.rules.specs.Types.{Miss}
 
 -- a value that was given is given again
 abbrev pub SameValue : Evaluated → Evaluated → Type 0
-SameValue (Evaluated.Value v) r = r ≡ Evaluated.Value v
-SameValue (Evaluated.Stopped c) r = Unit {0}
+SameValue (Ok v) r = r ≡ Ok v
+SameValue (Err c) r = Unit {0}
 
 abbrev pub SamePlace : Found → Found → Type 0
-SamePlace (Found.Place p) r = r ≡ Found.Place p
-SamePlace (Found.Stopped c) r = Unit {0}
+SamePlace (Ok p) r = r ≡ Ok p
+SamePlace (Err c) r = Unit {0}
 
 same-itself : (e : Evaluated) → SameValue e e
-same-itself (Evaluated.Value v) = refl
-same-itself (Evaluated.Stopped c) = tt
+same-itself (Ok v) = refl
+same-itself (Err c) = tt
 
 found-itself : (f : Found) → SamePlace f f
-found-itself (Found.Place p) = refl
-found-itself (Found.Stopped c) = tt
+found-itself (Ok p) = refl
+found-itself (Err c) = tt
 
 -- an operation gives its value again where the blocks that were live are
 module _ (live live₁ : Liveness) (living : (k : ℕ) → live k ≡ true → live₁ k ≡ true) where
@@ -48,8 +51,8 @@ module _ (live live₁ : Liveness) (living : (k : ℕ) → live k ≡ true → l
       r = truth_value (same_pointer p q)
 
       go : (a b : Bool) → live p.name ≡ a → live q.name ≡ b
-          → SameValue (cond (a && b) r (Evaluated.Stopped 47))
-          (cond (live₁ p.name && live₁ q.name) r (Evaluated.Stopped 47))
+          → SameValue (cond (a && b) r (Err 47))
+          (cond (live₁ p.name && live₁ q.name) r (Err 47))
       go true true d e = rw (living p.name d, living q.name e) (same-itself r)
       go true false d e = tt
       go false b d e = tt
@@ -73,25 +76,25 @@ module _ (live live₁ : Liveness) (living : (k : ℕ) → live k ≡ true → l
 
   operated-kept : (o : Operator) (a b a₁ b₁ : Evaluated) → SameValue a a₁ → SameValue b b₁
       → SameValue (operated live o a b) (operated live₁ o a₁ b₁)
-  operated-kept o (Evaluated.Stopped c) b a₁ b₁ h g = tt
-  operated-kept o (Evaluated.Value x) (Evaluated.Stopped c) a₁ b₁ h g = tt
-  operated-kept o (Evaluated.Value x) (Evaluated.Value y) a₁ b₁ h g = rw (h, g) (operate-kept o x y)
+  operated-kept o (Err c) b a₁ b₁ h g = tt
+  operated-kept o (Ok x) (Err c) a₁ b₁ h g = tt
+  operated-kept o (Ok x) (Ok y) a₁ b₁ h g = rw (h, g) (operate-kept o x y)
 
 pointed-kept : (e e₁ : Evaluated) → SameValue e e₁ → SamePlace (pointed_by e) (pointed_by e₁)
-pointed-kept (Evaluated.Stopped c) e₁ h = tt
-pointed-kept (Evaluated.Value v) e₁ h = rw h (found-itself (on_pointer v Found.Stopped Found.Place))
+pointed-kept (Err c) e₁ h = tt
+pointed-kept (Ok v) e₁ h = rw h (found-itself (on_pointer v Err Ok))
 
 address_kept : (f f₁ : Found) → SamePlace f f₁ → SameValue (address_of f) (address_of f₁)
-address_kept (Found.Stopped c) f₁ h = tt
-address_kept (Found.Place p) f₁ h = rw h refl
+address_kept (Err c) f₁ h = tt
+address_kept (Ok p) f₁ h = rw h refl
 
 -- two memories of which the second gives every value that the first gives, and has every block live that the first has
 module _ (m m₁ : Memory) (kept : (p : Pointer) → SameValue (read_cell m p) (read_cell m₁ p))
     (living : (k : ℕ) → live_block m k ≡ true → live_block m₁ k ≡ true) where
   reading-kept : (f f₁ : Found) → SamePlace f f₁
-      → SameValue (on_place f Evaluated.Stopped (read_cell m)) (on_place f₁ Evaluated.Stopped (read_cell m₁))
-  reading-kept (Found.Stopped c) f₁ h = tt
-  reading-kept (Found.Place p) f₁ h = rw h (kept p)
+      → SameValue (on_place f Err (read_cell m)) (on_place f₁ Err (read_cell m₁))
+  reading-kept (Err c) f₁ h = tt
+  reading-kept (Ok p) f₁ h = rw h (kept p)
 
   mutual
     unfolding evaluate
@@ -135,7 +138,7 @@ module _ (m : Memory) (u : Use) (n k first : ℕ) (room : Room m n k first) (y :
       go (above p) = fill-above m.cells first n x i Cell.Free p
 
   -- the name is not that of the new block
-  other_name : (p : Pointer) (i : ℕ) → locate m p ≡ Located.At i → p.name ≢ k
+  other_name : (p : Pointer) (i : ℕ) → locate m p ≡ Ok i → p.name ≢ k
   unfolding locate
   other_name p i e d =
       false≢true (ap is_valid
@@ -147,7 +150,7 @@ module _ (m : Memory) (u : Use) (n k first : ℕ) (room : Room m n k first) (y :
       (named-set_named-other m.blocks k j (block_for u first n) Block.Dead (λ e.
       false≢true (sym (ap (λ (b : Block). is_live (recorded_of b)) (ap (block_of m) e ∙ room.unused)) ∙ h))) ∙ h
 
-  located-kept : (p : Pointer) (i : ℕ) → locate m p ≡ Located.At i → locate m₁ p ≡ Located.At i
+  located-kept : (p : Pointer) (i : ℕ) → locate m p ≡ Ok i → locate m₁ p ≡ Ok i
   unfolding locate
   located-kept p i e =
       ap (λ (b : Block). located_in (recorded_of b) p.offset)
@@ -156,13 +159,13 @@ module _ (m : Memory) (u : Use) (n k first : ℕ) (room : Room m n k first) (y :
   pub read_kept : (p : Pointer) → SameValue (read_cell m p) (read_cell m₁ p)
   read_kept p = go (locate m p) refl
     where
-      covered : (i : ℕ) → locate m p ≡ Located.At i → 1 ≤ occupied (cell_of m i)
+      covered : (i : ℕ) → locate m p ≡ Ok i → 1 ≤ occupied (cell_of m i)
       covered i e =
-          let l : Leads m p.name (Located.At i) = rw e at (leads m p y) in
+          let l : Leads m p.name (Ok i) = rw e at (leads m p y) in
           omega (arith, y.cover i, covered-once m p.name i l.0)
 
       go : (l : Located) → locate m p ≡ l → SameValue (read_cell m p) (read_cell m₁ p)
-      go Located.Dead e = rw e tt
-      go Located.Outside e = rw e tt
-      go (Located.At i) e =
+      go (Err Miss.Dead) e = rw e tt
+      go (Err Miss.Outside) e = rw e tt
+      go (Ok i) e =
           rw (e, located-kept p i e, cell-kept i (covered i e)) (same-itself (defined (cell_of m i)))

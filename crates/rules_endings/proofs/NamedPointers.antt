@@ -18,7 +18,9 @@ use Rattle.rules.proofs.Memory.BlockChanges.{onward-make, make-given}
 use Rattle.rules.proofs.Memory.GivenNames.{GivenValue, CellsGiven, TemporariesGiven}
 use Rattle.rules.proofs.Memory.Room.{HasRoom, room}
 use Rattle.rules_endings.proofs.UsedLaws.{IsNamed, NamedValue, VariablesNamed}
-use Rattle.rules.specs.declared.{Value.Value, Search.Search, Cell.Cell, Temporary.Temporary}
+use Rattle.rules.specs.declared.{Value.Value, Cell.Cell}
+use Rattle.rules.specs.Types.{Search, Temporary}
+use Rattle.std.specs.Prelude.{None, Some}
 
 -- names that were given stay given
 pub names-stay : {m m₁ : Memory} (ρ : Variables) → Onward m m₁ → VariablesNamed ρ m → VariablesNamed ρ m₁
@@ -45,9 +47,9 @@ let-started C ρ z m j no_name no_cells = go (next_name m) (free_run m 1) (room 
 
     go : (r s : Search) → HasRoom m 1 r s
         → MadeKeeps (λ k m₁. Started (extend ρ z k) m₁) C (make_at m fixed 1 r s)
-    go Search.Nothing s h = no_name
-    go (Search.At k) Search.Nothing h = no_cells
-    go (Search.At k) (Search.At first) h =
+    go None s h = no_name
+    go (Some k) None h = no_cells
+    go (Some k) (Some first) h =
         let m₁ = with_block m fixed k first 1 in
         let onward = onward-make m fixed 1 k first h j.0 in
         (onward.invariant, extended k m₁ (names-stay ρ onward j.1) (make-given m fixed 1 k first h j.0))
@@ -69,11 +71,11 @@ pub cells-named : (m : Memory) → CellsGiven m → (i : ℕ) → CellHas (Named
 cells-named m h i = cell-named m (cell_of m i) (all_get_d h i Cell.Free tt)
 
 temporary-named : (m : Memory) (t : Temporary) → TemporaryHas (GivenValue m) t → TemporaryHas (NamedValue m) t
-temporary-named m Temporary.Empty h = tt
-temporary-named m (Temporary.Holds Value.Undefined) h = tt
-temporary-named m (Temporary.Holds (Value.Integer z)) h = tt
-temporary-named m (Temporary.Holds (Value.Pointer p)) h = h.2
+temporary-named m None h = tt
+temporary-named m (Some Value.Undefined) h = tt
+temporary-named m (Some (Value.Integer z)) h = tt
+temporary-named m (Some (Value.Pointer p)) h = h.2
 
 pub temporaries-named : (m : Memory) (τ : Temporaries) → TemporariesGiven m τ → (n : ℕ)
     → TemporaryHas (NamedValue m) (temporary_of τ n)
-temporaries-named m τ h n = temporary-named m (temporary_of τ n) (all_get_d h n Temporary.Empty tt)
+temporaries-named m τ h n = temporary-named m (temporary_of τ n) (all_get_d h n None tt)

@@ -24,7 +24,9 @@ use Rattle.rules_endings.specs.UsedPointers.{used_by, ToldApart}
 use Rattle.rules_endings.proofs.UsedLaws.{VariablesNamed, PointersNamed, other, Tells, operations, any_held}
 use Rattle.rules_endings.proofs.UsedLaws.{decided-by}
 use Rattle.rules_endings.proofs.NamedPointers.{names-stay, Started}
-use Rattle.rules.specs.declared.{Evaluated.Evaluated, Test.Test}
+use Rattle.rules.specs.Types.{Evaluated, Test}
+use Rattle.std.specs.Prelude.{Err, Ok}
+use Rattle.std.specs.Prelude.{true, false}
 
 -- a stop tells Q, and leaves the names as they were
 pub change-told : (ρ : Variables) (Q : ℕ → Memory → Type 0) (m : Memory) (c : Change Memory) → Onward m (changed_memory c)
@@ -33,15 +35,15 @@ change-told ρ Q m (changed x) o v h = tt
 change-told ρ Q m (stopped k x) o v h = (names-stay ρ o v, h)
 
 pub test-told : {A : Type 0} (C : ℕ → Type 0) (t : Test) → A → TestStops C t → TestStops (λ c. A × C c) t
-test-told C Test.Yes v h = tt
-test-told C Test.No v h = tt
-test-told C (Test.Stopped c) v h = (v, h)
+test-told C (Ok true) v h = tt
+test-told C (Ok false) v h = tt
+test-told C (Err c) v h = (v, h)
 
 pub asserted-told : {S : Type 0} (P : ℕ → S → Type 0) (x : S) (t : Test) → P 33 x → TestStops (λ c. P c x) t
     → ChangeStops P (asserted x t)
-asserted-told P x Test.Yes f h = tt
-asserted-told P x Test.No f h = f
-asserted-told P x (Test.Stopped c) f h = h
+asserted-told P x (Ok true) f h = tt
+asserted-told P x (Ok false) f h = f
+asserted-told P x (Err c) f h = h
 
 -- of a watched run
 abbrev pub Pointed : Variables → WatchedState → Type 0
@@ -58,8 +60,8 @@ changes-told P x (stopped k m) h = h
 
 pub taken-told : (P : ℕ → WatchedState → Type 0) (x : WatchedState) (n : ℕ) (e : Evaluated)
     → Gives AnyValue (λ c. P c x) e → ChangeStops P (taken x n e)
-taken-told P x n (Evaluated.Value v) h = tt
-taken-told P x n (Evaluated.Stopped c) h = h
+taken-told P x n (Ok v) h = tt
+taken-told P x n (Err c) h = h
 
 pub observed-told : (P : ℕ → WatchedState → Type 0) (x : WatchedState) (r : Noted) → NotedKeeps AnyState (λ c. P c x) r
     → ChangeStops P (observed x r)
@@ -67,8 +69,8 @@ observed-told P x (noted o) h = tt
 observed-told P x (refused c) h = h
 
 pub given-told : {A : Type 0} (C : ℕ → Type 0) (e : Evaluated) → A → Gives AnyValue C e → Gives AnyValue (λ c. A × C c) e
-given-told C (Evaluated.Value v) a h = tt
-given-told C (Evaluated.Stopped c) a h = (a, h)
+given-told C (Ok v) a h = tt
+given-told C (Err c) a h = (a, h)
 
 -- what uses temporaries and the observation memory alone reads and stores nothing
 module _ (ρ : Variables) (x : WatchedState) (j : WatchStarted ρ x) where
@@ -93,15 +95,15 @@ module _ (ρ : Variables) (x : WatchedState) (j : WatchStarted ρ x) where
 
   pub querying-silent : (q : Query) (n : ℕ) → Gives AnyValue Silent (querying q n x)
   querying-silent q n =
-      on_value_lem (Gives AnyValue Silent) Silent Evaluated.Stopped (λ c k. k) (holding x (suc n)) _ (held-silent (suc n))
-      (λ v u. on-pointer (Gives AnyValue Silent) Silent Evaluated.Stopped (λ c k. k) AnyValue v _
+      on_value_lem (Gives AnyValue Silent) Silent Err (λ c k. k) (holding x (suc n)) _ (held-silent (suc n))
+      (λ v u. on-pointer (Gives AnyValue Silent) Silent Err (λ c k. k) AnyValue v _
       (operations-silent 40 refl) tt
       (λ p w. queried-gives AnyValue Silent (λ z. tt) (λ p. tt) operations-silent q
       (record_of x.observation p.name) (λ i. is_marked x.observation i) p))
 
   pub negating-silent : (n : ℕ) → Gives AnyValue Silent (negating n x)
   negating-silent n =
-      on_value_lem (Gives AnyValue Silent) Silent Evaluated.Stopped (λ c k. k) (holding x (suc n)) opposite
+      on_value_lem (Gives AnyValue Silent) Silent Err (λ c k. k) (holding x (suc n)) opposite
       (held-silent (suc n)) (λ v u. opposite-gives AnyValue Silent (λ z e. tt) (λ p z k e. tt) operations-silent v)
 
   pub storing-silent : (n : ℕ) → NotedKeeps AnyState Silent (storing n x)

@@ -18,8 +18,11 @@ use Rattle.rules_endings.proofs.KeptEvaluations.{living-kept}
 use Rattle.rules_endings.proofs.UsedLaws.{IsNamed, PointersNamed, Whereabouts, at, dead, outside, whereabouts}
 use Rattle.rules_endings.proofs.UsedLaws.{other, used-dead, used-outside, Tells, Told, FoundTold}
 use Rattle.rules_endings.proofs.UsedLaws.{evaluate-told, find_place-told}
-use Rattle.rules.specs.declared.{Pointer.Pointer, Value.Value, Evaluated.Evaluated, Found.Found, Located.Located}
-use Rattle.rules.specs.declared.{Search.Search, Block.Block, Cell.Cell}
+use Rattle.rules.specs.declared.{Pointer.Pointer, Value.Value}
+use Rattle.rules.specs.Types.{Evaluated, Found, Located}
+use Rattle.rules.specs.declared.{Block.Block, Cell.Cell}
+use Rattle.rules.specs.Types.{Search}
+use Rattle.std.specs.Prelude.{Err, None, Ok, Some}
 
 -- a store that stops tells of its pointer
 stored-told : (P : ℕ → Memory → Type 0) (m : Memory) (p : Pointer) (v : Value)
@@ -34,22 +37,22 @@ stored-told P m p v h = go (locate m p) refl (whereabouts m p)
 
 module _ {T : Type 0} (τ : Holding T) (ρ : Variables) where
   -- at memory m
-  place-stopped : (m : Memory) (p : Place T) (c : ℕ) → find_place p τ ρ m ≡ Found.Stopped c
+  place-stopped : (m : Memory) (p : Place T) (c : ℕ) → find_place p τ ρ m ≡ Err c
       → Tells τ ρ m (used_to p τ ρ m) c
   place-stopped m p c e =
-      let h : FoundTold τ ρ m (used_to p τ ρ m) (Found.Stopped c) = rw e at (find_place-told τ ρ m p) in
+      let h : FoundTold τ ρ m (used_to p τ ρ m) (Err c) = rw e at (find_place-told τ ρ m p) in
       h
 
-  place-named : (m : Memory) (p : Place T) (q : Pointer) → find_place p τ ρ m ≡ Found.Place q → PointersNamed τ ρ m
+  place-named : (m : Memory) (p : Place T) (q : Pointer) → find_place p τ ρ m ≡ Ok q → PointersNamed τ ρ m
       → IsNamed m q.name
   place-named m p q e =
-      let h : FoundTold τ ρ m (used_to p τ ρ m) (Found.Place q) = rw e at (find_place-told τ ρ m p) in
+      let h : FoundTold τ ρ m (used_to p τ ρ m) (Ok q) = rw e at (find_place-told τ ρ m p) in
       h
 
-  value-stopped : (m : Memory) (e : Expression T) (c : ℕ) → evaluate e τ ρ m ≡ Evaluated.Stopped c
+  value-stopped : (m : Memory) (e : Expression T) (c : ℕ) → evaluate e τ ρ m ≡ Err c
       → Tells τ ρ m (used_by e τ ρ m) c
   value-stopped m e c d =
-      let h : Told τ ρ m (used_by e τ ρ m) (Evaluated.Stopped c) = rw d at (evaluate-told τ ρ m e) in
+      let h : Told τ ρ m (used_by e τ ρ m) (Err c) = rw d at (evaluate-told τ ρ m e) in
       h
 
   -- kinds 41 and 42
@@ -61,8 +64,8 @@ module _ {T : Type 0} (τ : Holding T) (ρ : Variables) where
     earlier : (m : Memory) (c : ℕ) → c ≢ 42 → c ≢ 50 → StoreTells c m
     earlier m c d o n = other m (used_storing p e τ ρ m) c d o
 
-    stored_at : (m : Memory) (q : Pointer) (v w : Value) → find_place p τ ρ m ≡ Found.Place q
-        → evaluate e τ ρ m ≡ Evaluated.Value v → ChangeStops StoreTells (store_cell m q w)
+    stored_at : (m : Memory) (q : Pointer) (v w : Value) → find_place p τ ρ m ≡ Ok q
+        → evaluate e τ ρ m ≡ Ok v → ChangeStops StoreTells (store_cell m q w)
     stored_at m q v w a b = stored-told StoreTells m q w (λ c h n. rw (a, b) (h (place-named m p q a n)))
 
     pub assigned-told : (m : Memory) → ChangeStops StoreTells (assigned m (find_place p τ ρ m) (evaluate e τ ρ m))
@@ -70,41 +73,41 @@ module _ {T : Type 0} (τ : Holding T) (ρ : Variables) where
       where
         go : (f : Found) (r : Evaluated) → find_place p τ ρ m ≡ f → evaluate e τ ρ m ≡ r
             → ChangeStops StoreTells (assigned m f r)
-        go (Found.Stopped c) r a b = λ n. rw a (place-stopped m p c a n)
-        go (Found.Place q) (Evaluated.Stopped c) a b = λ n. rw (a, b) (value-stopped m e c b n)
-        go (Found.Place q) (Evaluated.Value v) a b = stored_at m q v v a b
+        go (Err c) r a b = λ n. rw a (place-stopped m p c a n)
+        go (Ok q) (Err c) a b = λ n. rw (a, b) (value-stopped m e c b n)
+        go (Ok q) (Ok v) a b = stored_at m q v v a b
 
     -- the store is tried with the new block, which place and size did not see
     made_told : (m : Memory) (q : Pointer) (v : Value) (n : ℕ) (r s : Search) → Invariant m
-        → find_place p τ ρ m ≡ Found.Place q → evaluate e τ ρ m ≡ Evaluated.Value v → HasRoom m (suc n) r s
+        → find_place p τ ρ m ≡ Ok q → evaluate e τ ρ m ≡ Ok v → HasRoom m (suc n) r s
         → ChangeStops StoreTells (store_new m q (make_at m freeable (suc n) r s))
-    made_told m q v n Search.Nothing s y a b h = earlier m 31 (omega arith) (omega arith)
-    made_told m q v n (Search.At k) Search.Nothing y a b h = earlier m 30 (omega arith) (omega arith)
-    made_told m q v n (Search.At k) (Search.At first) y a b h =
+    made_told m q v n None s y a b h = earlier m 31 (omega arith) (omega arith)
+    made_told m q v n (Some k) None y a b h = earlier m 30 (omega arith) (omega arith)
+    made_told m q v n (Some k) (Some first) y a b h =
         let m₁ = with_block m freeable k first (suc n) in
         let kept = read_kept m freeable (suc n) k first h y in
         let living = living-kept m freeable (suc n) k first h y in
-        let a₁ : SamePlace (Found.Place q) (find_place p τ ρ m₁) = rw a at (find_place-kept m m₁ kept living p τ ρ) in
-        let b₁ : SameValue (Evaluated.Value v) (evaluate e τ ρ m₁) = rw b at (evaluate-kept m m₁ kept living e τ ρ) in
+        let a₁ : SamePlace (Ok q) (find_place p τ ρ m₁) = rw a at (find_place-kept m m₁ kept living p τ ρ) in
+        let b₁ : SameValue (Ok v) (evaluate e τ ρ m₁) = rw b at (evaluate-kept m m₁ kept living e τ ρ) in
         stored_at m₁ q v (Value.Pointer (record { name = k; offset = pos 0 })) a₁ b₁
 
     pub allocated-told : (m : Memory) → Invariant m
         → ChangeStops StoreTells (allocated m (find_place p τ ρ m) (evaluate e τ ρ m))
     allocated-told m y = go (find_place p τ ρ m) (evaluate e τ ρ m) refl refl
       where
-        sized : (q : Pointer) (v : Value) (z : ℤ) → find_place p τ ρ m ≡ Found.Place q
-            → evaluate e τ ρ m ≡ Evaluated.Value v → ChangeStops StoreTells (new_of_size m q z)
+        sized : (q : Pointer) (v : Value) (z : ℤ) → find_place p τ ρ m ≡ Ok q
+            → evaluate e τ ρ m ≡ Ok v → ChangeStops StoreTells (new_of_size m q z)
         sized q v (pos zero) a b = earlier m 45 (omega arith) (omega arith)
         sized q v (pos (suc n)) a b = made_told m q v n (next_name m) (free_run m (suc n)) y a b (room m (suc n))
         sized q v (negsuc n) a b = earlier m 45 (omega arith) (omega arith)
 
         go : (f : Found) (r : Evaluated) → find_place p τ ρ m ≡ f → evaluate e τ ρ m ≡ r
             → ChangeStops StoreTells (allocated m f r)
-        go (Found.Stopped c) r a b = λ n. rw a (place-stopped m p c a n)
-        go (Found.Place q) (Evaluated.Stopped c) a b = λ n. rw (a, b) (value-stopped m e c b n)
-        go (Found.Place q) (Evaluated.Value Value.Undefined) a b = earlier m 40 (omega arith) (omega arith)
-        go (Found.Place q) (Evaluated.Value (Value.Integer z)) a b = sized q (Value.Integer z) z a b
-        go (Found.Place q) (Evaluated.Value (Value.Pointer x)) a b = earlier m 40 (omega arith) (omega arith)
+        go (Err c) r a b = λ n. rw a (place-stopped m p c a n)
+        go (Ok q) (Err c) a b = λ n. rw (a, b) (value-stopped m e c b n)
+        go (Ok q) (Ok Value.Undefined) a b = earlier m 40 (omega arith) (omega arith)
+        go (Ok q) (Ok (Value.Integer z)) a b = sized q (Value.Integer z) z a b
+        go (Ok q) (Ok (Value.Pointer x)) a b = earlier m 40 (omega arith) (omega arith)
 
   -- kind 43
   pub freed-told : (e : Expression T) (m : Memory)
@@ -132,7 +135,7 @@ module _ {T : Type 0} (τ : Holding T) (ρ : Variables) where
       by-offset k (negsuc o) = not_first
 
       go : (r : Evaluated) → evaluate e τ ρ m ≡ r → ChangeStops Freeing (freed m r)
-      go (Evaluated.Stopped c) d = value-stopped m e c d
-      go (Evaluated.Value Value.Undefined) d = wrong-sort
-      go (Evaluated.Value (Value.Integer z)) d = wrong-sort
-      go (Evaluated.Value (Value.Pointer q)) d = by-offset q.name q.offset
+      go (Err c) d = value-stopped m e c d
+      go (Ok Value.Undefined) d = wrong-sort
+      go (Ok (Value.Integer z)) d = wrong-sort
+      go (Ok (Value.Pointer q)) d = by-offset q.name q.offset

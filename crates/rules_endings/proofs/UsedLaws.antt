@@ -24,8 +24,12 @@ use Rattle.rules.proofs.Runs.Operations.{operate-gives, query_memory-gives, test
 use Rattle.rules.proofs.Runs.Operations.{opposite-gives}
 use Rattle.rules_endings.specs.UsedPointers.{astray, in_turn, used_by, used_to, used_by_term, unless_decided}
 use Rattle.rules_endings.specs.UsedPointers.{used_by_predicate, IsDead, IsOutside, ToldApart}
-use Rattle.rules.specs.declared.{Pointer.Pointer, Value.Value, Evaluated.Evaluated, Found.Found, Test.Test}
-use Rattle.rules.specs.declared.{Located.Located, Block.Block, Recorded.Recorded, Cell.Cell, Temporary.Temporary}
+use Rattle.rules.specs.declared.{Pointer.Pointer, Value.Value}
+use Rattle.rules.specs.Types.{Evaluated, Found, Test}
+use Rattle.rules.specs.declared.{Block.Block, Recorded.Recorded, Cell.Cell}
+use Rattle.rules.specs.Types.{Located, Temporary}
+use Rattle.std.specs.Prelude.{Err, None, Ok, Some}
+use Rattle.rules.specs.Types.{Miss}
 
 -- a name was given: its block is not unused
 abbrev pub IsNamed : Memory → ℕ → Type 0
@@ -47,9 +51,9 @@ pub record PointersNamed {T : Type 0} (τ : Holding T) (ρ : Variables) (m : Mem
 
 -- why a pointer leads to no cell
 pub data Whereabouts (m : Memory) (p : Pointer) : Located → Type 0 where
-  at : (i : ℕ) → Whereabouts m p (Located.At i)
-  dead : (IsNamed m p.name → IsDead m p) → Whereabouts m p Located.Dead
-  outside : IsOutside m p → Whereabouts m p Located.Outside
+  at : (i : ℕ) → Whereabouts m p (Ok i)
+  dead : (IsNamed m p.name → IsDead m p) → Whereabouts m p (Err Miss.Dead)
+  outside : IsOutside m p → Whereabouts m p (Err Miss.Outside)
 
 pub whereabouts : (m : Memory) (p : Pointer) → Whereabouts m p (locate m p)
 unfolding locate
@@ -60,7 +64,7 @@ whereabouts m p = go (block_of m p.name) p.offset refl refl
     inner first n (negsuc o) e d = outside (record { first = first; length = n; live = e; outside = rw d tt })
     inner first n (pos o) e d = pick (ltb o n) refl
       where
-        pick : (b : Bool) → ltb o n ≡ b → Whereabouts m p (cond b (Located.At (first + o)) Located.Outside)
+        pick : (b : Bool) → ltb o n ≡ b → Whereabouts m p (cond b (Ok (first + o)) (Err Miss.Outside))
         pick true h = at (first + o)
         pick false h =
             outside (record { first = first; length = n; live = e; outside = rw d (ltb-false o n h) })
@@ -111,9 +115,9 @@ module _ {T : Type 0} (τ : Holding T) (ρ : Variables) (m : Memory) where
       → ((p : Pointer) (z : ℤ) → G (Value.Pointer p) → G (Value.Pointer (record { name = p.name; offset = z })))
       → (o : Operator) (a b : Evaluated) (u v : Option Pointer) → Gives G (Tells u) a → Gives G (Tells v) b
       → Gives G (Tells (in_turn a u v)) (operated (live_block m) o a b)
-  operated-told G integers moves o (Evaluated.Stopped c) b u v h g = h
-  operated-told G integers moves o (Evaluated.Value x) (Evaluated.Stopped c) u v h g = g
-  operated-told G integers moves o (Evaluated.Value x) (Evaluated.Value y) u v h g =
+  operated-told G integers moves o (Err c) b u v h g = h
+  operated-told G integers moves o (Ok x) (Err c) u v h g = g
+  operated-told G integers moves o (Ok x) (Ok y) u v h g =
       operate-gives G (Tells v) (λ z e. integers z) (λ p z k e. moves p z k) (operations v) (live_block m) o x y h
 
   defined-told : (u : Option Pointer) (c : Cell) → (PointersNamed τ ρ m → CellHas (NamedValue m) c)
@@ -127,39 +131,39 @@ module _ {T : Type 0} (τ : Holding T) (ρ : Variables) (m : Memory) where
   read_told p h = go (locate m p) (whereabouts m p)
     where
       go : (l : Located) → Whereabouts m p l
-          → Told (at_cell (λ i. none) (λ c. some p) l) (at_cell (λ i. defined (cell_of m i)) Evaluated.Stopped l)
+          → Told (at_cell (λ i. none) (λ c. some p) l) (at_cell (λ i. defined (cell_of m i)) Err l)
       go _ (at i) = defined-told none (cell_of m i) (λ n. n.cells i)
       go _ (dead d) = λ n. used-dead m p (d (h n))
       go _ (outside d) = λ n. used-outside m p d
 
   reading-told : (f : Found) (u : Option Pointer) → FoundTold u f
-      → Told (on_place f (λ c. u) (astray m)) (on_place f Evaluated.Stopped (read_cell m))
-  reading-told (Found.Stopped c) u h = h
-  reading-told (Found.Place p) u h = read_told p h
+      → Told (on_place f (λ c. u) (astray m)) (on_place f Err (read_cell m))
+  reading-told (Err c) u h = h
+  reading-told (Ok p) u h = read_told p h
 
   pub address-told : (f : Found) (u : Option Pointer) → FoundTold u f → Told u (address_of f)
-  address-told (Found.Stopped c) u h = h
-  address-told (Found.Place p) u h = h
+  address-told (Err c) u h = h
+  address-told (Ok p) u h = h
 
   pointed-told : (e : Evaluated) (u : Option Pointer) → Told u e → FoundTold u (pointed_by e)
   pointed-told e u h =
-      on_value_lem (FoundTold u) (Tells u) Found.Stopped (λ c x. x) e _ h (λ v k.
-      on-pointer (FoundTold u) (Tells u) Found.Stopped (λ c x. x) Named v Found.Place (operations u 40 refl) k
+      on_value_lem (FoundTold u) (Tells u) Err (λ c x. x) e _ h (λ v k.
+      on-pointer (FoundTold u) (Tells u) Err (λ c x. x) Named v Ok (operations u 40 refl) k
       (λ p l. l))
 
   -- "49 empty temporary"
   held-told : (G : Value → Type 0) (u : Option Pointer) (t : Temporary) → TemporaryHas G t
       → Gives G (Tells u) (held t)
-  held-told G u Temporary.Empty h = λ n. other m u 49 (omega arith) (omega arith)
-  held-told G u (Temporary.Holds v) h = h
+  held-told G u None h = λ n. other m u 49 (omega arith) (omega arith)
+  held-told G u (Some v) h = h
 
   temporary-named : (t : Temporary) → (PointersNamed τ ρ m → TemporaryHas (NamedValue m) t) → TemporaryHas Named t
-  temporary-named Temporary.Empty h = tt
-  temporary-named (Temporary.Holds v) h = h
+  temporary-named None h = tt
+  temporary-named (Some v) h = h
 
   pub any_held : (u : Option Pointer) (t : Temporary) → Gives AnyValue (Tells u) (held t)
-  any_held u Temporary.Empty = held-told AnyValue u Temporary.Empty tt
-  any_held u (Temporary.Holds v) = tt
+  any_held u None = held-told AnyValue u None tt
+  any_held u (Some v) = tt
 
   mutual
     unfolding evaluate used_by
@@ -182,8 +186,8 @@ module _ {T : Type 0} (τ : Holding T) (ρ : Variables) (m : Memory) where
         pointed-told (held (τ t)) none (held-told Named none (τ t) (temporary-named (τ t) (λ n. n.temporaries t)))
 
   pub any_value : (u : Option Pointer) (e : Evaluated) → Told u e → Gives AnyValue (Tells u) e
-  any_value u (Evaluated.Value v) h = tt
-  any_value u (Evaluated.Stopped c) h = h
+  any_value u (Ok v) h = tt
+  any_value u (Err c) h = h
 
   pub condition-told : (u : Option Pointer) (e : Evaluated) → Gives AnyValue (Tells u) e
       → TestStops (Tells u) (condition e)
@@ -203,9 +207,9 @@ module _ (ρ : Variables) (m : Memory) where
   Asserted u e = Gives AnyValue (SourceTells u) e
 
   asked-told : (q : Query) (e : Evaluated) (u : Option Pointer) → Asserted u e
-      → Asserted u (on_value e Evaluated.Stopped (query_memory q m))
+      → Asserted u (on_value e Err (query_memory q m))
   asked-told q e u h =
-      on_value_lem (Asserted u) (SourceTells u) Evaluated.Stopped (λ c x. x) e _ h (λ v k.
+      on_value_lem (Asserted u) (SourceTells u) Err (λ c x. x) e _ h (λ v k.
       query_memory-gives AnyValue (SourceTells u) (λ z. tt) (λ p. tt) (operations no_temporaries ρ m u) q m v)
 
   term_told : (t : Term) → Asserted (used_by_term t ρ m) (evaluate_term t ρ m)
@@ -222,17 +226,17 @@ module _ (ρ : Variables) (m : Memory) where
   decided-told : (a : Evaluated) (x y : Value → Evaluated) (u v w : Option Pointer) → Asserted u a
       → ((z : Value) → Asserted v (x z)) → ((z : Value) → Asserted w (y z))
       → Asserted (unless_decided a u v w)
-      (on_value a Evaluated.Stopped (λ z. on_test (tested z) Evaluated.Stopped (x z) (y z)))
-  decided-told (Evaluated.Stopped c) x y u v w h g k = h
-  decided-told (Evaluated.Value z) x y u v w h g k =
+      (on_value a Err (λ z. on_test (tested z) Err (x z) (y z)))
+  decided-told (Err c) x y u v w h g k = h
+  decided-told (Ok z) x y u v w h g k =
       go (tested z)
       (tested-stops AnyValue (SourceTells none) (λ z k. tt) (λ p z k l. tt) (operations no_temporaries ρ m none) z)
     where
       go : (t : Test) → TestStops (SourceTells none) t
-          → Asserted (on_test t (λ c. none) v w) (on_test t Evaluated.Stopped (x z) (y z))
-      go Test.Yes s = g z
-      go Test.No s = k z
-      go (Test.Stopped c) s = s
+          → Asserted (on_test t (λ c. none) v w) (on_test t Err (x z) (y z))
+      go (Ok true) s = g z
+      go (Ok false) s = k z
+      go (Err c) s = s
 
   pub predicate-told : (p : Predicate) → Asserted (used_by_predicate p ρ m) (evaluate_predicate p ρ m)
   unfolding evaluate_predicate
@@ -242,12 +246,12 @@ module _ (ρ : Variables) (m : Memory) where
       (used_by_term a ρ m) (used_by_term b ρ m) (term_told a) (term_told b)
   predicate-told (negated a) =
       let u = used_by_predicate a ρ m in
-      on_value_lem (Asserted u) (SourceTells u) Evaluated.Stopped (λ c x. x) (evaluate_predicate a ρ m) opposite
+      on_value_lem (Asserted u) (SourceTells u) Err (λ c x. x) (evaluate_predicate a ρ m) opposite
       (predicate-told a) (λ v k.
       opposite-gives AnyValue (SourceTells u) (λ z l. tt) (λ p z l n. tt) (operations no_temporaries ρ m u) v)
   predicate-told (both a b) =
-      decided-told (evaluate_predicate a ρ m) (λ z. evaluate_predicate b ρ m) Evaluated.Value (used_by_predicate a ρ m)
+      decided-told (evaluate_predicate a ρ m) (λ z. evaluate_predicate b ρ m) Ok (used_by_predicate a ρ m)
       (used_by_predicate b ρ m) none (predicate-told a) (λ z. predicate-told b) (λ z. tt)
   predicate-told (either a b) =
-      decided-told (evaluate_predicate a ρ m) Evaluated.Value (λ z. evaluate_predicate b ρ m) (used_by_predicate a ρ m)
+      decided-told (evaluate_predicate a ρ m) Ok (λ z. evaluate_predicate b ρ m) (used_by_predicate a ρ m)
       none (used_by_predicate b ρ m) (predicate-told a) (λ z. tt) (λ z. predicate-told b)

@@ -12,7 +12,8 @@ use Rattle.rules.specs.Memory.{Memory, recorded_of, block_of, locate, at_cell, o
 use Rattle.rules.specs.Evaluation.{Variables, Holding, no_temporaries, evaluate, find_place, evaluate_term}
 use Rattle.rules.specs.Evaluation.{evaluate_predicate, on_test}
 use Rattle.rules.specs.Watched.{WatchedState, temporary_of}
-use Rattle.rules.specs.declared.{Pointer.Pointer, Evaluated.Evaluated, Block.Block, Recorded.Recorded}
+use Rattle.rules.specs.declared.{Pointer.Pointer, Block.Block, Recorded.Recorded}
+use Rattle.rules.specs.Types.{Evaluated}
 
 -- a read or a store with a pointer, where it leads to no cell
 abbrev pub astray : Memory → Pointer → Option Pointer

@@ -13,7 +13,6 @@ use Rattle.rules.specs.Checker.{check}
 use Rattle.rules.specs.Nodes.{operator_of, SourceNode, node_sort, as_term, as_predicate, source_statement, node_at}
 use Rattle.rules.specs.Nodes.{source_program}
 use Rattle.rules.specs.Emission.{operator_number}
-use Rattle.rules.specs.declared.Checked.{Checked}
 use Rattle.rules.proofs.Acceptance.Acceptance.{accepted-says}
 use Rattle.rules.proofs.Acceptance.AcceptedTrees.{accepted-last}
 use Rattle.rules.proofs.Acceptance.KindViews.{form_at, found_at, and_split, SourceKind, literal, read, address}
@@ -27,6 +26,7 @@ use Rattle.rules.proofs.Acceptance.FormLaws.{FieldHolds, FormHolds, node_as}
 use Rattle.rules.proofs.Acceptance.Standing.{stands}
 use Rattle.rules.proofs.Acceptance.Readiness.{node-as}
 use Rattle.rules_rewriting.proofs.Writable.{WritableTerm, WritablePredicate, Writable}
+use Rattle.std.specs.Prelude.{Ok}
 
 -- a mark that names an operator of a term, or one of a predicate
 term-operator : (m : ℕ) → (between 1 5 m || eqb m 8) ≡ true
@@ -116,7 +116,7 @@ writable-below t (suc m) s n d e =
     (writable-arm t n (λ r x c. writable-below t m r x (omega arith)) w.kind
     (subst (FormHolds source t n) (found_at source (kind_of t n) w.form w.found) w.holds))
 
-pub accepted-writable : (t : List ℕ) → check source t ≡ Checked.Accepted → Writable (source_program t)
+pub accepted-writable : (t : List ℕ) → check source t ≡ (Ok tt) → Writable (source_program t)
 accepted-writable t h =
     writable-below t (suc (record_count t)) statement (record_count t) (omega arith)
     (accepted-last source t (accepted-says source t h))

@@ -17,7 +17,9 @@ use Rattle.rules.specs.Relabelling.{relabel, relabel_target, relabel_outcome}
 use Rattle.rules.proofs.Runs.TargetRuns.{assigning, allocating, freeing, operating, querying, negating, storing}
 use Rattle.rules.proofs.Runs.TargetRuns.{deleting, initialising, making, closing}
 use Rattle.rules_rewriting.proofs.Relabelled.{relabel-translate, numbered-only}
-use Rattle.rules.specs.declared.Test.{Test}
+use Rattle.rules.specs.Types.{Test}
+use Rattle.std.specs.Prelude.{Err, Ok}
+use Rattle.std.specs.Prelude.{true, false}
 
 module _ {S : Type 0} (g : ℕ → ℕ) where
   -- how two parts of a run come out, one the other relabelled
@@ -47,9 +49,9 @@ module _ {S : Type 0} (g : ℕ → ℕ) where
   decide-relabelled : (s : ℕ) (ρ : Variables) (t : Test) (x : S) (f : ℕ) (a b c d : Outcome S)
       → a ≡ relabel_outcome g c → b ≡ relabel_outcome g d
       → decide (g s) ρ t x f a b ≡ relabel_outcome g (decide s ρ t x f c d)
-  decide-relabelled s ρ Test.Yes x f a b c d p q = p
-  decide-relabelled s ρ Test.No x f a b c d p q = q
-  decide-relabelled s ρ (Test.Stopped k) x f a b c d p q = refl
+  decide-relabelled s ρ (Ok true) x f a b c d p q = p
+  decide-relabelled s ρ (Ok false) x f a b c d p q = q
+  decide-relabelled s ρ (Err k) x f a b c d p q = refl
 
   turns-relabelled : (n s : ℕ) (ρ : Variables) (holds : S → Test) (x u : S → ℕ → Outcome S) → Same x u
       → Same (turns n (g s) ρ holds x) (turns n s ρ holds u)

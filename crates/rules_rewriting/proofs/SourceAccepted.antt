@@ -14,7 +14,6 @@ use Rattle.rules.specs.Trees.{assign, new, free, sequence, branch, while, let_in
 use Rattle.rules.specs.Emission.{expression_tree, tree_size, emit}
 use Rattle.rules.specs.Translation.{embed}
 use Rattle.rules.specs.SourceRecords.{source_expression, source_place, term_tree, predicate_tree, source_tree}
-use Rattle.rules.specs.declared.Checked.{Checked}
 use Rattle.rules.proofs.Acceptance.Sound.{Scope, start_scope, adding, SoundTerm, SoundPredicate, SoundStatement}
 use Rattle.rules.proofs.Translation.FittingTrees.{Fitting}
 use Rattle.rules.proofs.Translation.EmittedBytes.{emitted, emitted-count}
@@ -23,6 +22,7 @@ use Rattle.rules_rewriting.proofs.LevelsKept.{Levels, levels-kept}
 use Rattle.rules.proofs.Translation.TargetAccepted.{tree-keeps}
 use Rattle.rules_rewriting.proofs.Writable.{WritableTerm, WritablePredicate, Writable}
 use Rattle.rules_rewriting.proofs.SourceFitting.{statement-sort, statement-fits}
+use Rattle.std.specs.Prelude.{Ok}
 
 -- what is no term or predicate names nothing
 no-level : {A : Type 0} → false ≡ true → A
@@ -95,7 +95,7 @@ statement-levels (let_in s x b) ρ (d, hx, out, hb) w =
 statement-levels (assert s p) ρ (d, hp) w = (no-level, predicate-levels p ρ 0 hp w, tt, tt)
 
 pub source-accepted : (a : Statement) → SoundStatement a start_scope → Writable a → tree_size (source_tree a) ≤ 256
-    → check source (table_bytes (emit (source_tree a) 0)) ≡ Checked.Accepted
+    → check source (table_bytes (emit (source_tree a) 0)) ≡ (Ok tt)
 source-accepted a h w s =
     let t : List ℕ = table_bytes (emit (source_tree a) 0) in
     let fitting : Fitting source (source_tree a) start_scope = statement-fits a start_scope h w in

@@ -4,11 +4,13 @@ use mathlib.Core.List.{List}
 use mathlib.Core.Path.{◌≡◌, refl, ◌∙◌}
 use Rattle.rules.specs.Memory.{Memory, Change, changed, stopped, store_cell, assigned}
 use Rattle.rules.specs.Layout.{memory_of}
-use Rattle.rules.specs.declared.{Pointer.Pointer, Value.Value, Evaluated.Evaluated, Found.Found}
+use Rattle.rules.specs.declared.{Pointer.Pointer, Value.Value}
+use Rattle.rules.specs.Types.{Evaluated, Found}
 use Rattle.rules.proofs.Memory.Invariant.{changed_memory}
 use Rattle.memory_counts.specs.Counted.{Counted}
 use Rattle.memory_counts.proofs.CountLaws.{counted_is, counted-store}
 use Rattle.memory_cells.specs.Changes.{Becomes, change_memory}
+use Rattle.std.specs.Prelude.{Err, Ok}
 
 changed-is : (x : Change Memory) → change_memory x ≡ changed_memory x
 changed-is (changed m) = refl
@@ -22,6 +24,6 @@ module _ {a b : List ℕ} {c : List ℕ} (h : Counted (memory_of a) c) where
 
   pub counted-assigned : (f : Found) (e : Evaluated) → Becomes a b (change_memory (assigned (memory_of a) f e))
       → Counted (memory_of b) c
-  counted-assigned (Found.Place p) (Evaluated.Value v) w = counted-stored p v w
-  counted-assigned (Found.Place p) (Evaluated.Stopped k) w = counted_is w.view refl h
-  counted-assigned (Found.Stopped k) e w = counted_is w.view refl h
+  counted-assigned (Ok p) (Ok v) w = counted-stored p v w
+  counted-assigned (Ok p) (Err k) w = counted_is w.view refl h
+  counted-assigned (Err k) e w = counted_is w.view refl h

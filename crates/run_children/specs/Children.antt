@@ -6,7 +6,7 @@ use Rattle.rules.specs.Nodes.{as_expression, as_place, node_at}
 use Rattle.rules.specs.Evaluation.{evaluate, find_place}
 use Rattle.rules.specs.Watched.{temporary_of}
 use Rattle.rules.specs.Layout.{memory_of}
-use Rattle.rules.specs.declared.{Evaluated.Evaluated, Found.Found}
+use Rattle.rules.specs.Types.{Evaluated, Found}
 use Rattle.evaluation.specs.State.{variables_of}
 use Rattle.evaluation_temporaries.specs.Bytes.{temporaries_of}
 

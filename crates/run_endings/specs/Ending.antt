@@ -1,7 +1,9 @@
 -- How a statement comes out.
 use Rattle.std.specs.Prelude.{ℕ, zero, suc, ◌-◌, cond, List, [], ◌∷◌, eqb, get_or}
-use Rattle.rules.specs.declared.{Test.Test}
+use Rattle.rules.specs.Types.{Test}
 use Rattle.run_endings.specs.declared.Ended.{Ended}
+use Rattle.std.specs.Prelude.{Err, Ok}
+use Rattle.std.specs.Prelude.{true, false}
 
 -- the number of an ending, its statement, and the fuel left; 0 and 0 where it finished
 abbrev pub result : ℕ → ℕ → ℕ → Ended
@@ -34,6 +36,6 @@ abbrev pub ended_with : ℕ → List ℕ → Ended
 ended_with k p = concluded k (statement_in p) (fuel_in p)
 
 abbrev pub assert_number : Test → ℕ
-assert_number Test.Yes = 0
-assert_number Test.No = 33
-assert_number (Test.Stopped c) = c
+assert_number (Ok true) = 0
+assert_number (Ok false) = 33
+assert_number (Err c) = c

@@ -12,7 +12,6 @@ use Rattle.rules.specs.Sizes.{target_limit}
 use Rattle.rules.specs.Records.{record_count, table_bytes}
 use Rattle.rules.specs.Kinds.{source, statement}
 use Rattle.rules.specs.Checker.{refuse_if, check}
-use Rattle.rules.specs.declared.{Checked.Checked}
 use Rattle.rules.specs.Nodes.{node_at, source_program}
 use Rattle.rules.specs.Trees.{Term, value, asked, combined, Statement}
 use Rattle.rules.specs.Trees.{Predicate, holds, compared, negated, both, either}
@@ -31,6 +30,7 @@ use Rattle.translation_statements.specs.Statements.{StatementLevels, StatementAt
 use Rattle.translation_emission.proofs.Emitting.{bytes-emit}
 use Rattle.rules.proofs.Translation.RecordSizes.{tree-as}
 use Rattle.translation.proofs.Compounds.{statement-as}
+use Rattle.std.specs.Prelude.{Ok}
 
 term-levels : (x : Term) (ρ : Scope) (v : ℕ) → SoundTerm x ρ v → TermLevels x v
 term-levels (value e) ρ v h = h.0
@@ -59,7 +59,7 @@ statement-levels (tree.assert s p) ρ h = (h.0.1, predicate-levels p ρ 0 h.1)
 abbrev into : List ℕ → List ℕ → Bool → Translated
 into bytes o b = translated_as (refuse_if 20 b) bytes o
 
-module _ (t : List ℕ) (a : check source t ≡ Checked.Accepted) where
+module _ (t : List ℕ) (a : check source t ≡ (Ok tt)) where
   program : AcceptedProgram source t
   program = accepted-program source t a
 
@@ -87,17 +87,17 @@ module _ (t : List ℕ) (a : check source t ≡ Checked.Accepted) where
   translation-length = ap length accepted-bytes ∙ bytes-emit (copy_at t (record_count t)) 0
 
   pub too_short : (o : List ℕ) → length o < 16 * tree_size (copy_at t (record_count t))
-      → (answer 20 0 0 0 ≡ (translated_by Checked.Accepted t o).answer) × (o ≡ (translated_by Checked.Accepted t o).out)
+      → (answer 20 0 0 0 ≡ (translated_by (Ok tt) t o).answer) × (o ≡ (translated_by (Ok tt) t o).out)
   too_short o h =
       let l = translation-length in
       let e : ltb (length o) (length (translation t)) ≡ true = lt-ltb (length o) (length (translation t))
       (omega arith) in
-      let f : into (translation t) o true ≡ translated_by Checked.Accepted t o = ap (into (translation t) o) (sym e) in
+      let f : into (translation t) o true ≡ translated_by (Ok tt) t o = ap (into (translation t) o) (sym e) in
       (ap (λ (x : Translated). x.answer) f, ap (λ (x : Translated). x.out) f)
 
   pub long-enough : (o o' : List ℕ) (r : ℕ) → 16 * tree_size (copy_at t (record_count t)) ≤ length o
       → Emitted o 0 (copy_at t (record_count t)) o' r
-      → (answer 0 r 0 0 ≡ (translated_by Checked.Accepted t o).answer) × (o' ≡ (translated_by Checked.Accepted t o).out)
+      → (answer 0 r 0 0 ≡ (translated_by (Ok tt) t o).answer) × (o' ≡ (translated_by (Ok tt) t o).out)
   long-enough o o' r h w =
       let l = translation-length in
       let c = w.count in
@@ -105,7 +105,7 @@ module _ (t : List ℕ) (a : check source t ≡ Checked.Accepted) where
       (omega arith) in
       let k : r ≡ length (translation t) / 16 = omega arith in
       let f : into (translation t) o false
-      ≡ translated_by Checked.Accepted t o = ap (into (translation t) o) (sym e) in (
+      ≡ translated_by (Ok tt) t o = ap (into (translation t) o) (sym e) in (
         ap (λ (j : ℕ). answer 0 j 0 0) k ∙ ap (λ (x : Translated). x.answer) f,
         w.bytes ∙ ap (put o 0) (sym accepted-bytes) ∙ ap (λ (x : Translated). x.out) f,
       )

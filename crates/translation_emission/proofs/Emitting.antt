@@ -16,6 +16,7 @@ use Rattle.rules.proofs.Translation.RecordBytes.{length-record, table-length}
 use Rattle.rules.proofs.Translation.EmissionLaws.{length-emit, own_record}
 use Rattle.translation_emission.specs.Emission.{record_of, with_record, Room, Emitted}
 use Rattle.translation_emission.proofs.Puts.{put_then, put-none}
+use Rattle.std.specs.Prelude.{Some}
 
 table-append : (rs ss : List Record) → table_bytes (rs ++ ss) ≡ table_bytes rs ++ table_bytes ss
 unfolding flat

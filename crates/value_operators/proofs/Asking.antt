@@ -7,15 +7,17 @@ use mathlib.Core.Path.{◌≡◌, refl, sym, ap, ◌∙◌}
 use borrow.Author.Tests.{ne_eqb}
 use Rattle.rules.specs.Nodes.{operator_of}
 use Rattle.rules.specs.Numbers.{Liveness, on_pointers, operate}
-use Rattle.rules.specs.declared.{Value.Value, Evaluated.Evaluated}
+use Rattle.rules.specs.declared.{Value.Value}
+use Rattle.rules.specs.Types.{Evaluated}
 use Rattle.value_operators.specs.declared.Compared.{Compared}
 use Rattle.value_operators.specs.declared.Compared.TheVariants as compared
 use Rattle.value_operators.specs.Blocks.{blocks_of, compared_by, are_live, every_live}
 use Rattle.value_operators.proofs.Operators.{other-pointers}
+use Rattle.std.specs.Prelude.{Err}
 
 equality-asks : (live : Liveness) (x y : Value)
     → operate live (operator_of 7) x y
-    ≡ cond (are_live live (blocks_of x y)) (operate every_live (operator_of 7) x y) (Evaluated.Stopped 47)
+    ≡ cond (are_live live (blocks_of x y)) (operate every_live (operator_of 7) x y) (Err 47)
 unfolding operate on_pointers
 equality-asks live Value.Undefined y = refl
 equality-asks live (Value.Integer x) Value.Undefined = refl
@@ -39,12 +41,12 @@ others-ask-nothing live k (Value.Pointer p) (Value.Pointer q) h =
 
 pub asks-first : (live : Liveness) (k : ℕ) (x y : Value)
     → operate live (operator_of k) x y
-    ≡ cond (are_live live (compared_by k x y)) (operate every_live (operator_of k) x y) (Evaluated.Stopped 47)
+    ≡ cond (are_live live (compared_by k x y)) (operate every_live (operator_of k) x y) (Err 47)
 asks-first live k x y = go (ℕ_discrete k 7)
   where
     go : Dec (k ≡ 7)
         → operate live (operator_of k) x y
-        ≡ cond (are_live live (compared_by k x y)) (operate every_live (operator_of k) x y) (Evaluated.Stopped 47)
+        ≡ cond (are_live live (compared_by k x y)) (operate every_live (operator_of k) x y) (Err 47)
     go (yes e) = rw e (equality-asks live x y)
     go (no h) = rw (ne_eqb k 7 h) (others-ask-nothing live k x y h)
 
@@ -59,15 +61,15 @@ module _ (live : Liveness) {c : Compared} (x y : ℕ) (e : c ≡ compared.Blocks
 -- by what the blocks that were found say
 module _ (live : Liveness) (k : ℕ) (x y : Value) {c : Compared} {b : Bool} (e : c ≡ compared_by k x y)
     (g : b ≡ are_live live c) where
-  asked : operate live (operator_of k) x y ≡ cond b (operate every_live (operator_of k) x y) (Evaluated.Stopped 47)
+  asked : operate live (operator_of k) x y ≡ cond b (operate every_live (operator_of k) x y) (Err 47)
   asked =
       asks-first live k x y
-      ∙ ap (λ (b : Bool). cond b (operate every_live (operator_of k) x y) (Evaluated.Stopped 47))
+      ∙ ap (λ (b : Bool). cond b (operate every_live (operator_of k) x y) (Err 47))
       (sym (g ∙ ap (are_live live) e))
 
   pub gives-where-live : {r : Evaluated} → b ≡ true → r ≡ operate every_live (operator_of k) x y
       → r ≡ operate live (operator_of k) x y
   gives-where-live h f = f ∙ sym (rw h at asked)
 
-  pub stops-where-dead : b ≡ false → Evaluated.Stopped 47 ≡ operate live (operator_of k) x y
+  pub stops-where-dead : b ≡ false → Err 47 ≡ operate live (operator_of k) x y
   stops-where-dead h = sym (rw h at asked)

@@ -6,10 +6,11 @@ use mathlib.Core.Path.{◌≡◌, refl}
 use lib.IntN.{ℤ, ◌+ℤ◌}
 use Rattle.rules.specs.Nodes.{operator_of}
 use Rattle.rules.specs.Numbers.{ranged, on_integers, moved, on_pointer_and_integer, on_pointers, Liveness}
-use Rattle.rules.specs.declared.{Pointer.Pointer, Evaluated.Evaluated}
+use Rattle.rules.specs.declared.{Pointer.Pointer}
+use Rattle.std.specs.Prelude.{Err}
 
 pub other-integers : (k : ℕ) (x y : ℤ) → k ≢ 1 → k ≢ 2 → k ≢ 3 → k ≢ 4 → k ≢ 5 → k ≢ 6 → k ≢ 7
-    → on_integers (operator_of k) x y ≡ Evaluated.Stopped 40
+    → on_integers (operator_of k) x y ≡ Err 40
 unfolding on_integers
 other-integers zero x y a b c d e f g = refl
 other-integers (suc zero) x y a b c d e f g = absurd (a refl)
@@ -22,7 +23,7 @@ other-integers (suc (suc (suc (suc (suc (suc (suc zero))))))) x y a b c d e f g 
 other-integers (suc (suc (suc (suc (suc (suc (suc (suc k)))))))) x y a b c d e f g = refl
 
 pub other-pointers : (live : Liveness) (k : ℕ) (p q : Pointer) → k ≢ 7
-    → on_pointers live (operator_of k) p q ≡ Evaluated.Stopped 40
+    → on_pointers live (operator_of k) p q ≡ Err 40
 unfolding on_pointers
 other-pointers live zero p q h = refl
 other-pointers live (suc zero) p q h = refl
@@ -36,7 +37,7 @@ other-pointers live (suc (suc (suc (suc (suc (suc (suc (suc k)))))))) p q h = re
 
 -- 0 and what is above 7 shift
 pub no_shift : (k : ℕ) (p : Pointer) (y : ℤ) → k ≢ 0 → k < 8
-    → on_pointer_and_integer (operator_of k) p y ≡ Evaluated.Stopped 40
+    → on_pointer_and_integer (operator_of k) p y ≡ Err 40
 unfolding on_pointer_and_integer
 no_shift zero p y a b = absurd (a refl)
 no_shift (suc zero) p y a b = refl

@@ -24,7 +24,8 @@ use Rattle.rules.specs.Watched.{Temporaries, start_temporaries, WatchedState, wa
 use Rattle.rules.specs.Layout.{cell_from, memory_of, memory_image, observation_of, observation_image}
 use Rattle.rules.specs.Answers.{answer, inputs_of, watched_outcome, watched_ended}
 use Rattle.rules.specs.Answers.{watched_refused, watched_as, watched_by, WatchedRun}
-use Rattle.rules.specs.declared.{Temporary.Temporary, Checked.Checked, Answer.Answer}
+use Rattle.rules.specs.declared.{Answer.Answer}
+use Rattle.rules.specs.Types.{Checked}
 use Rattle.rules.proofs.Lists.Rows.{tabulate-all, get_d-zero}
 use Rattle.rules.proofs.Acceptance.Sound.{start_scope}
 use Rattle.rules.proofs.Acceptance.AcceptedPrograms.{accepted-program, padded-program}
@@ -38,13 +39,14 @@ use Rattle.evaluation_temporaries.specs.Bytes.{temporary_in, temporary_place, te
 use Rattle.evaluation_temporaries.specs.Bytes.{temporaries_of}
 use Rattle.run_endings.specs.declared.Ended.{Ended}
 use Rattle.watched_statements.specs.Watching.{lent, Ready, Ran, LeavesSo, Leaves, watch_from, AnsweredBy}
+use Rattle.std.specs.Prelude.{None, Ok}
 
 -- ---- the start
 pub temporaries-start : temporaries_of (replicate temporaries_length 0) ≡ start_temporaries
 unfolding temporaries_of temporary_at
-temporaries-start = tabulate-all temporary_count 0 (temporary_at (replicate temporaries_length 0)) Temporary.Empty empty
+temporaries-start = tabulate-all temporary_count 0 (temporary_at (replicate temporaries_length 0)) None empty
   where
-    empty : (n : ℕ) → temporary_at (replicate temporaries_length 0) n ≡ Temporary.Empty
+    empty : (n : ℕ) → temporary_at (replicate temporaries_length 0) n ≡ None
     empty n =
         ap (λ (k : ℕ). temporary_in (cell_from k 0 (word_at 2 (replicate temporaries_length 0) (temporary_place n + 4))
         (integer_at (replicate temporaries_length 0) (temporary_place n + 8))))
@@ -64,7 +66,7 @@ leaves-start s f r l l₁ o o₁ τ₁ w =
     (watch s start_variables (watching (memory_of l) (observation_of o) τ) f) r l l₁ o o₁)
     temporaries-start (record { answer = w.answer; memory = w.memory; observation = w.observation })
 
-module _ (t l : List ℕ) (h : check target t ≡ Checked.Accepted) where
+module _ (t l : List ℕ) (h : check target t ≡ (Ok tt)) where
   pub table-length : length t ≤ target_limit * 16
   table-length = let a = accepted-program target t h in omega (arith, a.whole, a.not-too-many)
 
@@ -117,7 +119,7 @@ module _ (i : List ℕ) (e : inputs_fault i ≡ false) (l o : List ℕ) (s : l �
       }
 
 -- it has the length of its memory
-pub exit-lengths : (t i : List ℕ) (f : ℕ) (r : Answer) (l o : List ℕ) → check target t ≡ Checked.Accepted
+pub exit-lengths : (t i : List ℕ) (f : ℕ) (r : Answer) (l o : List ℕ) → check target t ≡ (Ok tt)
     → inputs_fault i ≡ false → AnsweredBy (watched_ended (ending (watched_outcome t i f))) r l o
     → (length l ≡ memory_length) × (length o ≡ observation_length)
 exit-lengths t i f r l o h e w =
@@ -140,34 +142,34 @@ observation-whole o h = eqb-true (length o) observation_length (go (eqb (length 
 
 module _ (t i : List ℕ) (f : ℕ) (m o : List ℕ) where
   by-faults : (b c d : Bool) → inputs_fault i ≡ b → memory_fault m ≡ c → observation_fault o ≡ d
-      → watched_by Checked.Accepted t i f m o
+      → watched_by (Ok tt) t i f m o
       ≡ watched_as (refuse_if 9 b otherwise refuse_if 21 c otherwise refuse_if 22 d) t i f m o
   by-faults b c d p q r =
       λ j. watched_as (refuse_if 9 (p j) otherwise refuse_if 21 (q j) otherwise refuse_if 22 (r j)) t i f m o
 
   -- a refusal writes nothing
-  refused_as : (k : ℕ) (r : Answer) → watched_by Checked.Accepted t i f m o ≡ watched_refused k 0 m o
+  refused_as : (k : ℕ) (r : Answer) → watched_by (Ok tt) t i f m o ≡ watched_refused k 0 m o
       → r ≡ answer k 0 0 0
-      → AnsweredBy (watched_by Checked.Accepted t i f m o) r m o
+      → AnsweredBy (watched_by (Ok tt) t i f m o) r m o
   refused_as k r e w =
       subst (λ (x : WatchedRun). AnsweredBy x r m o) (sym e)
       (record { answer = w; memory = refl; observation = refl })
 
   pub refuse-inputs : (r : Answer) → inputs_fault i ≡ true → r ≡ answer 9 0 0 0
-      → AnsweredBy (watched_by Checked.Accepted t i f m o) r m o
+      → AnsweredBy (watched_by (Ok tt) t i f m o) r m o
   refuse-inputs r p w = refused_as 9 r (by-faults true (memory_fault m) (observation_fault o) p refl refl) w
 
   pub refuse-memory : (r : Answer) → inputs_fault i ≡ false → memory_fault m ≡ true → r ≡ answer 21 0 0 0
-      → AnsweredBy (watched_by Checked.Accepted t i f m o) r m o
+      → AnsweredBy (watched_by (Ok tt) t i f m o) r m o
   refuse-memory r p q w = refused_as 21 r (by-faults false true (observation_fault o) p q refl) w
 
   pub refuse-observation : (r : Answer) → inputs_fault i ≡ false → memory_fault m ≡ false → observation_fault o ≡ true
-      → r ≡ answer 22 0 0 0 → AnsweredBy (watched_by Checked.Accepted t i f m o) r m o
+      → r ≡ answer 22 0 0 0 → AnsweredBy (watched_by (Ok tt) t i f m o) r m o
   refuse-observation r p q x w = refused_as 22 r (by-faults false false true p q x) w
 
   pub run-both : (r : Answer) (m₁ o₁ : List ℕ) → inputs_fault i ≡ false → memory_fault m ≡ false
       → observation_fault o ≡ false → AnsweredBy (watched_ended (ending (watched_outcome t i f))) r m₁ o₁
-      → AnsweredBy (watched_by Checked.Accepted t i f m o) r m₁ o₁
+      → AnsweredBy (watched_by (Ok tt) t i f m o) r m₁ o₁
   run-both r m₁ o₁ p q x h =
       subst (λ (y : WatchedRun). AnsweredBy y r m₁ o₁) (sym (by-faults false false false p q x)) h
 

@@ -10,7 +10,7 @@ use Rattle.rules.specs.Memory.{Memory}
 use Rattle.rules.specs.Evaluation.{Variables, evaluate, condition}
 use Rattle.rules.specs.Watched.{Temporaries, temporary_of, held_in}
 use Rattle.rules.specs.Nodes.{target_expression_at}
-use Rattle.rules.specs.declared.{Test.Test}
+use Rattle.rules.specs.Types.{Test}
 use Rattle.watched_choices.specs.Branches.{IsBranch, choice}
 
 pub not_on : {k : ℕ} → IsBranch k → k ≢ 66 → k ≡ 45

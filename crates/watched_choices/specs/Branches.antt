@@ -5,7 +5,7 @@ use Rattle.rules.specs.Memory.{Memory}
 use Rattle.rules.specs.Evaluation.{Variables, evaluate, condition}
 use Rattle.rules.specs.Watched.{Temporaries, temporary_of, held_in}
 use Rattle.rules.specs.Nodes.{target_expression_at}
-use Rattle.rules.specs.declared.{Test.Test}
+use Rattle.rules.specs.Types.{Test}
 
 -- what decides between B and C: condition A of 45, temporary n of 66
 abbrev pub IsBranch : ℕ → Type 0

@@ -12,7 +12,7 @@ use Rattle.rules.specs.Evaluation.{Variables, condition, extend}
 use Rattle.rules.specs.Watched.{WatchedState, with_memory, value_in, holding, watch}
 use Rattle.rules.specs.Layout.{memory_of}
 use Rattle.rules.specs.Nodes.{target_expression_at, target_statement_at, number_at}
-use Rattle.rules.specs.declared.{Test.Test}
+use Rattle.rules.specs.Types.{Test}
 use Rattle.rules.proofs.Runs.Fuel.{watch-fuel}
 use Rattle.rules.proofs.Runs.Outcomes.{into-ending, next-ending, decide-ending}
 use Rattle.rules.proofs.Runs.TargetRuns.{closing}

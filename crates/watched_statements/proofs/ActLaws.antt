@@ -16,7 +16,7 @@ use Rattle.rules.specs.TargetTrees.{TargetStatement}
 use Rattle.rules.specs.Flow.{Outcome, ending, after}
 use Rattle.rules.specs.Plain.{asserted}
 use Rattle.rules.specs.Watched.{WatchedState, with_memory, taken, observed, watch}
-use Rattle.rules.specs.declared.{Evaluated.Evaluated, Test.Test}
+use Rattle.rules.specs.Types.{Evaluated, Test}
 use Rattle.rules.specs.Answers.{watched_endings}
 use Rattle.rules.specs.Nodes.{HasSort, target_statement_at, number_at}
 use Rattle.rules.proofs.Lists.Among.{Among}
@@ -32,6 +32,8 @@ use Rattle.watched_noting.specs.Calls.{Observes, IsNote, note_of}
 use Rattle.watched_noting.proofs.CallLaws.{note-record, note-delete}
 use Rattle.watched_statements.specs.Watching.{lent, state_of, watch_from, IsAct, Ran}
 use Rattle.watched_statements.proofs.Laws.{observation-same, ran-is, ends_above}
+use Rattle.std.specs.Prelude.{Err, Ok}
+use Rattle.std.specs.Prelude.{true, false}
 
 concluded-stop : (c s f : ℕ) → Among watched_endings c → concluded c s f ≡ result c s f
 concluded-stop c s f h = ap (λ (b : Bool). cond b (result 0 0 f) (result c s f)) (ne_eqb c 0 (ends_above c h))
@@ -61,13 +63,13 @@ module _ (l o τ : List ℕ) (s : ℕ) (ρ : Variables) (f r : ℕ) where
 
   ran-taken : (n : ℕ) (e : Evaluated) (τ₁ : List ℕ) → Ends (taken here n e) → Takes τ τ₁ r n e
       → Ran (after s ρ f (taken here n e)) (concluded r s f) (lent l o τ) (lent l o τ₁)
-  ran-taken n (Evaluated.Value v) τ₁ h w = record {
+  ran-taken n (Ok v) τ₁ h w = record {
     answer = rw w.number refl;
     memory = becomes-same refl;
     observation = observation-same refl;
     temporaries = w.temporaries;
   }
-  ran-taken n (Evaluated.Stopped c) τ₁ h w = record {
+  ran-taken n (Err c) τ₁ h w = record {
     answer = rw w.number (concluded-stop c s f h);
     memory = becomes-same refl;
     observation = observation-same refl;
@@ -91,19 +93,19 @@ module _ (l o τ : List ℕ) (s : ℕ) (ρ : Variables) (f r : ℕ) where
 
   ran-asserted : (t : Test) → Ends (asserted here t) → r ≡ assert_number t
       → Ran (after s ρ f (asserted here t)) (concluded r s f) (lent l o τ) (lent l o τ)
-  ran-asserted Test.Yes h e = record {
+  ran-asserted (Ok true) h e = record {
     answer = rw e refl;
     memory = becomes-same refl;
     observation = observation-same refl;
     temporaries = refl;
   }
-  ran-asserted Test.No h e = record {
+  ran-asserted (Ok false) h e = record {
     answer = rw e refl;
     memory = becomes-same refl;
     observation = observation-same refl;
     temporaries = refl;
   }
-  ran-asserted (Test.Stopped c) h e = record {
+  ran-asserted (Err c) h e = record {
     answer = rw e (concluded-stop c s f h);
     memory = becomes-same refl;
     observation = observation-same refl;

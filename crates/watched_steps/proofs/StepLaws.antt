@@ -12,17 +12,18 @@ use Rattle.rules.specs.Memory.{on_value}
 use Rattle.rules.specs.Evaluation.{operated, opposite}
 use Rattle.rules.specs.Observation.{Observation, live_record, query_observation}
 use Rattle.rules.specs.Watched.{Temporaries, held_in}
-use Rattle.rules.specs.declared.{Evaluated.Evaluated}
+use Rattle.rules.specs.Types.{Evaluated}
 use Rattle.evaluation_temporaries.specs.Bytes.{temporaries_of}
 use Rattle.rules.proofs.Runs.StatementArms.{statement-form}
 use Rattle.rules.proofs.Runs.TargetFields.{operation-fields, query-fields}
 use Rattle.watched_steps.specs.Steps.{Takes, IsTake, taken_of}
+use Rattle.std.specs.Prelude.{Err}
 
 -- ---- a temporary takes a value
 pub takes-is : {l l' : List ℕ} {r n : ℕ} {x y : Evaluated} → x ≡ y → Takes l l' r n y → Takes l l' r n x
 takes-is {l} {l'} {r} {n} e h = subst (λ (z : Evaluated). Takes l l' r n z) (sym e) h
 
-pub takes-stop : (l : List ℕ) (k n : ℕ) {x : Evaluated} → x ≡ Evaluated.Stopped k → Takes l l k n x
+pub takes-stop : (l : List ℕ) (k n : ℕ) {x : Evaluated} → x ≡ Err k → Takes l l k n x
 takes-stop l k n e = takes-is e (record { number = refl; temporaries = refl })
 
 -- ---- a query that no other number names is the length
@@ -46,10 +47,10 @@ module _ (c : ℕ) (τ : Temporaries) (n : ℕ) (o : Observation) {k : ℕ} wher
   take-operation-is e = ap (λ (j : ℕ). taken_of j c τ n o) e
 
   pub take-query-is : k ≡ 64
-      → taken_of k c τ n o ≡ on_value (held_in τ (suc n)) Evaluated.Stopped (query_observation (query_of c) o)
+      → taken_of k c τ n o ≡ on_value (held_in τ (suc n)) Err (query_observation (query_of c) o)
   take-query-is e = ap (λ (j : ℕ). taken_of j c τ n o) e
 
-  pub take-not-is : k ≡ 65 → taken_of k c τ n o ≡ on_value (held_in τ (suc n)) Evaluated.Stopped opposite
+  pub take-not-is : k ≡ 65 → taken_of k c τ n o ≡ on_value (held_in τ (suc n)) Err opposite
   take-not-is e = ap (λ (j : ℕ). taken_of j c τ n o) e
 
 -- the same, n and c being what was read of the record
@@ -61,12 +62,12 @@ module _ {l l' : List ℕ} {r m n : ℕ} (o : Observation) (e : m ≡ n) where
   takes-operation {k} {x} {c} q d h = takes-is (take-operation-is c (temporaries_of l) n o q) (rw (e, d) at h)
 
   pub takes-query : {k x c : ℕ} → k ≡ 64 → x ≡ c
-      → Takes l l' r m (on_value (held_in (temporaries_of l) (suc m)) Evaluated.Stopped (query_observation (query_of x) o))
+      → Takes l l' r m (on_value (held_in (temporaries_of l) (suc m)) Err (query_observation (query_of x) o))
       → Takes l l' r n (taken_of k c (temporaries_of l) n o)
   takes-query {k} {x} {c} q d h = takes-is (take-query-is c (temporaries_of l) n o q) (rw (e, d) at h)
 
   pub takes-not : {k : ℕ} (c : ℕ) → k ≡ 65
-      → Takes l l' r m (on_value (held_in (temporaries_of l) (suc m)) Evaluated.Stopped opposite)
+      → Takes l l' r m (on_value (held_in (temporaries_of l) (suc m)) Err opposite)
       → Takes l l' r n (taken_of k c (temporaries_of l) n o)
   takes-not c q h = takes-is (take-not-is c (temporaries_of l) n o q) (rw e at h)
 

@@ -5,17 +5,18 @@ use Rattle.rules.specs.Memory.{on_value}
 use Rattle.rules.specs.Evaluation.{operated, opposite}
 use Rattle.rules.specs.Observation.{Observation, live_record, query_observation}
 use Rattle.rules.specs.Watched.{Temporaries, held_in}
-use Rattle.rules.specs.declared.{Evaluated.Evaluated, Temporary.Temporary}
+use Rattle.rules.specs.Types.{Evaluated}
 use Rattle.evaluation_temporaries.specs.Bytes.{temporaries_of}
+use Rattle.std.specs.Prelude.{Err, Ok, Some}
 
 -- the number of a stop, 0 where there is a value, and the temporaries after temporary n took it
 abbrev pub stop_number : Evaluated → ℕ
-stop_number (Evaluated.Value v) = 0
-stop_number (Evaluated.Stopped c) = c
+stop_number (Ok v) = 0
+stop_number (Err c) = c
 
 abbrev pub taken_into : Temporaries → ℕ → Evaluated → Temporaries
-taken_into τ n (Evaluated.Value v) = set τ n (Temporary.Holds v)
-taken_into τ n (Evaluated.Stopped c) = τ
+taken_into τ n (Ok v) = set τ n (Some v)
+taken_into τ n (Err c) = τ
 
 pub record Takes (entry exit : List ℕ) (r n : ℕ) (e : Evaluated) : Type 0 where
   pub number : r ≡ stop_number e
@@ -28,4 +29,4 @@ IsTake k = (k ≡ 63) ⊎ (k ≡ 64) ⊎ (k ≡ 65)
 abbrev pub taken_of : ℕ → ℕ → Temporaries → ℕ → Observation → Evaluated
 taken_of k c τ n o =
     cond (eqb k 63) (operated (live_record o) (operator_of c) (held_in τ (suc n)) (held_in τ (suc (suc n))))
-    (on_value (held_in τ (suc n)) Evaluated.Stopped (cond (eqb k 64) (query_observation (query_of c) o) opposite))
+    (on_value (held_in τ (suc n)) Err (cond (eqb k 64) (query_observation (query_of c) o) opposite))

@@ -5,6 +5,7 @@ use Rattle.checker_forms.specs.Codes.{language_of}
 use Rattle.checker.specs.Order.{from_shapes, from_records}
 use Rattle.checker.proofs.OrderLaws.{next-nothing, record-refused, no_record}
 use Rattle.checker.proofs.check_records.Goals as goal
+use Rattle.std.specs.Prelude.{is_err}
 
 pub returns-then-rule-ne0 : goal.returns-then-rule-ne0
 returns-then-rule-ne0 c =
@@ -31,5 +32,5 @@ returns c =
     let t = a.table.now in
     let e = c.loop-n in
     c.check_formed.ensures
-    ∙ next-nothing (record_fault l t) (lowest_record t (λ n. ltb 0 (record_fault l t n))) (from_shapes l t)
+    ∙ next-nothing (record_fault l t) (lowest_record t (λ n. is_err (record_fault l t n))) (from_shapes l t)
     (no_record l t (e.n + 1) e.invariant.before (omega arith))

@@ -9,7 +9,7 @@ use Rattle.rules.specs.Memory.{Memory, live_block}
 use Rattle.rules.specs.Layout.{memory_of}
 use Rattle.rules.specs.Evaluation.{Holding, operated}
 use Rattle.rules.specs.Watched.{temporary_of}
-use Rattle.rules.specs.declared.{Evaluated.Evaluated}
+use Rattle.rules.specs.Types.{Evaluated}
 use Rattle.evaluation.specs.State.{variables_of}
 use Rattle.evaluation_temporaries.specs.Bytes.{temporaries_of}
 use Rattle.evaluation.proofs.Arms.{within, read_below, address_below, value_at, literal-arm, read-arm}

@@ -6,7 +6,6 @@ use Rattle.rules.specs.Flow.{ending}
 use Rattle.rules.specs.Plain as plain
 use Rattle.rules.specs.Layout.{memory_of}
 use Rattle.rules.specs.Evaluation.{Variables, condition, evaluate_source, extend}
-use Rattle.rules.specs.declared.{Test.Test}
 use Rattle.rules.proofs.Runs.PlainArms.{statement-kinds, run-skip}
 use Rattle.evaluation.specs.State.{variables_of}
 use Rattle.run_changes.proofs.ChangeLaws.{becomes-same, let-block}
@@ -24,6 +23,8 @@ use Rattle.plain_runs.proofs.ReadyLaws.{ready-within, branch-parts, ready-then, 
 use Rattle.plain_runs.proofs.ReadyLaws.{ready-turn, ready-inside, ready-run-first, ready-run-then, run-first-within}
 use Rattle.plain_runs.proofs.ReadyLaws.{run-first-smaller, run-then-smaller, run-first-alone}
 use Rattle.plain_runs.proofs.+run.Goals as goal
+use Rattle.std.specs.Prelude.{Ok}
+use Rattle.std.specs.Prelude.{true, false}
 
 module _ {T : List ℕ} {n : ℕ} {ρ : Variables} {entry : List ℕ} {fuel m : ℕ} {l : List ℕ} {r : ℕ} (p : List ℕ) {l₁ : List ℕ} where
   -- of sequence m the first child ran
@@ -35,12 +36,12 @@ module _ {T : List ℕ} {n : ℕ} {ρ : Variables} {entry : List ℕ} {fuel m : 
 
   -- of while m a turn's condition is true, and its child ran
   turn : (f : List ℕ) → Remaining T n ρ entry fuel m l (fuel_in f) → Ready T m → kind_of T m ≡ 46 → 0 < fuel_in f
-      → condition (evaluate_source (expression_at T (child_a T m)) ρ (memory_of l)) ≡ Test.Yes
+      → condition (evaluate_source (expression_at T (child_a T m)) ρ (memory_of l)) ≡ (Ok true)
       → (x : ℕ) → x ≡ child_b T m → (g : List ℕ) → g ≡ after_turn f
       → Ran (plain.run (statement_at T x) ρ (memory_of l) (fuel_in g)) r p l l₁
       → Part T n ρ entry fuel m l (fuel_in f) (child_b T m) m (fuel_in f - 1) r p l₁
   turn f e h q z y x i g j w =
-      record { earlier = e; ran = rw (i, j) at w; leads = turn_by ρ h q (memory_of l) (fuel_in f) z Test.Yes y }
+      record { earlier = e; ran = rw (i, j) at w; leads = turn_by ρ h q (memory_of l) (fuel_in f) z (Ok true) y }
 
 pub branch-test_a-requires : goal.branch-test_a-requires
 branch-test_a-requires t c =
@@ -68,7 +69,7 @@ branch-returns-in-Yes-clause-outcome t c =
     let a = c.args in
     ran-is
     (branch_by (variables_of a.variables.now) c.requires.0 c.requires.1 (memory_of a.mem.now) (fuel_in a.progress.now)
-    Test.Yes (sym c.test_a.ensures ∙ c.in-Yes.is))
+    (Ok true) (sym c.test_a.ensures ∙ c.in-Yes.is))
     (rw c.child_b.ensures at c.run.ensures.outcome)
 
 pub branch-returns-in-No-clause-outcome : goal.branch-returns-in-No-clause-outcome
@@ -76,7 +77,7 @@ branch-returns-in-No-clause-outcome t c =
     let a = c.args in
     ran-is
     (branch_by (variables_of a.variables.now) c.requires.0 c.requires.1 (memory_of a.mem.now) (fuel_in a.progress.now)
-    Test.No (sym c.test_a.ensures ∙ c.in-No.is))
+    (Ok false) (sym c.test_a.ensures ∙ c.in-No.is))
     (rw c.child_c.ensures at c.run-in-No.ensures.outcome)
 
 pub branch-returns-in-Stopped-clause-outcome : goal.branch-returns-in-Stopped-clause-outcome
@@ -164,7 +165,7 @@ repeat-returns-in-No-clause-outcome t c =
     (ran-is
     (i.invariant.remaining.rest
     ∙ turn_by (variables_of a.variables.now) c.requires.0 c.requires.1 (memory_of i.mem) (fuel_in i.progress)
-    (omega arith) Test.No (sym c.test_a.ensures ∙ c.in-No.is))
+    (omega arith) (Ok false) (sym c.test_a.ensures ∙ c.in-No.is))
     (ran-from i.invariant.remaining.bytes (ran-finished i.mem (after_turn i.progress))))
 
 pub repeat-returns-in-Stopped-clause-outcome : goal.repeat-returns-in-Stopped-clause-outcome

@@ -1,7 +1,7 @@
 use Rattle.std.proofs.Common.{sym, ap, ◌∙◌}
 use Rattle.rules.specs.Flow.{after}
 use Rattle.rules.specs.Plain.{asserted}
-use Rattle.rules.specs.declared.{Test.Test}
+use Rattle.rules.specs.Types.{Test}
 use Rattle.rules.specs.Layout.{memory_of}
 use Rattle.rules.specs.Nodes.{statement_at}
 use Rattle.rules.proofs.Runs.PlainArms.{assert-child, run-assert}

@@ -17,20 +17,22 @@ use Rattle.rules.proofs.Lists.SearchLaws.{lowest-found}
 use Rattle.rules.proofs.Lists.SearchLaws as search-laws
 use Rattle.rules.proofs.Acceptance.ParentLaws.{Passed}
 use Rattle.rules.proofs.Acceptance.CheckLaws.{none-fails, each-passes, check-kept, accepted-keeps, accepted-last}
-use Rattle.rules.specs.Types.{Search, Checked}
+use Rattle.rules.specs.Types.{Search}
 -- the lowest that passes is found, and only it; the same of none
 pub use Rattle.rules.proofs.Lists.SearchLaws.{NonePass, Lowest}
+use Rattle.std.specs.Prelude.{None, Ok, Some}
+use Rattle.rules.specs.Types.{Found}
 
-pub lowest-at : (p : ℕ → Bool) (j k n : ℕ) → lowest p j k ≡ Search.At n → Lowest p j k n
+pub lowest-at : (p : ℕ → Bool) (j k n : ℕ) → lowest p j k ≡ Some n → Lowest p j k n
 lowest-at p j k n e = subst (search-laws.Found p j k) e (lowest-found p j k)
 
-pub at-lowest : (p : ℕ → Bool) (j k n : ℕ) → Lowest p j k n → lowest p j k ≡ Search.At n
+pub at-lowest : (p : ℕ → Bool) (j k n : ℕ) → Lowest p j k n → lowest p j k ≡ Some n
 at-lowest p j k n h = search-laws.lowest-at p j k n h.from h.below h.passes h.none-lower
 
-pub lowest-nothing : (p : ℕ → Bool) (j k : ℕ) → lowest p j k ≡ Search.Nothing → NonePass p j (j + k)
+pub lowest-nothing : (p : ℕ → Bool) (j k : ℕ) → lowest p j k ≡ None → NonePass p j (j + k)
 lowest-nothing p j k e = subst (search-laws.Found p j k) e (lowest-found p j k)
 
-pub nothing-lowest : (p : ℕ → Bool) (j k : ℕ) → NonePass p j (j + k) → lowest p j k ≡ Search.Nothing
+pub nothing-lowest : (p : ℕ → Bool) (j k : ℕ) → NonePass p j (j + k) → lowest p j k ≡ None
 nothing-lowest p j k h = search-laws.lowest-nothing p j k h
 
 -- no record of the table fails the test
@@ -46,20 +48,20 @@ pub record Accepted (l : Language) (t : List ℕ) : Type 0 where
   pub whole : length t % 16 ≡ 0
   pub not-empty : 1 ≤ record_count t
   pub not-too-many : record_count t ≤ record_limit l
-  pub record-rules : (n : ℕ) → 1 ≤ n → n ≤ record_count t → record_fault l t n ≡ 0
+  pub record-rules : (n : ℕ) → 1 ≤ n → n ≤ record_count t → record_fault l t n ≡ Ok tt
   pub shape : NoRecord t (shape_fault l t)
   pub scopes : NoRecord t (scope_fault l t)
   pub levels : LevelsHold l t
 
-refused-nowhere : (rule : ℕ) (s : Search) → refuse_at rule s ≡ Checked.Accepted → s ≡ Search.Nothing
-refused-nowhere rule (Search.At n) h = let z : ◌≡◌ {A = ℕ} 0 1 = cc in absurd (omega arith)
-refused-nowhere rule Search.Nothing h = refl
+refused-nowhere : (rule : ℕ) (s : Search) → refuse_at rule s ≡ (Ok tt) → s ≡ None
+refused-nowhere rule (Some n) h = let z : ◌≡◌ {A = ℕ} 0 1 = cc in absurd (omega arith)
+refused-nowhere rule None h = refl
 
-last-holds : (l : Language) (t : List ℕ) → last_rule l t ≡ Checked.Accepted → LevelsHold l t
+last-holds : (l : Language) (t : List ℕ) → last_rule l t ≡ (Ok tt) → LevelsHold l t
 last-holds source t h = each-passes t (level_fault t) (refused-nowhere 8 (lowest_record t (level_fault t)) h)
 last-holds target t h = tt
 
-holds-last : (l : Language) (t : List ℕ) → LevelsHold l t → last_rule l t ≡ Checked.Accepted
+holds-last : (l : Language) (t : List ℕ) → LevelsHold l t → last_rule l t ≡ (Ok tt)
 holds-last source t h = rw (none-fails t (level_fault t) h)
 holds-last target t h = refl
 
@@ -73,7 +75,7 @@ not-empty-of n h =
 length-passes : (n : ℕ) → n % 16 ≡ 0 → 1 ≤ n / 16 → (eqb n 0 || not (eqb (n % 16) 0)) ≡ false
 length-passes n m p = rw (ne_eqb n 0 (λ e. omega arith), eq-eqb (n % 16) 0 m)
 
-pub accepted-says : (l : Language) (t : List ℕ) → check l t ≡ Checked.Accepted → Accepted l t
+pub accepted-says : (l : Language) (t : List ℕ) → check l t ≡ (Ok tt) → Accepted l t
 accepted-says l t h =
     let k = accepted-keeps l t h in
     let s = not-empty-of (length t) k.length-kept in
@@ -91,7 +93,7 @@ accepted-says l t h =
 pub passed-of : (l : Language) (t : List ℕ) → Accepted l t → Passed l t
 passed-of l t a = record { records = a.record-rules; shape = a.shape }
 
-pub says-accepted : (l : Language) (t : List ℕ) → Accepted l t → check l t ≡ Checked.Accepted
+pub says-accepted : (l : Language) (t : List ℕ) → Accepted l t → check l t ≡ (Ok tt)
 says-accepted l t a =
     check-kept l t (record {
       length-kept = length-passes (length t) a.whole a.not-empty;
@@ -101,5 +103,5 @@ says-accepted l t a =
     })
     ∙ holds-last l t a.levels
 
-pub accepted-exactly : (l : Language) (t : List ℕ) → (check l t ≡ Checked.Accepted) ↔ Accepted l t
+pub accepted-exactly : (l : Language) (t : List ℕ) → (check l t ≡ (Ok tt)) ↔ Accepted l t
 accepted-exactly l t = (accepted-says l t, says-accepted l t)

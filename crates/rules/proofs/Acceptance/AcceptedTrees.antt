@@ -16,11 +16,12 @@ use Rattle.rules.proofs.Lists.BooleanLaws.{and_split, both_true, three-pass}
 use Rattle.rules.proofs.Acceptance.NodeLaws.{node-earlier}
 use Rattle.rules.proofs.Acceptance.FormLaws.{fields_split, Faultless, faultless, node-built}
 use Rattle.rules.proofs.Acceptance.Standing.{form-sort, Stands, stands}
+use Rattle.std.specs.Prelude.{Ok}
 
 abbrev pub Sorted : (l : Language) → List ℕ → ℕ → Type 0
 Sorted l t n = sort_of_node l (node_at l t n) ≡ sort_of l (kind_of t n)
 
-module _ (l : Language) (t : List ℕ) (rules : (n : ℕ) → 1 ≤ n → n ≤ record_count t → record_fault l t n ≡ 0) where
+module _ (l : Language) (t : List ℕ) (rules : (n : ℕ) → 1 ≤ n → n ≤ record_count t → record_fault l t n ≡ Ok tt) where
   child_fits_lem : (n : ℕ) → n ≤ record_count t → ((x : ℕ) → x < n → 1 ≤ x → x ≤ record_count t → Sorted l t x)
       → (f : Field) (x : ℕ) → field_fits f x ≡ true → child_fits l t n f x ≡ true
       → node_fits l f (node_in l (nodes l t n) x) ≡ true

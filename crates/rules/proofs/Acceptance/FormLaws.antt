@@ -20,6 +20,7 @@ use Rattle.rules.specs.Nodes.{NodeOf, build_node, sort_of_node, node_fits, nodes
 use Rattle.rules.proofs.Lists.BooleanLaws.{three-pass, five-pass}
 use Rattle.rules.proofs.Acceptance.KindViews.{and_split, every, found-passes, found-kind}
 use Rattle.rules.proofs.Acceptance.NodeLaws.{node_before, node-earlier, node-later, node_law, junk-sort}
+use Rattle.std.specs.Prelude.{Ok, is_ok}
 
 -- what each field of record n is, by the form
 abbrev pub FieldHolds : (l : Language) → List ℕ → ℕ → Field → ℕ → Type 0
@@ -119,7 +120,7 @@ pub record Faultless (l : Language) (t : List ℕ) (n : ℕ) (o : Option Form) :
   pub fields : fields_fit form (record_at t n) ≡ true
   pub children : children_fit l t n form (record_at t n) ≡ true
 
-no-fault : (l : Language) (t : List ℕ) (n : ℕ) (o : Option Form) → fault_of l t n o ≡ 0 → Faultless l t n o
+no-fault : (l : Language) (t : List ℕ) (n : ℕ) (o : Option Form) → fault_of l t n o ≡ Ok tt → Faultless l t n o
 no-fault l t n none h = absurd (omega arith)
 no-fault l t n (some f) h = go (fields_fit f (record_at t n)) (children_fit l t n f (record_at t n)) refl refl h
   where
@@ -129,7 +130,7 @@ no-fault l t n (some f) h = go (fields_fit f (record_at t n)) (children_fit l t 
     go true false d e r = absurd (omega arith)
     go false q d e r = absurd (omega arith)
 
-pub faultless : (l : Language) (t : List ℕ) (n : ℕ) → record_fault l t n ≡ 0 → Faultless l t n (form_of l (kind_of t n))
+pub faultless : (l : Language) (t : List ℕ) (n : ℕ) → record_fault l t n ≡ Ok tt → Faultless l t n (form_of l (kind_of t n))
 unfolding record_fault
 faultless l t n h = no-fault l t n (form_of l (kind_of t n)) h
 
@@ -221,13 +222,13 @@ kept l t n f p o h q e =
 
 -- what makes node n no junk
 abbrev pub in_table : (l : Language) → List ℕ → ℕ → Option Form → Bool
-in_table l t n o = ltb 0 n && leb n (record_count t) && eqb (record_fault l t n) 0 && nodes_under l t n o
+in_table l t n o = ltb 0 n && leb n (record_count t) && is_ok (record_fault l t n) && nodes_under l t n o
 
 -- where record n is in the table, without fault, and its children's nodes fit, its node is no junk
-pub node-built : (l : Language) (t : List ℕ) (n : ℕ) (f : Form) → 1 ≤ n → n ≤ record_count t → record_fault l t n ≡ 0
+pub node-built : (l : Language) (t : List ℕ) (n : ℕ) (f : Form) → 1 ≤ n → n ≤ record_count t → record_fault l t n ≡ Ok tt
     → form_of l (kind_of t n) ≡ some f → fields_fit f (record_at t n) ≡ true → nodes_under l t n (some f) ≡ true
     → FormHolds l t n f
 node-built l t n f p q r o h w =
     let g : in_table l t n (form_of l (kind_of t n)) ≡ true =
-    rw (lt-ltb 0 n p, le-leb n (record_count t) q, eq-eqb (record_fault l t n) 0 r, o) w in
+    rw (lt-ltb 0 n p, le-leb n (record_count t) q, eq-is_ok (record_fault l t n) r, o) w in
     kept l t n f p o h w (node_law l t n ∙ ap (λ (b : Bool). guarded l b (node_under l t n)) g)

@@ -16,10 +16,12 @@ use Rattle.rules.specs.Types.{Search}
 pub use Rattle.rules.proofs.Lists.BooleanLaws.{three-pass, five-pass}
 use Rattle.rules.proofs.Lists.BooleanLaws.{and_split}
 use Rattle.rules.proofs.Lists.SearchLaws.{lowest-nothing, lowest-at, Outcome, lowest-outcome}
+use Rattle.std.specs.Prelude.{None, Some}
+use Rattle.std.specs.Prelude.{Ok}
 
 -- a table that keeps 3, 4, 5 and 6
 pub record Passed (l : Language) (t : List ℕ) : Type 0 where
-  pub records : (n : ℕ) → 1 ≤ n → n ≤ record_count t → record_fault l t n ≡ 0
+  pub records : (n : ℕ) → 1 ≤ n → n ≤ record_count t → record_fault l t n ≡ Ok tt
   pub shape : (n : ℕ) → 1 ≤ n → n ≤ record_count t → shape_fault l t n ≡ false
 
 pub clash : false ≡ true → ⊥
@@ -67,13 +69,13 @@ module _ (l : Language) (t : List ℕ) (m : ℕ) where
       go (no u) (yes v) a b d = b v
       go (no u) (no v) a b d = d (omega arith)
 
-  in-record : (o : Option Form) (c : ℕ) → fault_of l t m o ≡ 0 → 0 < times_of o (record_at t m) c → (0 < c) × (c < m)
+  in-record : (o : Option Form) (c : ℕ) → fault_of l t m o ≡ Ok tt → 0 < times_of o (record_at t m) c → (0 < c) × (c < m)
   in-record none c e h = absurd (omega arith)
   in-record (some f) c e h =
       let both : (fields_fit f (record_at t m) ≡ true) × (children_fit l t m f (record_at t m) ≡ true) = fits-of _ _ e in
       in-fields f (record_at t m) c both.0 both.1 h
 
-  pub child-below : (c : ℕ) → record_fault l t m ≡ 0 → 0 < times_child_of l t m c → (0 < c) × (c < m)
+  pub child-below : (c : ℕ) → record_fault l t m ≡ Ok tt → 0 < times_child_of l t m c → (0 < c) × (c < m)
   unfolding record_fault times_child_of
   child-below c e h = in-record (form_of l (kind_of t m)) c e h
 
@@ -121,13 +123,13 @@ module _ (l : Language) (t : List ℕ) (c : ℕ) where
   parent-outcome = lowest-outcome (λ m. ltb 0 (times_child_of l t m c)) 1 (record_count t)
 
   pub parent-lowest : (n : ℕ) → 1 ≤ n → n ≤ record_count t → 0 < times_child_of l t n c
-      → ((i : ℕ) → 1 ≤ i → i < n → times_child_of l t i c ≡ 0) → parent_of l t c ≡ Search.At n
+      → ((i : ℕ) → 1 ≤ i → i < n → times_child_of l t i c ≡ 0) → parent_of l t c ≡ Some n
   unfolding parent_of
   parent-lowest n p q h f =
       lowest-at (λ m. ltb 0 (times_child_of l t m c)) 1 (record_count t) n p (omega arith) (lt-ltb 0 _ h)
       (λ i a b. le-ltb 0 (times_child_of l t i c) (omega (arith, f i a b)))
 
-  pub parent-none : ((i : ℕ) → 1 ≤ i → i ≤ record_count t → times_child_of l t i c ≡ 0) → parent_of l t c ≡ Search.Nothing
+  pub parent-none : ((i : ℕ) → 1 ≤ i → i ≤ record_count t → times_child_of l t i c ≡ 0) → parent_of l t c ≡ None
   unfolding parent_of
   parent-none f =
       lowest-nothing (λ m. ltb 0 (times_child_of l t m c)) 1 (record_count t)
@@ -148,7 +150,7 @@ pub record Parent (l : Language) (t : List ℕ) (c : ℕ) : Type 0 where
   pub number : ℕ
   pub is-parent : IsParent l t number c
 
-pub parent_is : (l : Language) (t : List ℕ) (m c : ℕ) → parent_of l t c ≡ Search.At m → IsParent l t m c
+pub parent_is : (l : Language) (t : List ℕ) (m c : ℕ) → parent_of l t c ≡ Some m → IsParent l t m c
 parent_is l t m c e =
     let h : (1 ≤ m) × (m < 1 + record_count t) × (ltb 0 (times_child_of l t m c) ≡ true) =
     subst (Outcome (λ m. ltb 0 (times_child_of l t m c)) 1 (record_count t)) e (parent-outcome l t c) in
@@ -211,7 +213,7 @@ module _ (l : Language) (t : List ℕ) (keeps : Passed l t) where
   child-once c p q = once-of l t c (ne_eqb c (record_count t) (omega arith)) (keeps.shape c p (omega arith))
 
   -- a child's parent is the record that has it
-  pub parent-of-child : (m c : ℕ) → IsParent l t m c → parent_of l t c ≡ Search.At m
+  pub parent-of-child : (m c : ℕ) → IsParent l t m c → parent_of l t c ≡ Some m
   parent-of-child m c h =
       let below : (0 < c) × (c < m) = parent_above m c h in
       parent-lowest l t c m h.in_table.0 h.in_table.1 h.has-child
@@ -243,7 +245,7 @@ module _ (l : Language) (t : List ℕ) (keeps : Passed l t) where
   pub last-no-child : times_child l t (record_count t) (record_count t) ≡ 0
   last-no-child = times_none l t (record_count t) (record_count t) (not-child (record_count t) (omega arith))
 
-  pub last-parent : (n : ℕ) → record_count t ≤ n → parent_of l t n ≡ Search.Nothing
+  pub last-parent : (n : ℕ) → record_count t ≤ n → parent_of l t n ≡ None
   last-parent n h = parent-none l t n (not-child n h)
 
   -- every other record has one
@@ -251,11 +253,11 @@ module _ (l : Language) (t : List ℕ) (keeps : Passed l t) where
   has-parent c p q = go (parent_of l t c) (parent-outcome l t c)
     where
       go : (s : Search) → Outcome (λ m. ltb 0 (times_child_of l t m c)) 1 (record_count t) s → Parent l t c
-      go (Search.At m) h = record {
+      go (Some m) h = record {
         number = m;
         is-parent = record { in_table = omega arith; has-child = ltb-true 0 (times_child_of l t m c) h.2 };
       }
-      go Search.Nothing h =
+      go None h =
           absurd (omega (
             arith,
             child-once c p q,

@@ -14,23 +14,24 @@ use Rattle.rules.proofs.Lists.BooleanLaws.{eqb_swap}
 use Rattle.rules.proofs.Acceptance.Sound.{Scope, start_scope, adding}
 use Rattle.rules.proofs.Acceptance.ParentLaws.{Passed, IsParent, parent_is, parent_above, parent-of-child}
 use Rattle.rules.proofs.Acceptance.ParentLaws.{last-parent}
+use Rattle.std.specs.Prelude.{None, Some}
 
 -- what record n has, d records up at most: top where none is above, and up n m of what its parent m has
 abbrev pub from_parent : {A : Type 0} → A → (ℕ → A) → Search → A
-from_parent top up Search.Nothing = top
-from_parent top up (Search.At m) = up m
+from_parent top up None = top
+from_parent top up (Some m) = up m
 
 unfoldable pub climb : {A : Type 0} → Language → List ℕ → A → (ℕ → ℕ → A → A) → ℕ → ℕ → A
 climb l t top up zero n = top
 climb l t top up (suc d) n = from_parent top (λ m. up n m (climb l t top up d m)) (parent_of l t n)
 
 module _ {A : Type 0} (l : Language) (t : List ℕ) (top : A) (up : ℕ → ℕ → A → A) where
-  climb-top : (d n : ℕ) → parent_of l t n ≡ Search.Nothing → climb l t top up d n ≡ top
+  climb-top : (d n : ℕ) → parent_of l t n ≡ None → climb l t top up d n ≡ top
   unfolding climb
   climb-top zero n e = refl
   climb-top (suc d) n e = ap (from_parent top (λ m. up n m (climb l t top up d m))) e
 
-  climb-up : (d n m : ℕ) → parent_of l t n ≡ Search.At m → climb l t top up (suc d) n ≡ up n m (climb l t top up d m)
+  climb-up : (d n m : ℕ) → parent_of l t n ≡ Some m → climb l t top up (suc d) n ≡ up n m (climb l t top up d m)
   unfolding climb
   climb-up d n m e = ap (from_parent top (λ m. up n m (climb l t top up d m))) e
 
@@ -38,15 +39,15 @@ module _ {A : Type 0} (l : Language) (t : List ℕ) (top : A) (up : ℕ → ℕ 
   -- as many as there are records after it are enough
   climb-enough : (d n : ℕ) → record_count t ≤ n + d → climb l t top up d n ≡ climb l t top up (suc d) n
   climb-enough zero n h =
-      let e : parent_of l t n ≡ Search.Nothing = last-parent l t keeps n (omega arith) in
+      let e : parent_of l t n ≡ None = last-parent l t keeps n (omega arith) in
       climb-top l t top up 0 n e ∙ sym (climb-top l t top up 1 n e)
   climb-enough (suc d) n h = go (parent_of l t n) refl (λ m. climb-enough d m)
     where
       go : (s : Search) → parent_of l t n ≡ s
           → ((m : ℕ) → record_count t ≤ m + d → climb l t top up d m ≡ climb l t top up (suc d) m)
           → climb l t top up (suc d) n ≡ climb l t top up (suc (suc d)) n
-      go Search.Nothing e f = climb-top l t top up (suc d) n e ∙ sym (climb-top l t top up (suc (suc d)) n e)
-      go (Search.At m) e f =
+      go None e f = climb-top l t top up (suc d) n e ∙ sym (climb-top l t top up (suc (suc d)) n e)
+      go (Some m) e f =
           climb-up l t top up d n m e
           ∙ ap (up n m) (f m (omega (arith, parent_above l t keeps m n (parent_is l t m n e))))
           ∙ sym (climb-up l t top up (suc d) n m e)
@@ -78,16 +79,16 @@ one_up : (b : Bool) (s : Search) (p f g : ℕ → Bool) → ((m : ℕ) → f m �
       | true ↦ true
       | false ↦
           elim s as (λ q. Bool) [
-            | Search.Nothing ↦ false
-            | Search.At m ↦
+            | None ↦ false
+            | Some m ↦
                 elim (p m) as (λ q. Bool) [ true ↦ true | false ↦ f m ]
           ]
     ]
     ≡ from_parent b (λ m. b || (p m || g m)) s
-one_up true Search.Nothing p f g h = refl
-one_up true (Search.At m) p f g h = refl
-one_up false Search.Nothing p f g h = refl
-one_up false (Search.At m) p f g h = let-or-above (p m) (f m) (g m) (h m)
+one_up true None p f g h = refl
+one_up true (Some m) p f g h = refl
+one_up false None p f g h = refl
+one_up false (Some m) p f g h = let-or-above (p m) (f m) (g m) (h m)
 
 scope-climb : (l : Language) (t : List ℕ) (x d n : ℕ) → in_scope l t d x n ≡ climb l t (eqb x 0) (scope_up t x) d n
 unfolding in_scope climb
@@ -135,9 +136,9 @@ adding-is ρ v x = go (eqb x v) ∙ ap (λ b. b || ρ x) (eqb_swap x v)
 
 -- ---- levels and copies, of a source table
 by-parent : {A : Type 0} (top : A) (up : ℕ → A → A) (f g : ℕ → A) → ((m : ℕ) → f m ≡ g m) → (s : Search)
-    → elim s as (λ q. A) [ Search.At m ↦ up m (f m) | Search.Nothing ↦ top ] ≡ from_parent top (λ m. up m (g m)) s
-by-parent top up f g h Search.Nothing = refl
-by-parent top up f g h (Search.At m) = ap (up m) (h m)
+    → elim s as (λ q. A) [ Some m ↦ up m (f m) | None ↦ top ] ≡ from_parent top (λ m. up m (g m)) s
+by-parent top up f g h None = refl
+by-parent top up f g h (Some m) = ap (up m) (h m)
 
 abbrev level_up : List ℕ → ℕ → ℕ → ℕ → ℕ
 level_up t n m k = level_below (kind_of t m) (position_in (fields_of (record_at t m)) n) k

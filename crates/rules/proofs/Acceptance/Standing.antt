@@ -18,6 +18,7 @@ use Rattle.rules.proofs.Acceptance.NodeLaws.{node_law, junk-sort}
 use Rattle.rules.proofs.Acceptance.FormLaws.{some-sort, faultless, record_as, FormHolds, nodes_under, node_under}
 use Rattle.rules.proofs.Acceptance.FormLaws.{in_table}
 use Rattle.rules.proofs.Acceptance.FormLaws.{node-built}
+use Rattle.std.specs.Prelude.{is_ok}
 
 not-guarded : (l : Language) (b : Bool) (x : NodeOf l) → 1 ≤ sort_of_node l (guarded l b x) → b ≡ true
 not-guarded l true x h = refl
@@ -82,7 +83,7 @@ stands l t n s e =
     let g = not-guarded l (in_table l t n (form_of l (kind_of t n))) (node_under l t n)
     (omega (arith, some-sort s, e, ap (sort_of_node l) (node_law l t n))) in
     let w = and_split _ (nodes_under l t n (form_of l (kind_of t n))) g in
-    let v = and_split _ (eqb (record_fault l t n) 0) w.0 in
+    let v = and_split _ (is_ok (record_fault l t n)) w.0 in
     let u = and_split (ltb 0 n) (leb n (record_count t)) v.0 in
     let p = ltb-true 0 n u.0 in
     let q = leb-true n (record_count t) u.1 in

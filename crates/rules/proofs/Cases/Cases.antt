@@ -40,10 +40,11 @@ use Rattle.rules.proofs.Translation.SizeBound.{size-bound}
 use Rattle.rules.proofs.Translation.TranslatedTables.{translated_size, translation-accepted, translation-program}
 use Rattle.rules.proofs.Lists.SearchLaws.{lowest-here, lowest-next}
 use Rattle.rules.proofs.Memory.MemoryLaws.{fill-above, all_free-all, all_free-taken}
-use Rattle.rules.specs.Types.{Value, Search, Cell, Checked}
+use Rattle.rules.specs.Types.{Value, Cell}
+use Rattle.std.specs.Prelude.{Ok, Some}
 
 -- A translation is accepted, and read back as the translated tree: it need not be emitted.
-stops-are : (rs : List Record) → check source (table_bytes rs) ≡ Checked.Accepted → endings rs ≡ stops rs
+stops-are : (rs : List Record) → check source (table_bytes rs) ≡ (Ok tt) → endings rs ≡ stops rs
 unfolding little digits word_at stops errors.plainly errors.watchedly
 stops-are rs c =
     let t : List ℕ = table_bytes rs in
@@ -57,7 +58,7 @@ stops-are rs c =
     (translation-program t sound small)
 
 -- no bytes of a cell are worked out for a block's record
-block-is : (rs : List Record) (k : ℕ) → check source (table_bytes rs) ≡ Checked.Accepted
+block-is : (rs : List Record) (k : ℕ) → check source (table_bytes rs) ≡ (Ok tt)
     → block_after rs k ≡ part 8 (memory_image (plainly rs).state) (block_place (k - 1))
 unfolding block_after
 block-is rs k c = ap (λ (r : PlainRun). part 8 r.memory (block_place (k - 1))) (plain-is rs c)
@@ -82,7 +83,7 @@ free-from-four i h b =
     ap is_free (fill-above start.cells 3 1 (Cell.Holds 3 Value.Undefined) i Cell.Free h
     ∙ free-at-start i (omega arith) b)
 
-first-room : free_run start 1 ≡ Search.At 3
+first-room : free_run start 1 ≡ Some 3
 unfolding start start_memory lowest_run all_free lowest
 first-room = refl
 
@@ -91,7 +92,7 @@ taken : (is_free (cell_of in_let_five 0) ≡ false) × (is_free (cell_of in_let_
 unfolding in_let_five start start_memory
 taken = (refl, refl, refl, refl)
 
-last-room : free_run in_let_five 1020 ≡ Search.At 4
+last-room : free_run in_let_five 1020 ≡ Some 4
 unfolding lowest_run
 last-room =
     let p : ℕ → Bool = λ i. is_free (cell_of in_let_five i) in
@@ -107,11 +108,11 @@ unfolding little digits word_at flat look_up form_of lowest record_fault make_no
     run_by start in_let_five
 last_fits =
     (λ i. stop (plain_ended (flow.ending (in_let 4 start_variables start 0
-    (make_at start fixed 1 (Search.At 3) (first-room i)) end_block (λ k m f.
+    (make_at start fixed 1 (Some 3) (first-room i)) end_block (λ k m f.
     into 0 (run (new 3 (variable 5) (literal (pos 1020))) (extend start_variables 5 k) m f))))).answer)
     ∙ (λ i. stop (plain_ended (flow.ending (next (into 0 (after 3 (extend start_variables 5 3) 0
     (store_new in_let_five (record { name = 3; offset = pos 0 })
-    (make_at in_let_five freeable 1020 (Search.At 4) (last-room i)))))
+    (make_at in_let_five freeable 1020 (Some 4) (last-room i)))))
     (λ m f. finished (end_block m 3) f)))).answer)
 
 -- P5 to P10; P6, P7 and an offset of P5 are told where people err

@@ -18,7 +18,6 @@ use Rattle.rules.specs.Layout.{memory_image, observation_image}
 use Rattle.rules.specs.Answers.{PlainRun, WatchedRun, inputs_of, plain_outcome, plain_ended, watched_outcome}
 use Rattle.rules.specs.Answers.{watched_ended}
 use Rattle.rules.specs.Demand3.{Agreement, Demand3}
-use Rattle.rules.specs.Types.{Checked}
 use Rattle.rules.proofs.Claim.UnrefusedRuns.{plain_runs, watched-runs}
 use Rattle.rules.proofs.Acceptance.Sound.{start_scope, SoundStatement}
 use Rattle.rules.proofs.Acceptance.Acceptance.{accepted-says}
@@ -30,13 +29,14 @@ use Rattle.rules.proofs.Translation.TranslatedTables.{translation-program}
 use Rattle.rules.proofs.Layouts.ReachableRoundTrip.{plain-round-trip}
 use Rattle.rules.proofs.Claim.Inputs.{inputs-few, inputs-some}
 use Rattle.rules.proofs.Claim.WholeRun.{Same, watched_from, runs_same, up-to-first-false}
+use Rattle.std.specs.Prelude.{Ok}
 
 -- the translation's run is that of the translated tree
 watched-from : (t i : List ℕ) (f : ℕ) → target_program (translation t) ≡ translate (source_program t)
     → watched_outcome (translation t) i f ≡ watched_from (translate (source_program t)) (inputs_of i) f
 watched-from t i f e = ap (λ (a : TargetStatement). watched_from a (inputs_of i) f) e
 
-module _ (t i : List ℕ) (f : ℕ) (c : check source t ≡ Checked.Accepted) (e : inputs_fault i ≡ false) where
+module _ (t i : List ℕ) (f : ℕ) (c : check source t ≡ (Ok tt)) (e : inputs_fault i ≡ false) where
   few : record_count t ≤ source_limit
   few = (accepted-program source t c).not-too-many
 

@@ -30,7 +30,8 @@ use Rattle.rules.proofs.Memory.GivenNames.{IsGiven, GivenValue, CellsGiven, Temp
 use Rattle.rules.proofs.Claim.Start.{start-invariant}
 use Rattle.rules.proofs.Claim.Inputs.{inputs-few, inputs-some}
 use Rattle.rules.proofs.Claim.WholeRun.{runs_same}
-use Rattle.rules.specs.Types.{Value, Cell, Temporary, Checked}
+use Rattle.rules.specs.Types.{Value, Cell}
+use Rattle.std.specs.Prelude.{None, Ok}
 
 start-given : (is : List ℤ) → length is ≤ input_limit
     → PointersGiven start_scope start_variables (start_memory is) start_temporaries
@@ -40,7 +41,7 @@ start-given is le = record {
   cells =
       also {x = Cell.Holds 1 (Value.Pointer (record { name = 2; offset = pos 0 }))} (omega arith, omega arith, refl)
       (all_append (integers is) (all_replicate (cell_count - 1 - length is) Cell.Free tt));
-  temporaries = all_replicate temporary_count Temporary.Empty tt;
+  temporaries = all_replicate temporary_count None tt;
   variables = λ x e. first x e;
 }
   where
@@ -68,13 +69,13 @@ from_start a is f h le =
     (g.cells, g.temporaries)
 
 -- every accepted target table, a hand-made one too
-pub watched-given : (t i : List ℕ) (f : ℕ) → check target t ≡ Checked.Accepted → inputs_fault i ≡ false
+pub watched-given : (t i : List ℕ) (f : ℕ) → check target t ≡ (Ok tt) → inputs_fault i ≡ false
     → AllGiven (ending (watched_outcome t i f)).state
 watched-given t i f c e =
     from_start (target_program t) (inputs_of i) f (accepted-program target t c).last.sound (inputs-few i e)
 
 -- every accepted source table: its plain run leaves the memory of its translation's watched run
-pub plain-given : (t i : List ℕ) (f : ℕ) → check source t ≡ Checked.Accepted → inputs_fault i ≡ false
+pub plain-given : (t i : List ℕ) (f : ℕ) → check source t ≡ (Ok tt) → inputs_fault i ≡ false
     → CellsGiven (ending (plain_outcome t i f)).state
 plain-given t i f c e =
     let sound = (accepted-program source t c).last.sound in

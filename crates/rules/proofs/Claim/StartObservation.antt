@@ -15,7 +15,9 @@ use Rattle.rules.specs.Observation.{Observation, covers, covered, mark_run, stor
 use Rattle.rules.specs.Observation.{mark_cell, mark_all, empty_observation, start_observation, mirror}
 use Rattle.rules.proofs.Memory.MemoryLaws.{Covering, inside, below, above, covering}
 use Rattle.rules.proofs.Claim.Start.{input_cells}
-use Rattle.rules.specs.Types.{Located, Search, Block, Recorded, Cell}
+use Rattle.rules.specs.Types.{Block, Recorded, Cell}
+use Rattle.std.specs.Prelude.{Err, Ok, Some}
+use Rattle.rules.specs.Types.{Miss}
 
 -- block 1 recorded and marked
 abbrev first : Observation
@@ -58,17 +60,17 @@ all_free-from p s (suc n) h =
     ap (λ (c : Bool). elim c [ true ↦ all_free p (suc s) n | false ↦ false ]) (h s (omega arith))
     ∙ all_free-from p (suc s) n (λ i l. h i (omega arith))
 
-lowest-second : (p : ℕ → Bool) (k : ℕ) → p 0 ≡ false → p 1 ≡ true → lowest p 0 (suc (suc k)) ≡ Search.At 1
+lowest-second : (p : ℕ → Bool) (k : ℕ) → p 0 ≡ false → p 1 ≡ true → lowest p 0 (suc (suc k)) ≡ Some 1
 unfolding lowest
 lowest-second p k a b =
-    ap (λ (c : Bool). elim c [ true ↦ Search.At 0 | false ↦ lowest p 1 (suc k) ]) a
-    ∙ ap (λ (c : Bool). elim c [ true ↦ Search.At 1 | false ↦ lowest p 2 k ]) b
+    ap (λ (c : Bool). elim c [ true ↦ Some 0 | false ↦ lowest p 1 (suc k) ]) a
+    ∙ ap (λ (c : Bool). elim c [ true ↦ Some 1 | false ↦ lowest p 2 k ]) b
 
 first_taken : (n : ℕ) → all_free (λ i. not (covered first.blocks i)) 0 (suc n) ≡ false
 unfolding all_free covered
 first_taken n = refl
 
-second_run : (n : ℕ) → suc n ≤ input_limit → mark_run first (suc n) ≡ Search.At 1
+second_run : (n : ℕ) → suc n ≤ input_limit → mark_run first (suc n) ≡ Some 1
 unfolding lowest_run
 second_run n h =
     let enough : suc cell_count - suc n ≡ suc (suc (1022 - n)) = omega arith in
@@ -99,7 +101,7 @@ unfolding mark_all
 marked n zero h le = refl
 marked n (suc j) h le =
     ap (λ o. mark_cell o 2 j) (marked n j (omega arith) le)
-    ∙ ap (λ b. kept o₁ (mark_at o₁ (cond b (Located.At (1 + j)) Located.Outside))) (lt-ltb j n (omega arith))
+    ∙ ap (λ b. kept o₁ (mark_at o₁ (cond b (Ok (1 + j)) (Err Miss.Outside)))) (lt-ltb j n (omega arith))
     ∙ ap (λ i. second n (set (true ∷ (replicate j true ++ replicate (cell_count - 1 - j) false)) i true)) one_more
     ∙ ap (λ r. second n (true ∷ set (replicate j true ++ replicate r false) j true)) left
     ∙ ap (λ l. second n (true ∷ l)) (mark-next j (cell_count - 1 - suc j))

@@ -18,6 +18,7 @@ use Rattle.rules.specs.Answers.{watched_by, run_watched}
 use Rattle.rules.specs.Types.{Checked}
 use Rattle.rules.proofs.Lists.Among.{Among}
 use Rattle.rules.proofs.Acceptance.CheckLaws.{Numbered, check-numbered}
+use Rattle.std.specs.Prelude.{Ok}
 
 -- a buffer of the right length is not refused
 right-length : (l : List ℕ) (n : ℕ) → length l ≡ n → not (eqb (length l) n) ≡ false
@@ -38,13 +39,13 @@ old-images-refused memory observation e h = (
 )
 
 -- a run that is not refused
-pub plain_runs : (t i : List ℕ) (f : ℕ) (memory : List ℕ) → check source t ≡ Checked.Accepted → inputs_fault i ≡ false
+pub plain_runs : (t i : List ℕ) (f : ℕ) (memory : List ℕ) → check source t ≡ (Ok tt) → inputs_fault i ≡ false
     → length memory ≡ memory_length → run_plain t i f memory ≡ plain_ended (ending (plain_outcome t i f))
 plain_runs t i f memory c e h =
     ap (λ x. plain_by x t i f memory) c
     ∙ (λ k. plain_as (refuse_if 9 (e k) otherwise refuse_if 21 (right-length memory memory_length h k)) t i f memory)
 
-pub watched-runs : (t i : List ℕ) (f : ℕ) (memory observation : List ℕ) → check target t ≡ Checked.Accepted
+pub watched-runs : (t i : List ℕ) (f : ℕ) (memory observation : List ℕ) → check target t ≡ (Ok tt)
     → inputs_fault i ≡ false → length memory ≡ memory_length → length observation ≡ observation_length
     → run_watched t i f memory observation ≡ watched_ended (ending (watched_outcome t i f))
 watched-runs t i f memory observation c e h k =
@@ -70,7 +71,7 @@ plain-answered t i f memory = by-check (check source t) (check-numbered source t
 
     by-check : (c : Checked) → Numbered c → PlainAnswered t i f memory (plain_by c t i f memory)
     by-check (Checked.Refused k n) h = refused h
-    by-check Checked.Accepted h = by_tests (inputs_fault i) (memory_fault memory)
+    by-check (Ok tt) h = by_tests (inputs_fault i) (memory_fault memory)
 
 pub data WatchedAnswered (t i : List ℕ) (f : ℕ) (memory observation : List ℕ) : WatchedRun → Type 0 where
   refused : {k n : ℕ} → Among refusals k
@@ -92,4 +93,4 @@ watched-answered t i f memory observation = by-check (check target t) (check-num
     by-check : (c : Checked) → Numbered c
         → WatchedAnswered t i f memory observation (watched_by c t i f memory observation)
     by-check (Checked.Refused k n) h = refused h
-    by-check Checked.Accepted h = by_tests (inputs_fault i) (memory_fault memory) (observation_fault observation)
+    by-check (Ok tt) h = by_tests (inputs_fault i) (memory_fault memory) (observation_fault observation)

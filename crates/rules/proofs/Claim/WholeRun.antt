@@ -27,7 +27,7 @@ use Rattle.rules.proofs.Simulation.Simulation.{simulates}
 use Rattle.rules.proofs.Claim.Start.{start-invariant}
 use Rattle.rules.proofs.Claim.StartObservation.{start-mirrors}
 use Rattle.rules.proofs.Memory.Orderly.{Orderly, plain-orderly, watched-orderly}
-use Rattle.rules.specs.Types.{Temporary}
+use Rattle.std.specs.Prelude.{None}
 
 -- a plain and a watched run come out alike
 pub record Same (p : Ending Memory) (w : Ending WatchedState) : Type 0 where
@@ -75,7 +75,7 @@ runs_same a σ is f d h le =
     rw (start-mirrors is h le)
     (same_of
     (simulates a σ start_variables (start_memory is) start_temporaries f d (start-invariant is le)
-    (length-replicate 64 Temporary.Empty))
+    (length-replicate 64 None))
     (run-endings a start_variables (start_memory is) f))
 
 -- what holds of the execution memory after a run, of the translation or of any other target statement

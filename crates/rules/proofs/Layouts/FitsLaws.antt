@@ -21,10 +21,12 @@ use Rattle.rules.proofs.Lists.Lists.{all_map, length-fill, length-set_named}
 use Rattle.rules.specs.Fits.{FitsName, FitsPlaces, FitsBlock, FitsRecorded, FitsCell, FitsMemory, All, also}
 use Rattle.rules.specs.Fits.{FitsObservation, InsideRecorded, InsideBlock, InsideMemory}
 use Rattle.rules.specs.Fits.{InsideObservation}
-use Rattle.rules.specs.Types.{Pointer, Value, Located, Search, Block, Recorded, Cell}
+use Rattle.rules.specs.Types.{Pointer, Value, Located, Block, Recorded, Cell}
+use Rattle.std.specs.Prelude.{Err, Ok, Some}
+use Rattle.rules.specs.Types.{Miss}
 
 -- ---- what a search finds is in range
-pub next_name-fits : (m : Memory) (k : ℕ) → next_name m ≡ Search.At k → FitsName k
+pub next_name-fits : (m : Memory) (k : ℕ) → next_name m ≡ Some k → FitsName k
 next_name-fits m k e =
     let h = subst (Outcome (λ j. is_unused (block_of m j)) 1 name_count) e (lowest-outcome _ 1 name_count) in
     omega (arith, h.0, h.1)
@@ -153,28 +155,28 @@ marked-fits o i h = record {
 
 -- ---- where a pointer leads is inside
 abbrev LeadsInside : Located → Type 0
-LeadsInside (Located.At i) = i < cell_count
-LeadsInside Located.Dead = Unit {0}
-LeadsInside Located.Outside = Unit {0}
+LeadsInside (Ok i) = i < cell_count
+LeadsInside (Err Miss.Dead) = Unit {0}
+LeadsInside (Err Miss.Outside) = Unit {0}
 
 located_in-inside : (b : Recorded) (z : ℤ) → InsideRecorded b → LeadsInside (located_in b z)
 located_in-inside Recorded.Unused z h = tt
 located_in-inside (Recorded.Live first n) (pos o) h = pick (ltb o n) refl
   where
-    pick : (t : Bool) → ltb o n ≡ t → LeadsInside (cond t (Located.At (first + o)) Located.Outside)
+    pick : (t : Bool) → ltb o n ≡ t → LeadsInside (cond t (Ok (first + o)) (Err Miss.Outside))
     pick true e = omega (arith, ltb-true o n e)
     pick false e = tt
 located_in-inside (Recorded.Live first n) (negsuc o) h = tt
 located_in-inside Recorded.Dead z h = tt
 
-pub locate-inside : (m : Memory) (p : Pointer) (i : ℕ) → InsideMemory m → locate m p ≡ Located.At i → i < cell_count
+pub locate-inside : (m : Memory) (p : Pointer) (i : ℕ) → InsideMemory m → locate m p ≡ Ok i → i < cell_count
 unfolding locate
 locate-inside m p i h e =
     subst LeadsInside e (located_in-inside (recorded_of (block_of m p.name)) p.offset
     (all_named h.blocks-inside p.name Block.Dead tt))
 
 pub locate_mark-inside : (o : Observation) (p : Pointer) (i : ℕ) → InsideObservation o
-    → locate_mark o p ≡ Located.At i → i < cell_count
+    → locate_mark o p ≡ Ok i → i < cell_count
 locate_mark-inside o p i h e =
     subst LeadsInside e (located_in-inside (record_of o p.name) p.offset
     (all_named h.records-inside p.name Recorded.Dead tt))

@@ -20,6 +20,7 @@ use Rattle.rules.proofs.Lists.Lists.{all_get_d, all_named}
 use Rattle.rules.specs.Fits.{FitsName, FitsPointer, FitsValue, FitsRecorded, FitsCell, FitsTemporary}
 use Rattle.rules.specs.Fits.{FitsMemory, FitsObservation}
 use Rattle.rules.specs.Types.{Pointer, Value, Evaluated, Found, Recorded, Cell, Temporary}
+use Rattle.std.specs.Prelude.{Err, None, Some}
 
 abbrev pub FitsEvaluated : Evaluated → Type 0
 FitsEvaluated e = Gives FitsValue AnyNumber e
@@ -58,7 +59,7 @@ queried-fits block_length b marked p h k = of_live-fits b _ h (λ n l. lt-ltb n 
 pub query_observation-fits : (q : Query) (o : Observation) (v : Value) → FitsObservation o → FitsValue v
     → FitsEvaluated (query_observation q o v)
 query_observation-fits q o v h k =
-    on-pointer FitsEvaluated AnyNumber Evaluated.Stopped (λ c x. tt) FitsValue v _ tt k (λ p l.
+    on-pointer FitsEvaluated AnyNumber Err (λ c x. tt) FitsValue v _ tt k (λ p l.
     queried-fits q (record_of o p.name) (λ i. is_marked o i) p
     (all_named h.records-fit p.name Recorded.Dead tt) l)
 
@@ -67,8 +68,8 @@ opposite-fits v = opposite-gives FitsValue AnyNumber (λ z e. e) moved-fits (λ 
 
 -- temporaries, places and expressions
 pub held_fits : (t : Temporary) → FitsTemporary t → FitsEvaluated (held t)
-held_fits Temporary.Empty h = tt
-held_fits (Temporary.Holds v) h = h
+held_fits None h = tt
+held_fits (Some v) h = h
 
 pub address_of-fits : (f : Found) → FoundFits f → FitsEvaluated (address_of f)
 address_of-fits f h = address_of-has FitsValue f h

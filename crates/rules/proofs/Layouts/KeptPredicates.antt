@@ -19,7 +19,8 @@ use Rattle.rules.proofs.Lists.RunLaws.{run-bound}
 use Rattle.rules.proofs.Layouts.FitsLaws.{next_name-fits, set_cell-inside}
 use Rattle.rules.proofs.Layouts.FitsLaws.{with_block-inside, end_block-inside}
 use Rattle.rules.proofs.Layouts.FitsLaws.{with_marks-inside, marked-fits}
-use Rattle.rules.specs.Types.{Search, Recorded, Cell}
+use Rattle.rules.specs.Types.{Recorded, Cell}
+use Rattle.std.specs.Prelude.{Some}
 
 pub record MemoryInvariant (J : Memory → Type 0) : Type 0 where
   pub fitting : (m : Memory) → J m → FitsMemory m
@@ -40,7 +41,7 @@ inside-invariant = record {
   ending = end_block-inside;
 }
 
-mark_run-places : (o : Observation) (n first : ℕ) → mark_run o n ≡ Search.At first → first + n ≤ cell_count
+mark_run-places : (o : Observation) (n first : ℕ) → mark_run o n ≡ Some first → first + n ≤ cell_count
 mark_run-places o n first e = run-bound _ n first e
 
 pub inside-observation-invariant : ObservationInvariant InsideObservation

@@ -37,7 +37,8 @@ use Rattle.rules.specs.Fits.{FitsName, FitsPointer, FitsValue, FitsTemporary, Al
 use Rattle.rules.proofs.Layouts.KeptPredicates.{MemoryInvariant, ObservationInvariant, MadeWith, make_block-keeps}
 use Rattle.rules.proofs.Layouts.FittingValues.{operated-fits, query_observation-fits, opposite-fits, FitsEvaluated}
 use Rattle.rules.proofs.Layouts.FittingValues.{held_fits, address_of-fits, evaluate-fits, find_place-fits}
-use Rattle.rules.specs.Types.{Value, Evaluated, Cell, Temporary}
+use Rattle.rules.specs.Types.{Value, Evaluated, Cell}
+use Rattle.std.specs.Prelude.{Err, None, Some}
 
 pub extend_fits : (ρ : Variables) (x k : ℕ) → VariablesFit ρ → FitsName k → VariablesFit (extend ρ x k)
 extend_fits ρ x k h l y = pick (eqb y x)
@@ -136,7 +137,7 @@ pub record Watchedly (J : Memory → Type 0) (O : Observation → Type 0) (x : W
   pub temporaries-fit : All FitsTemporary x.temporaries
 
 pub start_temporaries-fit : All FitsTemporary start_temporaries
-start_temporaries-fit = all_replicate temporary_count Temporary.Empty tt
+start_temporaries-fit = all_replicate temporary_count None tt
 
 module _ (J : Memory → Type 0) (v : MemoryInvariant J) (O : Observation → Type 0) (u : ObservationInvariant O) where
   abbrev pub WatchedRuns : WatchedState → ℕ → Outcome WatchedState → Type 0
@@ -148,7 +149,7 @@ module _ (J : Memory → Type 0) (v : MemoryInvariant J) (O : Observation → Ty
   module _ (x : WatchedState) (i : Watchedly J O x) where
     held_kept : (n : ℕ) → FitsEvaluated (holding x n)
     held_kept n =
-        held_fits (temporary_of x.temporaries n) (all_get_d i.temporaries-fit n Temporary.Empty tt)
+        held_fits (temporary_of x.temporaries n) (all_get_d i.temporaries-fit n None tt)
 
     with-memory : (m : Memory) → J m → Watchedly J O (with_memory x m)
     with-memory m h =
@@ -167,7 +168,7 @@ module _ (J : Memory → Type 0) (v : MemoryInvariant J) (O : Observation → Ty
         (taken-keeps (Watchedly J O) AnyNumber FitsValue x n e i h (λ w g. record {
           memory_kept = i.memory_kept;
           observation-kept = i.observation-kept;
-          temporaries-fit = all_set i.temporaries-fit n {x = Temporary.Holds w} g;
+          temporaries-fit = all_set i.temporaries-fit n {x = Some w} g;
         }))
 
     observed-kept : (s : ℕ) (ρ : Variables) (f : ℕ) (r : Noted) → NotedKeeps O AnyNumber r
@@ -233,11 +234,11 @@ module _ (J : Memory → Type 0) (v : MemoryInvariant J) (O : Observation → Ty
       (held_kept x i (suc (suc n))))
   watch-keeps (take_query s n q) σ h ρ r x f i =
       taken-kept x i s ρ f n (querying q n x)
-      (on_value_lem FitsEvaluated AnyNumber Evaluated.Stopped (λ c y. tt) (holding x (suc n)) _ (held_kept x i (suc n))
+      (on_value_lem FitsEvaluated AnyNumber Err (λ c y. tt) (holding x (suc n)) _ (held_kept x i (suc n))
       (λ w g. query_observation-fits q x.observation w (u.fitting x.observation i.observation-kept) g))
   watch-keeps (take_not s n) σ h ρ r x f i =
       taken-kept x i s ρ f n (negating n x)
-      (on_value_lem FitsEvaluated AnyNumber Evaluated.Stopped (λ c y. tt) (holding x (suc n)) _ (held_kept x i (suc n))
+      (on_value_lem FitsEvaluated AnyNumber Err (λ c y. tt) (holding x (suc n)) _ (held_kept x i (suc n))
       (λ w g. opposite-fits w))
   watch-keeps (branch_on s n a b) σ h ρ r x f i =
       reach-decide AnyNumber stays s ρ (condition (holding x n)) x f (into 1 (watch a ρ x f)) (into 2 (watch b ρ x f)) i

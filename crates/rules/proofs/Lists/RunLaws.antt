@@ -12,6 +12,7 @@ use Rattle.rules.specs.Sizes.{cell_count}
 use Rattle.rules.specs.Checker.{lowest}
 use Rattle.rules.specs.Memory.{all_free, lowest_run}
 use Rattle.rules.specs.Types.{Search}
+use Rattle.std.specs.Prelude.{None, Some}
 
 lt-or-le : (a b : ℕ) → (a < b) ⊎ (b ≤ a)
 lt-or-le a b = pick (dec_lt a b)
@@ -62,12 +63,12 @@ step-on false s r e = refl
 
 module _ (q : ℕ → Bool) where
   pub lowest-at : (k j m : ℕ) → ((i : ℕ) → j ≤ i → i < m → q i ≡ false) → q m ≡ true → j ≤ m → m < j + k
-      → lowest q j k ≡ Search.At m
+      → lowest q j k ≡ Some m
   unfolding lowest
   lowest-at zero j m f t a b = absurd (omega arith)
   lowest-at (suc k) j m f t a b =
-      ⊎_elim (λ e. step-found (q j) (Search.At j) (lowest q (suc j) k) (ap q e ∙ t) ∙ ap Search.At e)
-      (λ l. step-on (q j) (Search.At j) (lowest q (suc j) k) (f j (same j) l)
+      ⊎_elim (λ e. step-found (q j) (Some j) (lowest q (suc j) k) (ap q e ∙ t) ∙ ap Some e)
+      (λ l. step-on (q j) (Some j) (lowest q (suc j) k) (f j (same j) l)
       ∙ lowest-at k (suc j) m (λ i x y. f i (less j i x) y) t l (reach k j m b)) (eq-or-lt_of_le a)
     where
       same : (j : ℕ) → j ≤ j
@@ -79,11 +80,11 @@ module _ (q : ℕ → Bool) where
       reach : (k j m : ℕ) → m < j + suc k → m < suc j + k
       reach k j m b = omega arith
 
-  pub lowest-none : (k j : ℕ) → ((i : ℕ) → j ≤ i → i < j + k → q i ≡ false) → lowest q j k ≡ Search.Nothing
+  pub lowest-none : (k j : ℕ) → ((i : ℕ) → j ≤ i → i < j + k → q i ≡ false) → lowest q j k ≡ None
   unfolding lowest
   lowest-none zero j f = refl
   lowest-none (suc k) j f =
-      step-on (q j) (Search.At j) (lowest q (suc j) k) (f j (omega arith) (omega arith))
+      step-on (q j) (Some j) (lowest q (suc j) k) (f j (omega arith) (omega arith))
       ∙ lowest-none k (suc j) (λ i x y. f i (omega arith) (omega arith))
 
 -- two tests that agree on the cells find the same run
@@ -102,7 +103,7 @@ module _ (p q : ℕ → Bool) where
   lowest-same (suc k) j f =
       let here : p j ≡ q j = f j (omega arith) in
       let rest : lowest p (suc j) k ≡ lowest q (suc j) k = lowest-same k (suc j) (λ i b. f i (omega arith)) in
-      ap₂ (λ (b : Bool) (r : Search). elim b [ true ↦ Search.At j | false ↦ r ]) here rest
+      ap₂ (λ (b : Bool) (r : Search). elim b [ true ↦ Some j | false ↦ r ]) here rest
 
 pub run-same : (p q : ℕ → Bool) (n : ℕ) → ((j : ℕ) → j < cell_count → p j ≡ q j) → lowest_run p n ≡ lowest_run q n
 unfolding lowest_run
@@ -114,12 +115,12 @@ run-same p q n f =
     low s j b c = omega arith
 
 -- the bound of what is found
-step-bound : (b : Bool) (j m : ℕ) (r : Search) → elim b [ true ↦ Search.At j | false ↦ r ] ≡ Search.At m
-    → (j ≡ m) ⊎ (r ≡ Search.At m)
+step-bound : (b : Bool) (j m : ℕ) (r : Search) → elim b [ true ↦ Some j | false ↦ r ] ≡ Some m
+    → (j ≡ m) ⊎ (r ≡ Some m)
 step-bound true j m r e = inl (cc)
 step-bound false j m r e = inr e
 
-lowest-bound : (q : ℕ → Bool) (k j m : ℕ) → lowest q j k ≡ Search.At m → m < j + k
+lowest-bound : (q : ℕ → Bool) (k j m : ℕ) → lowest q j k ≡ Some m → m < j + k
 unfolding lowest
 lowest-bound q zero j m e = let z : ◌≡◌ {A = ℕ} 0 1 = cc in absurd (omega arith)
 lowest-bound q (suc k) j m e =
@@ -132,7 +133,7 @@ lowest-bound q (suc k) j m e =
     there : (k j m : ℕ) → m < suc j + k → m < j + suc k
     there k j m h = omega arith
 
-pub run-bound : (p : ℕ → Bool) (n first : ℕ) → lowest_run p n ≡ Search.At first → first + n ≤ cell_count
+pub run-bound : (p : ℕ → Bool) (n first : ℕ) → lowest_run p n ≡ Some first → first + n ≤ cell_count
 unfolding lowest_run
 run-bound p n first e = omega (arith, lowest-bound (λ s. all_free p s n) (suc cell_count - n) 0 first e)
 
@@ -256,14 +257,14 @@ module _ (p : ℕ → Bool) (n i : ℕ) where
         go (inr l) (inr d) = blocked p n k k (omega arith) (omega arith) (o.held k d c)
 
     -- all n places from i on pass: the lowest run starts at i
-    pub run-found : {j : ℕ} → i + n ≤ cell_count → FreeTo p i (i + n) j → j ≡ i + n → Search.At i ≡ lowest_run p n
+    pub run-found : {j : ℕ} → i + n ≤ cell_count → FreeTo p i (i + n) j → j ≡ i + n → Some i ≡ lowest_run p n
     unfolding lowest_run
     run-found h f e =
         sym (lowest-at (λ (j : ℕ). all_free p j n) (suc cell_count - n) 0 i (λ k a b. s k b)
         (all-free p n i (λ k a b. f.free.passed k a (omega arith))) (omega arith) (omega arith))
 
     -- fewer than n places from i on: there is no run
-    pub run_none : cell_count < i + n → Search.Nothing ≡ lowest_run p n
+    pub run_none : cell_count < i + n → None ≡ lowest_run p n
     unfolding lowest_run
     run_none h =
         sym (lowest-none (λ (j : ℕ). all_free p j n) (suc cell_count - n) 0 (λ k a b. s k (under k b)))

@@ -6,9 +6,10 @@ use mathlib.Core.Path.{◌≡◌, refl, ap, ◌∙◌}
 use mathlib.Core.Bool.{Bool, true, false}
 use Rattle.rules.specs.Checker.{lowest}
 use Rattle.rules.specs.Types.{Search}
+use Rattle.std.specs.Prelude.{None, Some}
 
 -- one step
-pub lowest-here : (p : ℕ → Bool) (j k : ℕ) → p j ≡ true → lowest p j (suc k) ≡ Search.At j
+pub lowest-here : (p : ℕ → Bool) (j k : ℕ) → p j ≡ true → lowest p j (suc k) ≡ Some j
 unfolding lowest
 lowest-here p j k e = rw (e, lowest)
 
@@ -17,7 +18,7 @@ unfolding lowest
 lowest-next p j k e = rw (e, lowest)
 
 pub lowest-nothing : (p : ℕ → Bool) (j k : ℕ) → ((i : ℕ) → j ≤ i → i < j + k → p i ≡ false)
-    → lowest p j k ≡ Search.Nothing
+    → lowest p j k ≡ None
 unfolding lowest
 lowest-nothing p j zero h = refl
 lowest-nothing p j (suc k) h =
@@ -25,15 +26,15 @@ lowest-nothing p j (suc k) h =
     ∙ lowest-nothing p (suc j) k (λ i a b. h i (omega arith) (omega arith))
 
 pub lowest-at : (p : ℕ → Bool) (j k n : ℕ) → j ≤ n → n < j + k → p n ≡ true → ((i : ℕ) → j ≤ i → i < n → p i ≡ false)
-    → lowest p j k ≡ Search.At n
+    → lowest p j k ≡ Some n
 lowest-at p j zero n a b e h = absurd (omega arith)
 lowest-at p j (suc k) n a b e h = go (dec_lt j n) (lowest-at p (suc j) k n)
   where
     go : Dec (j < n) → (suc j ≤ n → n < suc j + k → p n ≡ true → ((i : ℕ) → suc j ≤ i → i < n → p i ≡ false)
-        → lowest p (suc j) k ≡ Search.At n) → lowest p j (suc k) ≡ Search.At n
+        → lowest p (suc j) k ≡ Some n) → lowest p j (suc k) ≡ Some n
     go (no q) f =
         let same : j ≡ n = omega arith in
-        lowest-here p j k (ap p same ∙ e) ∙ ap Search.At same
+        lowest-here p j k (ap p same ∙ e) ∙ ap Some same
     go (yes q) f =
         lowest-next p j k (h j (omega arith) q) ∙ f (omega arith) (omega arith) e (λ i c d. h i (omega arith) d)
 
@@ -48,8 +49,8 @@ pub record Lowest (p : ℕ → Bool) (j k n : ℕ) : Type 0 where
   pub none-lower : NonePass p j n
 
 abbrev pub Found : (ℕ → Bool) → ℕ → ℕ → Search → Type 0
-Found p j k Search.Nothing = NonePass p j (j + k)
-Found p j k (Search.At n) = Lowest p j k n
+Found p j k None = NonePass p j (j + k)
+Found p j k (Some n) = Lowest p j k n
 
 pub lowest-found : (p : ℕ → Bool) (j k : ℕ) → Found p j k (lowest p j k)
 unfolding lowest
@@ -61,8 +62,8 @@ lowest-found p j (suc k) = go (p j) refl (lowest p (suc j) k) (lowest-found p (s
     more n e h i a b (yes q) = h i q b
 
     later : p j ≡ false → (s : Search) → Found p (suc j) k s → Found p j (suc k) s
-    later e Search.Nothing h = λ i a b. more (j + suc k) e (λ i c d. h i c (omega arith)) i a b (dec_lt j i)
-    later e (Search.At n) h = record {
+    later e None h = λ i a b. more (j + suc k) e (λ i c d. h i c (omega arith)) i a b (dec_lt j i)
+    later e (Some n) h = record {
       from = omega (arith, h.from);
       below = omega (arith, h.below);
       passes = h.passes;
@@ -70,7 +71,7 @@ lowest-found p j (suc k) = go (p j) refl (lowest p (suc j) k) (lowest-found p (s
     }
 
     go : (b : Bool) → p j ≡ b → (s : Search) → Found p (suc j) k s
-        → Found p j (suc k) (elim b as (λ q. Search) [ true ↦ Search.At j | false ↦ s ])
+        → Found p j (suc k) (elim b as (λ q. Search) [ true ↦ Some j | false ↦ s ])
     go true e s h = record {
       from = omega arith;
       below = omega arith;
@@ -81,12 +82,12 @@ lowest-found p j (suc k) = go (p j) refl (lowest p (suc j) k) (lowest-found p (s
 
 -- the same without what is lower
 abbrev pub Outcome : (ℕ → Bool) → ℕ → ℕ → Search → Type 0
-Outcome p j k Search.Nothing = (i : ℕ) → j ≤ i → i < j + k → p i ≡ false
-Outcome p j k (Search.At n) = (j ≤ n) × (n < j + k) × (p n ≡ true)
+Outcome p j k None = (i : ℕ) → j ≤ i → i < j + k → p i ≡ false
+Outcome p j k (Some n) = (j ≤ n) × (n < j + k) × (p n ≡ true)
 
 pub lowest-outcome : (p : ℕ → Bool) (j k : ℕ) → Outcome p j k (lowest p j k)
 lowest-outcome p j k = of (lowest p j k) (lowest-found p j k)
   where
     of : (s : Search) → Found p j k s → Outcome p j k s
-    of Search.Nothing h = h
-    of (Search.At n) h = (h.from, h.below, h.passes)
+    of None h = h
+    of (Some n) h = (h.from, h.below, h.passes)

@@ -11,6 +11,7 @@ use Rattle.rules.proofs.Memory.Invariant.{Invariant, Onward, onward-itself, onwa
 use Rattle.rules.proofs.Memory.Room.{HasRoom, room}
 use Rattle.rules.proofs.Memory.BlockChanges.{onward-cell, onward-make, make-given, onward-free}
 use Rattle.rules.specs.Types.{Pointer, Value, Evaluated, Found, Search, Block}
+use Rattle.std.specs.Prelude.{Err, None, Ok, Some}
 
 pub change-kept : (m : Memory) (c : Change Memory) → Onward m (changed_memory c) → ChangeKeeps (Onward m) AnyNumber c
 change-kept m (changed m₁) h = h
@@ -18,9 +19,9 @@ change-kept m (stopped c m₁) h = (tt, h)
 
 pub onward-assigned : (m : Memory) (f : Found) (e : Evaluated) → Invariant m
     → Onward m (changed_memory (assigned m f e))
-onward-assigned m (Found.Stopped k) e y = onward-itself y
-onward-assigned m (Found.Place p) (Evaluated.Stopped k) y = onward-itself y
-onward-assigned m (Found.Place p) (Evaluated.Value v) y = onward-cell m p v y
+onward-assigned m (Err k) e y = onward-itself y
+onward-assigned m (Ok p) (Err k) y = onward-itself y
+onward-assigned m (Ok p) (Ok v) y = onward-cell m p v y
 
 -- a block that is made has a name that was unused, and is no more
 abbrev pub Given : Memory → ℕ → Memory → Type 0
@@ -33,9 +34,9 @@ pub onward-made : (m : Memory) (u : Use) (n : ℕ) → Invariant m → MadeFrom 
 onward-made m u n y = go (next_name m) (free_run m n) (room m n)
   where
     go : (r s : Search) → HasRoom m n r s → MadeFrom m (make_at m u n r s)
-    go Search.Nothing s h = tt
-    go (Search.At k) Search.Nothing h = tt
-    go (Search.At k) (Search.At first) h = (h.unused, onward-make m u n k first h y, make-given m u n k first h y)
+    go None s h = tt
+    go (Some k) None h = tt
+    go (Some k) (Some first) h = (h.unused, onward-make m u n k first h y, make-given m u n k first h y)
 
 onward-new : (m : Memory) (p : Pointer) (r : Made Memory) → MadeFrom m r → Invariant m
     → Onward m (changed_memory (store_new m p r))
@@ -50,11 +51,11 @@ onward-sized m p (negsuc n) y = onward-itself y
 
 pub onward-allocated : (m : Memory) (f : Found) (e : Evaluated) → Invariant m
     → Onward m (changed_memory (allocated m f e))
-onward-allocated m (Found.Stopped k) e y = onward-itself y
-onward-allocated m (Found.Place p) (Evaluated.Stopped k) y = onward-itself y
-onward-allocated m (Found.Place p) (Evaluated.Value Value.Undefined) y = onward-itself y
-onward-allocated m (Found.Place p) (Evaluated.Value (Value.Integer z)) y = onward-sized m p z y
-onward-allocated m (Found.Place p) (Evaluated.Value (Value.Pointer q)) y = onward-itself y
+onward-allocated m (Err k) e y = onward-itself y
+onward-allocated m (Ok p) (Err k) y = onward-itself y
+onward-allocated m (Ok p) (Ok Value.Undefined) y = onward-itself y
+onward-allocated m (Ok p) (Ok (Value.Integer z)) y = onward-sized m p z y
+onward-allocated m (Ok p) (Ok (Value.Pointer q)) y = onward-itself y
 
 onward-free_of : (m : Memory) (k : ℕ) (b : Block) → block_of m k ≡ b → Invariant m
     → Onward m (changed_memory (free_of m k b))
@@ -64,17 +65,17 @@ onward-free_of m k (Block.Freeable first n) e y = onward-free m k first n e y
 onward-free_of m k Block.Dead e y = onward-itself y
 
 onward-free_at : (m : Memory) (p : Pointer) → Invariant m
-    → Onward m (changed_memory (freed m (Evaluated.Value (Value.Pointer p))))
+    → Onward m (changed_memory (freed m (Ok (Value.Pointer p))))
 onward-free_at m p y = go p.offset
   where
     go : (z : ℤ)
-        → Onward m (changed_memory (freed m (Evaluated.Value (Value.Pointer (record { name = p.name; offset = z })))))
+        → Onward m (changed_memory (freed m (Ok (Value.Pointer (record { name = p.name; offset = z })))))
     go (pos zero) = onward-free_of m p.name (block_of m p.name) refl y
     go (pos (suc o)) = onward-itself y
     go (negsuc o) = onward-itself y
 
 pub onward-freed : (m : Memory) (e : Evaluated) → Invariant m → Onward m (changed_memory (freed m e))
-onward-freed m (Evaluated.Stopped k) y = onward-itself y
-onward-freed m (Evaluated.Value Value.Undefined) y = onward-itself y
-onward-freed m (Evaluated.Value (Value.Integer z)) y = onward-itself y
-onward-freed m (Evaluated.Value (Value.Pointer p)) y = onward-free_at m p y
+onward-freed m (Err k) y = onward-itself y
+onward-freed m (Ok Value.Undefined) y = onward-itself y
+onward-freed m (Ok (Value.Integer z)) y = onward-itself y
+onward-freed m (Ok (Value.Pointer p)) y = onward-free_at m p y

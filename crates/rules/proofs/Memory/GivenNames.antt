@@ -22,6 +22,7 @@ use Rattle.rules.proofs.Memory.BlockChanges.{onward-make, make-given, end-given}
 use Rattle.rules.proofs.Memory.Changes.{change-kept, onward-assigned, onward-allocated, onward-freed}
 use Rattle.rules.proofs.Runs.EvaluatedValues.{CellHas, TemporaryHas, EvaluatedHas, FoundHas}
 use Rattle.rules.specs.Types.{Pointer, Value, Evaluated, Found, Search, Recorded, Cell, Temporary}
+use Rattle.std.specs.Prelude.{None, Some}
 
 -- a name that was given
 abbrev pub IsGiven : Memory → ℕ → Type 0
@@ -60,8 +61,8 @@ module _ (m m₁ : Memory) (stay : Stay m m₁) where
   cell_stays (Cell.Holds o v) h = value_stays v h
 
   temporary-stays : (t : Temporary) → TemporaryHas (GivenValue m) t → TemporaryHas (GivenValue m₁) t
-  temporary-stays Temporary.Empty h = tt
-  temporary-stays (Temporary.Holds v) h = value_stays v h
+  temporary-stays None h = tt
+  temporary-stays (Some v) h = value_stays v h
 
   pub temporaries-stay : {τ : Temporaries} → TemporariesGiven m τ → TemporariesGiven m₁ τ
   temporaries-stay h = all-change temporary-stays h
@@ -83,9 +84,9 @@ pub make_block-given : (m : Memory) (u : Use) (n : ℕ) → Invariant m → Cell
 make_block-given m u n y h = go (next_name m) (free_run m n) (room m n)
   where
     go : (r s : Search) → HasRoom m n r s → MadeKeeps (MadeGiven m) AnyNumber (make_at m u n r s)
-    go Search.Nothing s w = tt
-    go (Search.At k) Search.Nothing w = tt
-    go (Search.At k) (Search.At first) w =
+    go None s w = tt
+    go (Some k) None w = tt
+    go (Some k) (Some first) w =
         let m₁ = with_block m u k first n in
         let onward : Onward m m₁ = onward-make m u n k first w y in (
           onward,

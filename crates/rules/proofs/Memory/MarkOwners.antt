@@ -15,7 +15,7 @@ use Rattle.rules.specs.Memory.{named, lowest_run, fill, set_named}
 use Rattle.rules.specs.Observation.{Observation, record_of, covers, covered, mark_run, with_marks, empty_observation}
 use Rattle.rules.specs.Observation.{initialise, kept, pointer_to, mark_all}
 use Rattle.rules.specs.Watched.{called_on}
-use Rattle.rules.specs.Types.{Value, Evaluated, Search, Recorded}
+use Rattle.rules.specs.Types.{Value, Evaluated, Recorded}
 use Rattle.rules.proofs.Lists.Rows.{get_d-zero}
 use Rattle.rules.proofs.Lists.Lists.{length-fill}
 use Rattle.rules.proofs.Lists.RunLaws.{NoneBelow, lowest_taken, lowest_given, none-taken, none-given, taken-within}
@@ -32,6 +32,7 @@ use Rattle.rules.proofs.Memory.ObservationKept.{kept-keeps}
 use Rattle.rules.proofs.Runs.Keeping.{AnyNumber}
 use Rattle.rules.proofs.Runs.TargetRuns.{NotedKeeps}
 use Rattle.rules.proofs.Runs.Calls.{initialise-keeps}
+use Rattle.std.specs.Prelude.{Err, Ok, Some}
 
 -- mark i lies in no live block where its owner is 0, and in the live block of its owner's name where it is not
 abbrev pub OwnedBy : List Recorded → ℕ → ℕ → Type 0
@@ -162,7 +163,7 @@ module _ {o : Observation} {owners : List ℕ} (h : MarksOwned o owners) (k firs
       go false e (above p) = rw (filled-above i p c) (old i e (h.owned i c))
 
 module _ {o : Observation} {owners : List ℕ} (h : MarksOwned o owners) (k first n : ℕ) where
-  pub store-owned : record_of o k ≡ Recorded.Unused → mark_run o n ≡ Search.At first
+  pub store-owned : record_of o k ≡ Recorded.Unused → mark_run o n ≡ Some first
       → MarksOwned (with_marks o k (Recorded.Live first n) first n) (owners_taken owners k first n)
   store-owned d e = record {
     orderly = orderly-calls.storing o k first n h.orderly d e;
@@ -238,16 +239,16 @@ module _ {owners : List ℕ} where
 
   pub initialise-owned : {o : Observation} → MarksOwned o owners → (e : Evaluated)
       → MarksOwned (kept o (called_on e (initialise o))) owners
-  initialise-owned {o} h (Evaluated.Value v) =
+  initialise-owned {o} h (Ok v) =
       kept-keeps (λ x. MarksOwned x owners) o (initialise o v) h (initialise-noted h v)
-  initialise-owned h (Evaluated.Stopped c) = h
+  initialise-owned h (Err c) = h
 
   pub mark_all-owned : {o : Observation} → MarksOwned o owners → (k n : ℕ) → MarksOwned (mark_all o k n) owners
   unfolding mark_all
   mark_all-owned h k zero = h
   mark_all-owned {o} h k (suc n) =
       let f : MarksOwned (mark_all o k n) owners = mark_all-owned h k n in
-      initialise-owned f (Evaluated.Value (pointer_to k n))
+      initialise-owned f (Ok (pointer_to k n))
 
 -- at the start no mark has an owner
 pub empty-owned : MarksOwned empty_observation (replicate (suc cell_count) 0)

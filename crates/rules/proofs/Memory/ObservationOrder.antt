@@ -31,6 +31,8 @@ use Rattle.rules.proofs.Runs.Keeping.{AnyNumber}
 use Rattle.rules.proofs.Runs.TargetRuns.{NotedKeeps}
 use Rattle.rules.proofs.Runs.Calls.{CallsKeep}
 use Rattle.rules.specs.Types.{Pointer, Value, Located, Search, Recorded}
+use Rattle.std.specs.Prelude.{Err, None, Ok, Some}
+use Rattle.rules.specs.Types.{Miss}
 
 pub record OrderlyObservation (o : Observation) : Type 0 where
   -- 02 §5: "Each memory has 4,095 block records"
@@ -79,7 +81,7 @@ not-true true e = absurd (true≢false (sym e))
 not-true false e = refl
 
 -- no live block covers a mark of the run that is found
-mark_run-free : (o : Observation) (n first i : ℕ) → mark_run o n ≡ Search.At first → first ≤ i → i < first + n
+mark_run-free : (o : Observation) (n first i : ℕ) → mark_run o n ≡ Some first → first ≤ i → i < first + n
     → coverage o.blocks i ≡ 0
 unfolding lowest_run
 mark_run-free o n first i e p q =
@@ -87,7 +89,7 @@ mark_run-free o n first i e p q =
     coverage-none o.blocks i (not-true (covered o.blocks i) (all_free-at _ first n i h.2 p q))
 
 -- its marks are 0 already
-pub mark_run-clear : (o : Observation) (n first : ℕ) → OrderlyObservation o → mark_run o n ≡ Search.At first
+pub mark_run-clear : (o : Observation) (n first : ℕ) → OrderlyObservation o → mark_run o n ≡ Some first
     → fill o.marks first n false ≡ o.marks
 mark_run-clear o n first y e =
     fill-same false o.marks first n false
@@ -130,7 +132,7 @@ with-marks o k b first n y places fits once rest = record {
     go i c false e (above p) = fill-above o.marks first n false i false p ∙ free-before i c e
 
 store-orderly : (o : Observation) (k first n : ℕ) → OrderlyObservation o → record_of o k ≡ Recorded.Unused
-    → mark_run o n ≡ Search.At first → OrderlyObservation (with_marks o k (Recorded.Live first n) first n)
+    → mark_run o n ≡ Some first → OrderlyObservation (with_marks o k (Recorded.Live first n) first n)
 store-orderly o k first n y d e =
     with-marks o k (Recorded.Live first n) first n y places
     (λ a l h. let r = live-parts first n a l h in omega (arith, places, r.0, r.1))
@@ -171,7 +173,7 @@ pub record Stored (o : Observation) (k : ℕ) (z : ℤ) (o₁ : Observation) : T
   pub size : ℕ
   pub asked : z ≡ pos size
   -- "placed by the same lowest-run rule"
-  pub placed : mark_run o size ≡ Search.At first
+  pub placed : mark_run o size ≡ Some first
   pub live : record_of o₁ k ≡ Recorded.Live first size
   -- "a stored block's marks start at 0"
   pub clear : (i : ℕ) → first ≤ i → i < first + size → is_marked o₁ i ≡ false
@@ -182,7 +184,7 @@ stored o p z o₁ y e = subst (NotedKeeps (Stored o p.name z) AnyNumber) e (size
   where
     found : (k n : ℕ) (b : Recorded) (r : Search) → record_of o k ≡ b → mark_run o n ≡ r
         → NotedKeeps (Stored o k (pos n)) AnyNumber (store_at o k n b r)
-    found k n Recorded.Unused (Search.At first) d g =
+    found k n Recorded.Unused (Some first) d g =
         let r = named_in o.blocks k Recorded.Dead (λ h. dead-is-not-unused (sym h ∙ d)) in
         let places = run-bound _ n first g in
         record {
@@ -193,7 +195,7 @@ stored o p z o₁ y e = subst (NotedKeeps (Stored o p.name z) AnyNumber) e (size
           live = named-set_named-same o.blocks k (Recorded.Live first n) Recorded.Dead r.0 r.1;
           clear = λ i a b. fill-inside o.marks first n false i false (omega (arith, places, y.mark-count)) a b;
         }
-    found k n Recorded.Unused Search.Nothing d g = tt
+    found k n Recorded.Unused None d g = tt
     found k n (Recorded.Live first l) r d g = tt
     found k n Recorded.Dead r d g = tt
 
@@ -206,9 +208,9 @@ stored o p z o₁ y e = subst (NotedKeeps (Stored o p.name z) AnyNumber) e (size
 
 -- ---- a mark is set: where a pointer leads lies in the block that it names
 abbrev LeadsInto : Recorded → Located → Type 0
-LeadsInto b (Located.At i) = one (covers b i) ≡ 1
-LeadsInto b Located.Dead = Unit {0}
-LeadsInto b Located.Outside = Unit {0}
+LeadsInto b (Ok i) = one (covers b i) ≡ 1
+LeadsInto b (Err Miss.Dead) = Unit {0}
+LeadsInto b (Err Miss.Outside) = Unit {0}
 
 leads-into : (b : Recorded) (z : ℤ) → LeadsInto b (located_in b z)
 leads-into Recorded.Unused z = tt
@@ -217,11 +219,11 @@ leads-into (Recorded.Live first n) (negsuc x) = tt
 leads-into (Recorded.Live first n) (pos x) = pick (ltb x n) refl
   where
     pick : (t : Bool) → ltb x n ≡ t
-        → LeadsInto (Recorded.Live first n) (cond t (Located.At (first + x)) Located.Outside)
+        → LeadsInto (Recorded.Live first n) (cond t (Ok (first + x)) (Err Miss.Outside))
     pick true e = ap one (covers-inside first n (first + x) (omega arith) (omega (arith, ltb-true x n e)))
     pick false e = tt
 
-mark-orderly : (o : Observation) (p : Pointer) (i : ℕ) → OrderlyObservation o → locate_mark o p ≡ Located.At i
+mark-orderly : (o : Observation) (p : Pointer) (i : ℕ) → OrderlyObservation o → locate_mark o p ≡ Ok i
     → OrderlyObservation (record { blocks = o.blocks; marks = set o.marks i true })
 mark-orderly o p i y e = record {
   record-count = y.record-count;

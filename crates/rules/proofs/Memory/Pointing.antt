@@ -12,12 +12,14 @@ use Rattle.rules.specs.Observation.{covers}
 use Rattle.rules.proofs.Memory.MemoryLaws.{covers-inside}
 use Rattle.rules.proofs.Memory.Invariant.{Invariant}
 use Rattle.rules.specs.Types.{Pointer, Located, Recorded}
+use Rattle.std.specs.Prelude.{Err, Ok}
+use Rattle.rules.specs.Types.{Miss}
 
 -- block k covers the cell, which is one of the 1,024
 abbrev pub Leads : Memory → ℕ → Located → Type 0
-Leads m k (Located.At i) = (covers (recorded_of (block_of m k)) i ≡ true) × (i < cell_count)
-Leads m k Located.Dead = Unit {0}
-Leads m k Located.Outside = Unit {0}
+Leads m k (Ok i) = (covers (recorded_of (block_of m k)) i ≡ true) × (i < cell_count)
+Leads m k (Err Miss.Dead) = Unit {0}
+Leads m k (Err Miss.Outside) = Unit {0}
 
 pub leads : (m : Memory) (p : Pointer) → Invariant m → Leads m p.name (locate m p)
 unfolding locate
@@ -29,7 +31,7 @@ leads m p y = go (recorded_of (block_of m p.name)) p.offset refl
     go (Recorded.Live first n) (negsuc o) e = tt
     go (Recorded.Live first n) (pos o) e = at (ltb o n) refl
       where
-        at : (b : Bool) → ltb o n ≡ b → Leads m p.name (cond b (Located.At (first + o)) Located.Outside)
+        at : (b : Bool) → ltb o n ≡ b → Leads m p.name (cond b (Ok (first + o)) (Err Miss.Outside))
         at false h = tt
         at true h =
             let inner = ltb-true o n h in (
@@ -44,6 +46,6 @@ pub at-pointed : {A : Type 0} (P : A → Type 0) (at stop : ℕ → A) (m : Memo
 at-pointed P at stop m p y g h = go (locate m p) (leads m p y)
   where
     go : (r : Located) → Leads m p.name r → P (at_cell at stop r)
-    go (Located.At i) w = g i w.0
-    go Located.Dead w = h 42
-    go Located.Outside w = h 50
+    go (Ok i) w = g i w.0
+    go (Err Miss.Dead) w = h 42
+    go (Err Miss.Outside) w = h 50

@@ -8,6 +8,7 @@ use Rattle.rules.specs.Memory.{Memory, block_of, cell_of, all_free, lowest_run, 
 use Rattle.rules.proofs.Lists.SearchLaws.{Found, lowest-found}
 use Rattle.rules.proofs.Memory.MemoryLaws.{all_free-at}
 use Rattle.rules.specs.Types.{Search, Block}
+use Rattle.std.specs.Prelude.{None, Some}
 
 -- a name, the lowest that is unused, and cells for a new block
 pub record Room (m : Memory) (n k first : ℕ) : Type 0 where
@@ -19,9 +20,9 @@ pub record Room (m : Memory) (n k first : ℕ) : Type 0 where
   pub clear : (i : ℕ) → first ≤ i → i < first + n → is_free (cell_of m i) ≡ true
 
 abbrev pub HasRoom : Memory → ℕ → Search → Search → Type 0
-HasRoom m n Search.Nothing s = Unit {0}
-HasRoom m n (Search.At k) Search.Nothing = Unit {0}
-HasRoom m n (Search.At k) (Search.At first) = Room m n k first
+HasRoom m n None s = Unit {0}
+HasRoom m n (Some k) None = Unit {0}
+HasRoom m n (Some k) (Some first) = Room m n k first
 
 unused-is : (b : Block) → is_unused b ≡ true → b ≡ Block.Unused
 unused-is Block.Unused e = refl
@@ -35,9 +36,9 @@ room m n = go (next_name m) (free_run m n) (lowest-found _ _ _) (lowest-found _ 
   where
     go : (r s : Search) → Found (λ k. is_unused (block_of m k)) 1 name_count r
         → Found (λ s. all_free (λ i. is_free (cell_of m i)) s n) 0 (suc cell_count - n) s → HasRoom m n r s
-    go Search.Nothing s p q = tt
-    go (Search.At k) Search.Nothing p q = tt
-    go (Search.At k) (Search.At first) p q = record {
+    go None s p q = tt
+    go (Some k) None p q = tt
+    go (Some k) (Some first) p q = record {
       unused = unused-is (block_of m k) p.passes;
       lower = p.none-lower;
       from = p.from;

@@ -37,7 +37,8 @@ use Rattle.rules.proofs.Memory.GivenNames.{temporaries-stay, MadeGiven, make_blo
 use Rattle.rules.proofs.Memory.GivenNames.{assigned-given, allocated-given, freed-given, numbers-given}
 use Rattle.rules.proofs.Memory.GivenNames.{moves-given}
 use Rattle.rules.proofs.Memory.GivenNames.{opposite-given, queried-given}
-use Rattle.rules.specs.Types.{Evaluated, Cell, Temporary}
+use Rattle.rules.specs.Types.{Evaluated, Cell}
+use Rattle.std.specs.Prelude.{Err, None, Some}
 
 -- the variables in scope have blocks whose names were given
 abbrev pub VariablesGiven : Scope → Variables → Memory → Type 0
@@ -98,7 +99,7 @@ module _ (σ : Scope) (ρ : Variables) (x : WatchedState) (i : GivenState σ ρ 
   τ = x.temporaries
 
   held-given : (n : ℕ) → EvaluatedHas (GivenValue m) (held_in τ n)
-  held-given n = held-has (GivenValue m) (temporary_of τ n) (all_get_d i.temporaries n Temporary.Empty tt)
+  held-given n = held-has (GivenValue m) (temporary_of τ n) (all_get_d i.temporaries n None tt)
 
   cell-given : (j : ℕ) → CellHas (GivenValue m) (cell_of m j)
   cell-given j = all_get_d i.cells j Cell.Free tt
@@ -151,21 +152,21 @@ module _ (σ : Scope) (ρ : Variables) (x : WatchedState) (i : GivenState σ ρ 
       taken-keeps (GivenState σ ρ) AnyNumber (GivenValue m) x n e i h (λ w g. record {
         invariant = i.invariant;
         cells = i.cells;
-        temporaries = all_set i.temporaries n {x = Temporary.Holds w} g;
+        temporaries = all_set i.temporaries n {x = Some w} g;
         variables = i.variables;
       })
 
   query-given : (q : Query) (n : ℕ)
-      → EvaluatedHas (GivenValue m) (on_value (held_in τ n) Evaluated.Stopped (query_observation q x.observation))
+      → EvaluatedHas (GivenValue m) (on_value (held_in τ n) Err (query_observation q x.observation))
   query-given q n =
-      on_value_lem (EvaluatedHas (GivenValue m)) AnyNumber Evaluated.Stopped (λ c y. tt) (held_in τ n) _ (held-given n)
+      on_value_lem (EvaluatedHas (GivenValue m)) AnyNumber Err (λ c y. tt) (held_in τ n) _ (held-given n)
       (λ v g.
-      on-pointer (EvaluatedHas (GivenValue m)) AnyNumber Evaluated.Stopped (λ c y. tt) (GivenValue m) v _ tt g (λ p h.
+      on-pointer (EvaluatedHas (GivenValue m)) AnyNumber Err (λ c y. tt) (GivenValue m) v _ tt g (λ p h.
       queried-given m q (record_of x.observation p.name) (λ j. is_marked x.observation j) p h))
 
-  not-given : (n : ℕ) → EvaluatedHas (GivenValue m) (on_value (held_in τ n) Evaluated.Stopped opposite)
+  not-given : (n : ℕ) → EvaluatedHas (GivenValue m) (on_value (held_in τ n) Err opposite)
   not-given n =
-      on_value_lem (EvaluatedHas (GivenValue m)) AnyNumber Evaluated.Stopped (λ c y. tt) (held_in τ n) _ (held-given n)
+      on_value_lem (EvaluatedHas (GivenValue m)) AnyNumber Err (λ c y. tt) (held_in τ n) _ (held-given n)
       (λ v g. opposite-given m v)
 
   observed-given : (r : Noted) → ChangeKeeps (GivenState σ ρ) AnyNumber (observed x r)

@@ -14,6 +14,7 @@ use Rattle.rules.specs.Flow.{ended, ending, after}
 use Rattle.rules.specs.Watched.{Temporaries, held_in, watching, value_in, taken, watch}
 use Rattle.rules.proofs.Memory.ComparedPointers.{operator-7-ends-47}
 use Rattle.rules.specs.Types.{Pointer, Value, Evaluated, Recorded}
+use Rattle.std.specs.Prelude.{Err, Ok}
 
 -- 02 §4: "an expression, there too, asks the execution memory": what it gives does not depend on the observation memory
 pub expressions-ask-the-execution-memory : (e : Expression ℕ) (ρ : Variables) (m : Memory) (o o₁ : Observation)
@@ -34,13 +35,13 @@ kind-63-asks-the-observation-memory s n q ρ m m₁ o τ f =
         → let x = ending (after s ρ f (taken (watching m o τ) n e)) in
         let y = ending (after s ρ f (taken (watching m₁ o τ) n e)) in
         (x.number ≡ y.number) × (x.state.temporaries ≡ y.state.temporaries)
-    go (Evaluated.Value v) = (refl, refl)
-    go (Evaluated.Stopped c) = (refl, refl)
+    go (Ok v) = (refl, refl)
+    go (Err c) = (refl, refl)
 
 -- 02 §4: "A hand-made target whose 63 compares a block never recorded also ends 47."
 module _ (s n : ℕ) (ρ : Variables) (m : Memory) (o : Observation) (τ : Temporaries) (f : ℕ) (p q : Pointer)
-    (left : held_in τ (suc n) ≡ Evaluated.Value (Value.Pointer p))
-    (right : held_in τ (suc (suc n)) ≡ Evaluated.Value (Value.Pointer q)) where
+    (left : held_in τ (suc n) ≡ Ok (Value.Pointer p))
+    (right : held_in τ (suc (suc n)) ≡ Ok (Value.Pointer q)) where
   pub never-recorded-ends-47 : (record_of o p.name ≡ Recorded.Unused) ⊎ (record_of o q.name ≡ Recorded.Unused)
       → watch (take_operation s n (operator_of 7)) ρ (watching m o τ) f ≡ ended 47 s ρ [] (watching m o τ) f
   unfolding watch

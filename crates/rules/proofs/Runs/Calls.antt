@@ -12,21 +12,23 @@ use Rattle.rules.specs.Watched.{called_on, called_on_two}
 use Rattle.rules.proofs.Runs.Keeping.{AnyValue, Gives, on_value_lem, on-integer, on-pointer}
 use Rattle.rules.proofs.Runs.TargetRuns.{NotedKeeps}
 use Rattle.rules.specs.Types.{Pointer, Value, Evaluated, Located, Search, Recorded}
+use Rattle.std.specs.Prelude.{Err, None, Ok, Some}
+use Rattle.rules.specs.Types.{Miss}
 
 -- O is kept by the three calls that change the observation memory: a block is stored under an unused name in the lowest
 -- run of free marks, a live block is deleted, a mark of a live block is set
 pub record CallsKeep (O : Observation → Type 0) : Type 0 where
   pub storing : (o : Observation) (k first n : ℕ) → O o → record_of o k ≡ Recorded.Unused
-      → mark_run o n ≡ Search.At first → O (with_marks o k (Recorded.Live first n) first n)
+      → mark_run o n ≡ Some first → O (with_marks o k (Recorded.Live first n) first n)
   pub deleting : (o : Observation) (k first n : ℕ) → O o → record_of o k ≡ Recorded.Live first n
       → O (with_marks o k Recorded.Dead first n)
-  pub marking : (o : Observation) (p : Pointer) (i : ℕ) → O o → locate_mark o p ≡ Located.At i
+  pub marking : (o : Observation) (p : Pointer) (i : ℕ) → O o → locate_mark o p ≡ Ok i
       → O (record { blocks = o.blocks; marks = set o.marks i true })
 
 -- O of the observation memory, E of the number of a refusal
 module _ (O : Observation → Type 0) (E : ℕ → Type 0) (wrong : E 40) (misused : E 48) where
   pub store_block-keeps : (o : Observation) (v w : Value)
-      → ((k n first : ℕ) → record_of o k ≡ Recorded.Unused → mark_run o (suc n) ≡ Search.At first
+      → ((k n first : ℕ) → record_of o k ≡ Recorded.Unused → mark_run o (suc n) ≡ Some first
       → O (with_marks o k (Recorded.Live first (suc n)) first (suc n)))
       → NotedKeeps O E (store_block o v w)
   store_block-keeps o v w g =
@@ -35,8 +37,8 @@ module _ (O : Observation → Type 0) (E : ℕ → Type 0) (wrong : E 40) (misus
     where
       found : (k n : ℕ) (b : Recorded) (r : Search) → record_of o k ≡ b → mark_run o (suc n) ≡ r
           → NotedKeeps O E (store_at o k (suc n) b r)
-      found k n Recorded.Unused Search.Nothing d e = misused
-      found k n Recorded.Unused (Search.At first) d e = g k n first d e
+      found k n Recorded.Unused None d e = misused
+      found k n Recorded.Unused (Some first) d e = g k n first d e
       found k n (Recorded.Live first l) r d e = misused
       found k n Recorded.Dead r d e = misused
 
@@ -64,15 +66,15 @@ module _ (O : Observation → Type 0) (E : ℕ → Type 0) (wrong : E 40) (misus
       from k (negsuc i) = misused
 
   pub initialise-keeps : (o : Observation) (v : Value)
-      → ((p : Pointer) (i : ℕ) → locate_mark o p ≡ Located.At i
+      → ((p : Pointer) (i : ℕ) → locate_mark o p ≡ Ok i
       → O (record { blocks = o.blocks; marks = set o.marks i true })) → NotedKeeps O E (initialise o v)
   initialise-keeps o v g =
       on-pointer (NotedKeeps O E) E refused (λ c x. x) AnyValue v _ wrong tt (λ p u. found p (locate_mark o p) refl)
     where
       found : (p : Pointer) (l : Located) → locate_mark o p ≡ l → NotedKeeps O E (mark_at o l)
-      found p (Located.At i) e = g p i e
-      found p Located.Dead e = misused
-      found p Located.Outside e = misused
+      found p (Ok i) e = g p i e
+      found p (Err Miss.Dead) e = misused
+      found p (Err Miss.Outside) e = misused
 
   called : (e : Evaluated) (call : Value → Noted) → Gives AnyValue E e
       → ((v : Value) → NotedKeeps O E (call v)) → NotedKeeps O E (called_on e call)
@@ -80,7 +82,7 @@ module _ (O : Observation → Type 0) (E : ℕ → Type 0) (wrong : E 40) (misus
 
   -- with what temporaries hold
   pub store-called : (o : Observation) (a b : Evaluated) → Gives AnyValue E a → Gives AnyValue E b
-      → ((k n first : ℕ) → record_of o k ≡ Recorded.Unused → mark_run o (suc n) ≡ Search.At first
+      → ((k n first : ℕ) → record_of o k ≡ Recorded.Unused → mark_run o (suc n) ≡ Some first
       → O (with_marks o k (Recorded.Live first (suc n)) first (suc n)))
       → NotedKeeps O E (called_on_two a b (store_block o))
   store-called o a b h k g =
@@ -93,7 +95,7 @@ module _ (O : Observation → Type 0) (E : ℕ → Type 0) (wrong : E 40) (misus
   delete-called o e h g = called e (delete_block o) h (λ v. delete_block-keeps o v g)
 
   pub initialise-called : (o : Observation) (e : Evaluated) → Gives AnyValue E e
-      → ((p : Pointer) (i : ℕ) → locate_mark o p ≡ Located.At i
+      → ((p : Pointer) (i : ℕ) → locate_mark o p ≡ Ok i
       → O (record { blocks = o.blocks; marks = set o.marks i true }))
       → NotedKeeps O E (called_on e (initialise o))
   initialise-called o e h g = called e (initialise o) h (λ v. initialise-keeps o v g)

@@ -10,6 +10,8 @@ use Rattle.rules.proofs.Runs.Keeping.{AnyValue, AnyPlace, AnyState, AnyMade, Giv
 use Rattle.rules.proofs.Runs.Keeping.{MadeKeeps, assigned-keeps, make_at-keeps, allocated_keeps, freed-keeps}
 use Rattle.rules.proofs.Runs.EvaluationEndings.{EvaluatedAmong, FoundAmong, condition-among}
 use Rattle.rules.specs.Types.{Evaluated, Found, Test}
+use Rattle.std.specs.Prelude.{Err, Ok}
+use Rattle.std.specs.Prelude.{true, false}
 
 -- the numbers that evaluating stops with, and those that a run ends with
 pub record Numbers (stopping ending : List ℕ) : Type 0 where
@@ -34,13 +36,13 @@ watchedly = record {
 -- a statement's change of the memory
 module _ {stopping ending : List ℕ} (w : Numbers stopping ending) where
   ends-test : (t : Test) → TestStops (Among stopping) t → TestStops (Among ending) t
-  ends-test Test.Yes h = tt
-  ends-test Test.No h = tt
-  ends-test (Test.Stopped c) h = w.widen c h
+  ends-test (Ok true) h = tt
+  ends-test (Ok false) h = tt
+  ends-test (Err c) h = w.widen c h
 
   pub ends-evaluated : (e : Evaluated) → EvaluatedAmong AnyValue stopping e → Gives AnyValue (Among ending) e
-  ends-evaluated (Evaluated.Value v) h = tt
-  ends-evaluated (Evaluated.Stopped c) h = w.widen c h
+  ends-evaluated (Ok v) h = tt
+  ends-evaluated (Err c) h = w.widen c h
 
   pub ends-condition : (e : Evaluated) → EvaluatedAmong AnyValue stopping e → TestStops (Among ending) (condition e)
   ends-condition e h =

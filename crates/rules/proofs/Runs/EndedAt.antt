@@ -18,6 +18,8 @@ use Rattle.rules.proofs.Runs.Keeping.{TestStops, MadeKeeps}
 use Rattle.rules.proofs.Runs.TargetRuns.{assigning, allocating, freeing, operating, querying, negating, storing}
 use Rattle.rules.proofs.Runs.TargetRuns.{deleting, initialising, making, closing}
 use Rattle.rules.specs.Types.{Test}
+use Rattle.std.specs.Prelude.{Err, Ok}
+use Rattle.std.specs.Prelude.{true, false}
 
 -- P of the statement that there is
 abbrev pub There : {A : Type 0} → (A → Type 0) → Option A → Type 0
@@ -61,9 +63,9 @@ module _ {A S : Type 0} (children : A → List (Option A)) (K : A → ℕ → �
     ends-decide : (s : ℕ) (ρ : Variables) (t : Test) (x : S) (f : ℕ) (o p : Outcome S)
         → TestStops (λ c. K a c s ρ x) t → EndsAt a o → EndsAt a p → EndsAt a (decide s ρ t x f o p)
     unfolding statement_on
-    ends-decide s ρ Test.Yes x f o p k h g = h
-    ends-decide s ρ Test.No x f o p k h g = g
-    ends-decide s ρ (Test.Stopped c) x f o p k h g = k
+    ends-decide s ρ (Ok true) x f o p k h g = h
+    ends-decide s ρ (Ok false) x f o p k h g = g
+    ends-decide s ρ (Err c) x f o p k h g = k
 
     ends-turns : (J : S → Type 0) (s : ℕ) (ρ : Variables) (holds : S → Test) (n : ℕ) (b : A) (body : S → ℕ → Outcome S)
         → IsChild n b → ((x : S) → J x → TestStops (λ c. K a c s ρ x) (holds x)) → ((x : S) → J x → K a 32 s ρ x)

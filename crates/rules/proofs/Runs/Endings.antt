@@ -30,6 +30,7 @@ use Rattle.rules.proofs.Runs.TargetRuns.{NotedKeeps, WatchKeeps, watch-reaches, 
 use Rattle.rules.proofs.Runs.TargetRuns.{operating, querying, negating, storing, deleting, initialising, asked_in}
 use Rattle.rules.proofs.Runs.Calls.{store-called, delete-called, initialise-called}
 use Rattle.rules.specs.Types.{Value, Evaluated, Temporary}
+use Rattle.std.specs.Prelude.{Err, None, Some}
 
 -- what a run may end with
 abbrev pub EndsAmong : {S : Type 0} → List ℕ → Outcome S → Type 0
@@ -78,8 +79,8 @@ run-endings a ρ m f = reached-among plain_endings m f (run a ρ m f) (run-reach
 
 -- the watched run
 held-among : (t : Temporary) → EvaluatedAmong AnyValue temporary_endings (held t)
-held-among Temporary.Empty = refl
-held-among (Temporary.Holds v) = tt
+held-among None = refl
+held-among (Some v) = tt
 
 target-among : (e : Expression ℕ) (τ : Temporaries) (ρ : Variables) (m : Memory)
     → EvaluatedAmong AnyValue temporary_endings (evaluate e (temporary_of τ) ρ m)
@@ -99,7 +100,7 @@ held-ends x n = ends-evaluated watchedly (holding x n) (held-among (temporary_of
 query-among : (q : tree.Query) (o : Observation) (v : Value)
     → EvaluatedAmong AnyValue temporary_endings (query_observation q o v)
 query-among q o v =
-    on-pointer (EvaluatedAmong AnyValue temporary_endings) (Among temporary_endings) Evaluated.Stopped (λ c x. x) AnyValue
+    on-pointer (EvaluatedAmong AnyValue temporary_endings) (Among temporary_endings) Err (λ c x. x) AnyValue
     v _ refl tt (λ p u.
     queried-among AnyValue (λ z. tt) (λ p. tt) temporary_endings watchedly.enough q (record_of o p.name)
     (λ i. is_marked o i) p)
@@ -143,12 +144,12 @@ watch-ends = record {
       (held-among (temporary_of x.temporaries (suc (suc n)))));
   takes-query = λ n q x v.
       taken-ends x n (querying q n x)
-      (on_value_lem (EvaluatedAmong AnyValue temporary_endings) (Among temporary_endings) Evaluated.Stopped (λ c y. y)
+      (on_value_lem (EvaluatedAmong AnyValue temporary_endings) (Among temporary_endings) Err (λ c y. y)
       (holding x (suc n)) _ (held-among (temporary_of x.temporaries (suc n)))
       (λ w u. query-among q x.observation w));
   takes-not = λ n x v.
       taken-ends x n (negating n x)
-      (on_value_lem (EvaluatedAmong AnyValue temporary_endings) (Among temporary_endings) Evaluated.Stopped (λ c y. y)
+      (on_value_lem (EvaluatedAmong AnyValue temporary_endings) (Among temporary_endings) Err (λ c y. y)
       (holding x (suc n)) _ (held-among (temporary_of x.temporaries (suc n)))
       (λ w u. opposite-among AnyValue (λ z. tt) (λ p. tt) temporary_endings watchedly.enough w));
   stores = λ n x v.

@@ -13,6 +13,7 @@ use Rattle.rules.proofs.Acceptance.Sound.{Scope, SoundExpression, SoundPlace}
 use Rattle.rules.proofs.Runs.Operations.{operated-gives}
 use Rattle.rules.proofs.Runs.Keeping.{AnyNumber, Gives, Finds, on_value_lem, on-place, on-pointer, at-cell}
 use Rattle.rules.specs.Types.{Pointer, Value, Evaluated, Found, Cell, Temporary}
+use Rattle.std.specs.Prelude.{Err, None, Ok, Some}
 
 -- G of the value that a cell or a temporary holds
 abbrev pub CellHas : (Value → Type 0) → Cell → Type 0
@@ -20,8 +21,8 @@ CellHas G Cell.Free = Unit {0}
 CellHas G (Cell.Holds o v) = G v
 
 abbrev pub TemporaryHas : (Value → Type 0) → Temporary → Type 0
-TemporaryHas G Temporary.Empty = Unit {0}
-TemporaryHas G (Temporary.Holds v) = G v
+TemporaryHas G None = Unit {0}
+TemporaryHas G (Some v) = G v
 
 abbrev pub EvaluatedHas : (Value → Type 0) → Evaluated → Type 0
 EvaluatedHas G e = Gives G AnyNumber e
@@ -31,16 +32,16 @@ FoundHas G f = Finds (λ p. G (Value.Pointer p)) AnyNumber f
 
 module _ (G : Value → Type 0) where
   pub held-has : (t : Temporary) → TemporaryHas G t → EvaluatedHas G (held t)
-  held-has Temporary.Empty h = tt
-  held-has (Temporary.Holds v) h = h
+  held-has None h = tt
+  held-has (Some v) h = h
 
   pub address_of-has : (f : Found) → FoundHas G f → EvaluatedHas G (address_of f)
-  address_of-has f h = on-place (EvaluatedHas G) AnyNumber Evaluated.Stopped (λ c x. tt) f _ h (λ p l. l)
+  address_of-has f h = on-place (EvaluatedHas G) AnyNumber Err (λ c x. tt) f _ h (λ p l. l)
 
   pointed_by-has : (e : Evaluated) → EvaluatedHas G e → FoundHas G (pointed_by e)
   pointed_by-has e h =
-      on_value_lem (FoundHas G) AnyNumber Found.Stopped (λ c x. tt) e _ h (λ v k.
-      on-pointer (FoundHas G) AnyNumber Found.Stopped (λ c x. tt) G v Found.Place tt k (λ p l. l))
+      on_value_lem (FoundHas G) AnyNumber Err (λ c x. tt) e _ h (λ v k.
+      on-pointer (FoundHas G) AnyNumber Err (λ c x. tt) G v Ok tt k (λ p l. l))
 
   defined-has : (c : Cell) → CellHas G c → EvaluatedHas G (defined c)
   defined-has Cell.Free h = tt
@@ -50,7 +51,7 @@ module _ (G : Value → Type 0) where
 
   read_cell-has : (m : Memory) (p : Pointer) → ((i : ℕ) → CellHas G (cell_of m i)) → EvaluatedHas G (read_cell m p)
   read_cell-has m p h =
-      at-cell (EvaluatedHas G) AnyNumber Evaluated.Stopped (λ c x. tt) (locate m p) _ tt tt
+      at-cell (EvaluatedHas G) AnyNumber Err (λ c x. tt) (locate m p) _ tt tt
       (λ i. defined-has (cell_of m i) (h i))
 
 -- N is what a temporary's name keeps, of no account here
@@ -70,7 +71,7 @@ module _ (G : Value → Type 0) (numbers : (z : ℤ) → in_range z ≡ true →
     pub evaluate-has : (e : Expression T) → SoundExpression e N σ → EvaluatedHas G (evaluate e τ ρ m)
     evaluate-has (literal z) h = numbers z h
     evaluate-has (read p) h =
-        on-place (EvaluatedHas G) AnyNumber Evaluated.Stopped (λ c x. tt) (find_place p τ ρ m) (read_cell m)
+        on-place (EvaluatedHas G) AnyNumber Err (λ c x. tt) (find_place p τ ρ m) (read_cell m)
         (find_place-has p h) (λ l k. read_cell-has G m l cells)
     evaluate-has (address p) h = address_of-has G (find_place p τ ρ m) (find_place-has p h)
     evaluate-has (operation o a b) h =

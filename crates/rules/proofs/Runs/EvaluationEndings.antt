@@ -20,6 +20,7 @@ use Rattle.rules.proofs.Runs.Keeping.{AnyPlace, Gives, Finds, TestStops, on_valu
 use Rattle.rules.proofs.Runs.Keeping.{on-pointer}
 use Rattle.rules.proofs.Runs.Keeping.{on-test, at-cell}
 use Rattle.rules.specs.Types.{Pointer, Value, Evaluated, Found, Recorded, Cell}
+use Rattle.std.specs.Prelude.{Err, Ok}
 
 -- G of the value; the numbers of stops
 abbrev pub EvaluatedAmong : (Value → Type 0) → List ℕ → Evaluated → Type 0
@@ -44,8 +45,8 @@ module _ (G : Value → Type 0) (integers : (z : ℤ) → G (Value.Integer z))
 
   among-value : (e : Evaluated) (next : Value → Evaluated) → EvaluatedAmong G numbers e
       → ((v : Value) → G v → EvaluatedAmong G numbers (next v))
-      → EvaluatedAmong G numbers (on_value e Evaluated.Stopped next)
-  among-value e next h g = on_value_lem (EvaluatedAmong G numbers) (Among numbers) Evaluated.Stopped (λ c x. x) e next h g
+      → EvaluatedAmong G numbers (on_value e Err next)
+  among-value e next h g = on_value_lem (EvaluatedAmong G numbers) (Among numbers) Err (λ c x. x) e next h g
 
   pub condition-among : (e : Evaluated) → EvaluatedAmong G numbers e → TestStops (Among numbers) (condition e)
   condition-among e h = condition-stops G (Among numbers) (λ z e. integers z) (λ p z g e. pointers _) operations e h
@@ -63,17 +64,17 @@ module _ (G : Value → Type 0) (integers : (z : ℤ) → G (Value.Integer z))
   defined-among (Cell.Holds o (Value.Pointer p)) = pointers p
 
   read_cell-among : (m : Memory) (p : Pointer) → EvaluatedAmong G numbers (read_cell m p)
-  read_cell-among m p = at-cell (EvaluatedAmong G numbers) (Among numbers) Evaluated.Stopped (λ c x. x) (locate m p) _
+  read_cell-among m p = at-cell (EvaluatedAmong G numbers) (Among numbers) Err (λ c x. x) (locate m p) _
       (enough 42 refl) (enough 50 refl) (λ i. defined-among (cell_of m i))
 
   pub address_of-among : (f : Found) → FoundAmong numbers f → EvaluatedAmong G numbers (address_of f)
-  address_of-among f h = on-place (EvaluatedAmong G numbers) (Among numbers) Evaluated.Stopped (λ c x. x) f _ h
+  address_of-among f h = on-place (EvaluatedAmong G numbers) (Among numbers) Err (λ c x. x) f _ h
       (λ p u. pointers p)
 
   pointed_by-among : (e : Evaluated) → EvaluatedAmong G numbers e → FoundAmong numbers (pointed_by e)
   pointed_by-among e h =
-      on_value_lem (FoundAmong numbers) (Among numbers) Found.Stopped (λ c x. x) e _ h (λ v u.
-      on-pointer (FoundAmong numbers) (Among numbers) Found.Stopped (λ c x. x) G v Found.Place (enough 40 refl) u
+      on_value_lem (FoundAmong numbers) (Among numbers) Err (λ c x. x) e _ h (λ v u.
+      on-pointer (FoundAmong numbers) (Among numbers) Err (λ c x. x) G v Ok (enough 40 refl) u
       (λ p w. tt))
 
   pub opposite-among : (v : Value) → EvaluatedAmong G numbers (opposite v)
@@ -87,7 +88,7 @@ module _ (G : Value → Type 0) (integers : (z : ℤ) → G (Value.Integer z))
         → EvaluatedAmong G numbers (evaluate e τ ρ m)
     evaluate-among (literal z) τ h ρ m = integers z
     evaluate-among (read p) τ h ρ m =
-        on-place (EvaluatedAmong G numbers) (Among numbers) Evaluated.Stopped (λ c x. x) (find_place p τ ρ m)
+        on-place (EvaluatedAmong G numbers) (Among numbers) Err (λ c x. x) (find_place p τ ρ m)
         (read_cell m)
         (find_place-among p τ h ρ m) (λ l u. read_cell-among m l)
     evaluate-among (address p) τ h ρ m = address_of-among (find_place p τ ρ m) (find_place-among p τ h ρ m)
@@ -117,9 +118,9 @@ module _ (G : Value → Type 0) (integers : (z : ℤ) → G (Value.Integer z))
       (evaluate_term-among b ρ m)
 
   tested-then : (v : Value) (x y : Evaluated) → EvaluatedAmong G numbers x → EvaluatedAmong G numbers y
-      → EvaluatedAmong G numbers (on_test (tested v) Evaluated.Stopped x y)
+      → EvaluatedAmong G numbers (on_test (tested v) Err x y)
   tested-then v x y p q =
-      on-test (EvaluatedAmong G numbers) (Among numbers) Evaluated.Stopped (λ c h. h) (tested v) x y
+      on-test (EvaluatedAmong G numbers) (Among numbers) Err (λ c h. h) (tested v) x y
       (tested-among v) p q
 
   pub evaluate_predicate-among : (p : Predicate) (ρ : Variables) (m : Memory)
@@ -134,7 +135,7 @@ module _ (G : Value → Type 0) (integers : (z : ℤ) → G (Value.Integer z))
       among-value (evaluate_predicate a ρ m) _ (evaluate_predicate-among a ρ m) (λ v u. opposite-among v)
   evaluate_predicate-among (both a b) ρ m =
       among-value (evaluate_predicate a ρ m) _ (evaluate_predicate-among a ρ m) (λ v u.
-      tested-then v (evaluate_predicate b ρ m) (Evaluated.Value v) (evaluate_predicate-among b ρ m) u)
+      tested-then v (evaluate_predicate b ρ m) (Ok v) (evaluate_predicate-among b ρ m) u)
   evaluate_predicate-among (either a b) ρ m =
       among-value (evaluate_predicate a ρ m) _ (evaluate_predicate-among a ρ m) (λ v u.
-      tested-then v (Evaluated.Value v) (evaluate_predicate b ρ m) u (evaluate_predicate-among b ρ m))
+      tested-then v (Ok v) (evaluate_predicate b ρ m) u (evaluate_predicate-among b ρ m))

@@ -10,6 +10,9 @@ use Rattle.rules.specs.Evaluation.{on_test}
 use Rattle.rules.specs.Answers.{plain_endings}
 use Rattle.rules.proofs.Lists.Among.{Among}
 use Rattle.rules.specs.Types.{Pointer, Value, Evaluated, Found, Test, Located, Search, Block, Cell}
+use Rattle.std.specs.Prelude.{Err, None, Ok, Some}
+use Rattle.rules.specs.Types.{Miss}
+use Rattle.std.specs.Prelude.{true, false}
 
 -- nothing asked
 abbrev pub AnyNumber : ℕ → Type 0
@@ -26,38 +29,38 @@ AnyState x = Unit {0}
 
 -- G of the value that evaluating gives, C of the number it stops with
 abbrev pub Gives : (Value → Type 0) → (ℕ → Type 0) → Evaluated → Type 0
-Gives G C (Evaluated.Value v) = G v
-Gives G C (Evaluated.Stopped c) = C c
+Gives G C (Ok v) = G v
+Gives G C (Err c) = C c
 
 abbrev pub Finds : (Pointer → Type 0) → (ℕ → Type 0) → Found → Type 0
-Finds G C (Found.Place p) = G p
-Finds G C (Found.Stopped c) = C c
+Finds G C (Ok p) = G p
+Finds G C (Err c) = C c
 
 abbrev pub TestStops : (ℕ → Type 0) → Test → Type 0
-TestStops C Test.Yes = Unit {0}
-TestStops C Test.No = Unit {0}
-TestStops C (Test.Stopped c) = C c
+TestStops C (Ok true) = Unit {0}
+TestStops C (Ok false) = Unit {0}
+TestStops C (Err c) = C c
 
 pub any-test : (t : Test) → TestStops AnyNumber t
-any-test Test.Yes = tt
-any-test Test.No = tt
-any-test (Test.Stopped c) = tt
+any-test (Ok true) = tt
+any-test (Ok false) = tt
+any-test (Err c) = tt
 
 pub any-evaluated : (e : Evaluated) → Gives AnyValue AnyNumber e
-any-evaluated (Evaluated.Value v) = tt
-any-evaluated (Evaluated.Stopped c) = tt
+any-evaluated (Ok v) = tt
+any-evaluated (Err c) = tt
 
 -- what holds by what evaluating gave, by a place, by the sort of a value, by a test
 module _ {A : Type 0} (P : A → Type 0) (C : ℕ → Type 0) (stop : ℕ → A) (stops : (c : ℕ) → C c → P (stop c)) where
   pub on_value_lem : {G : Value → Type 0} (e : Evaluated) (next : Value → A) → Gives G C e
       → ((v : Value) → G v → P (next v)) → P (on_value e stop next)
-  on_value_lem (Evaluated.Value v) next h g = g v h
-  on_value_lem (Evaluated.Stopped c) next h g = stops c h
+  on_value_lem (Ok v) next h g = g v h
+  on_value_lem (Err c) next h g = stops c h
 
   pub on-place : {G : Pointer → Type 0} (f : Found) (next : Pointer → A) → Finds G C f
       → ((p : Pointer) → G p → P (next p)) → P (on_place f stop next)
-  on-place (Found.Place p) next h g = g p h
-  on-place (Found.Stopped c) next h g = stops c h
+  on-place (Ok p) next h g = g p h
+  on-place (Err c) next h g = stops c h
 
   pub on-integer : (G : Value → Type 0) (v : Value) (next : ℤ → A) → C 40 → G v
       → ((z : ℤ) → G (Value.Integer z) → P (next z)) → P (on_integer v stop next)
@@ -72,14 +75,14 @@ module _ {A : Type 0} (P : A → Type 0) (C : ℕ → Type 0) (stop : ℕ → A)
   on-pointer G (Value.Pointer p) next c h g = g p h
 
   pub on-test : (t : Test) (x y : A) → TestStops C t → P x → P y → P (on_test t stop x y)
-  on-test Test.Yes x y h p q = p
-  on-test Test.No x y h p q = q
-  on-test (Test.Stopped c) x y h p q = stops c h
+  on-test (Ok true) x y h p q = p
+  on-test (Ok false) x y h p q = q
+  on-test (Err c) x y h p q = stops c h
 
   pub at-cell : (l : Located) (at : ℕ → A) → C 42 → C 50 → ((i : ℕ) → P (at i)) → P (at_cell at stop l)
-  at-cell (Located.At i) at d o g = g i
-  at-cell Located.Dead at d o g = stops 42 d
-  at-cell Located.Outside at d o g = stops 50 o
+  at-cell (Ok i) at d o g = g i
+  at-cell (Err Miss.Dead) at d o g = stops 42 d
+  at-cell (Err Miss.Outside) at d o g = stops 50 o
 
 -- J of the state after a change, E of the number of a stop; K of a new block's name and state
 abbrev pub ChangeKeeps : {S : Type 0} → (S → Type 0) → (ℕ → Type 0) → Change S → Type 0
@@ -119,11 +122,11 @@ module _ (J : Memory → Type 0) (D E : ℕ → Type 0) (known : (c : ℕ) → A
       store_cell-keeps m p v j (λ i. g p v hp hv i)))
 
   pub make_at-keeps : (K : ℕ → Memory → Type 0) (m : Memory) (u : Use) (n : ℕ) (r s : Search)
-      → ((k first : ℕ) → r ≡ Search.At k → s ≡ Search.At first → K k (with_block m u k first n))
+      → ((k first : ℕ) → r ≡ Some k → s ≡ Some first → K k (with_block m u k first n))
       → MadeKeeps K E (make_at m u n r s)
-  make_at-keeps K m u n Search.Nothing s g = known 31 refl
-  make_at-keeps K m u n (Search.At k) Search.Nothing g = known 30 refl
-  make_at-keeps K m u n (Search.At k) (Search.At first) g = g k first refl refl
+  make_at-keeps K m u n None s g = known 31 refl
+  make_at-keeps K m u n (Some k) None g = known 30 refl
+  make_at-keeps K m u n (Some k) (Some first) g = g k first refl refl
 
   store_new-keeps : {K : ℕ → Memory → Type 0} (m : Memory) (p : Pointer) (x : Made Memory) → J m → MadeKeeps K E x
       → ((k : ℕ) (m₁ : Memory) → K k m₁ → J m₁)

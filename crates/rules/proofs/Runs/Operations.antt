@@ -16,25 +16,27 @@ use Rattle.rules.specs.Evaluation.{queried, query_memory}
 use Rattle.rules.specs.Answers.{operation_endings}
 use Rattle.rules.proofs.Lists.Among.{Among}
 use Rattle.rules.proofs.Runs.Keeping.{AnyValue, Gives, TestStops, on_value_lem, on-pointer, on-test}
-use Rattle.rules.specs.Types.{Pointer, Value, Evaluated, Test, Number, Recorded}
+use Rattle.rules.specs.Types.{Pointer, Value, Evaluated, Number, Recorded}
+use Rattle.std.specs.Prelude.{Err, Ok}
+use Rattle.rules.specs.Types.{Stop}
 
 -- a number that was worked out is in range
 abbrev FitsNumber : Number → Type 0
-FitsNumber (Number.Is z) = in_range z ≡ true
-FitsNumber Number.Overflow = Unit {0}
-FitsNumber Number.ZeroDivisor = Unit {0}
+FitsNumber (Ok z) = in_range z ≡ true
+FitsNumber (Err Stop.Overflow) = Unit {0}
+FitsNumber (Err Stop.ZeroDivisor) = Unit {0}
 
 ranged-fits : (z : ℤ) → FitsNumber (ranged z)
 ranged-fits z = pick (in_range z) refl
   where
-    pick : (b : Bool) → in_range z ≡ b → FitsNumber (cond b (Number.Is z) Number.Overflow)
+    pick : (b : Bool) → in_range z ≡ b → FitsNumber (cond b (Ok z) (Err Stop.Overflow))
     pick true e = e
     pick false e = tt
 
 divided-fits : (rounded : ℕ → ℕ → ℕ) (x y : ℤ) → FitsNumber (divided rounded x y)
 divided-fits rounded x y = pick (eqb (nat_abs y) 0)
   where
-    pick : (b : Bool) → FitsNumber (cond b Number.ZeroDivisor (ranged (quotient_of rounded x y)))
+    pick : (b : Bool) → FitsNumber (cond b (Err Stop.ZeroDivisor) (ranged (quotient_of rounded x y)))
     pick true = tt
     pick false = ranged-fits (quotient_of rounded x y)
 
@@ -43,10 +45,10 @@ module _ (G : Value → Type 0) (C : ℕ → Type 0) (numbers : (z : ℤ) → in
     → G (Value.Pointer (record { name = p.name; offset = z })))
     (stops : (c : ℕ) → Among operation_endings c → C c) where
   stop_number-gives : (is : ℤ → Evaluated) (n : Number) → FitsNumber n
-      → ((z : ℤ) → in_range z ≡ true → Gives G C (is z)) → Gives G C (stop_number is Evaluated.Stopped n)
-  stop_number-gives is (Number.Is z) h g = g z h
-  stop_number-gives is Number.Overflow h g = stops _ refl
-  stop_number-gives is Number.ZeroDivisor h g = stops _ refl
+      → ((z : ℤ) → in_range z ≡ true → Gives G C (is z)) → Gives G C (stop_number is Err n)
+  stop_number-gives is (Ok z) h g = g z h
+  stop_number-gives is (Err Stop.Overflow) h g = stops _ refl
+  stop_number-gives is (Err Stop.ZeroDivisor) h g = stops _ refl
 
   numbered-gives : (n : Number) → FitsNumber n → Gives G C (numbered n)
   numbered-gives n h = stop_number-gives _ n h numbers
@@ -83,7 +85,7 @@ module _ (G : Value → Type 0) (C : ℕ → Type 0) (numbers : (z : ℤ) → in
   unfolding on_pointers
   on_pointers-gives live equal p q = pick (live p.name && live q.name)
     where
-      pick : (b : Bool) → Gives G C (cond b (truth_value (same_pointer p q)) (Evaluated.Stopped 47))
+      pick : (b : Bool) → Gives G C (cond b (truth_value (same_pointer p q)) (Err 47))
       pick true = truth-gives (same_pointer p q)
       pick false = stops _ refl
   on_pointers-gives live add p q = stops _ refl
@@ -107,24 +109,24 @@ module _ (G : Value → Type 0) (C : ℕ → Type 0) (numbers : (z : ℤ) → in
   pub operated-gives : (live : Liveness) (o : Operator) (a b : Evaluated) → Gives G C a → Gives G C b
       → Gives G C (operated live o a b)
   operated-gives live o a b g h =
-      on_value_lem (Gives G C) C Evaluated.Stopped (λ c x. x) a _ g (λ x u.
-      on_value_lem (Gives G C) C Evaluated.Stopped (λ c x. x) b _ h (λ y w. operate-gives live o x y u))
+      on_value_lem (Gives G C) C Err (λ c x. x) a _ g (λ x u.
+      on_value_lem (Gives G C) C Err (λ c x. x) b _ h (λ y w. operate-gives live o x y u))
 
   pub tested-stops : (v : Value) → TestStops C (tested v)
   tested-stops Value.Undefined = stops _ refl
   tested-stops (Value.Integer z) = pick (same_integer z (pos 0))
     where
-      pick : (b : Bool) → TestStops C (cond b Test.No Test.Yes)
+      pick : (b : Bool) → TestStops C (cond b (Ok false) (Ok true))
       pick true = tt
       pick false = tt
   tested-stops (Value.Pointer p) = stops _ refl
 
   pub condition-stops : (e : Evaluated) → Gives G C e → TestStops C (condition e)
-  condition-stops e h = on_value_lem (TestStops C) C Test.Stopped (λ c x. x) e tested h (λ v u. tested-stops v)
+  condition-stops e h = on_value_lem (TestStops C) C Err (λ c x. x) e tested h (λ v u. tested-stops v)
 
   pub opposite-gives : (v : Value) → Gives G C (opposite v)
   opposite-gives v =
-      on-test (Gives G C) C Evaluated.Stopped (λ c x. x) (tested v) _ _ (tested-stops v)
+      on-test (Gives G C) C Err (λ c x. x) (tested v) _ _ (tested-stops v)
       (truth-gives false) (truth-gives true)
 
 -- where G holds of every defined value
@@ -148,5 +150,5 @@ module _ (G : Value → Type 0) (C : ℕ → Type 0) (integers : (z : ℤ) → G
 
   pub query_memory-gives : (q : Query) (m : Memory) (v : Value) → Gives G C (query_memory q m v)
   query_memory-gives q m v =
-      on-pointer (Gives G C) C Evaluated.Stopped (λ c x. x) AnyValue v _ (stops 40 refl) tt
+      on-pointer (Gives G C) C Err (λ c x. x) AnyValue v _ (stops 40 refl) tt
       (λ p u. queried-gives q (recorded_of (block_of m p.name)) (λ i. is_initialised (cell_of m i)) p)

@@ -8,6 +8,8 @@ use Rattle.rules.specs.Flow.{Outcome, finished, ended, ending, into, next, after
 use Rattle.rules.specs.Plain.{asserted}
 use Rattle.rules.proofs.Runs.Keeping.{TestStops, AnyState, ChangeKeeps, MadeKeeps}
 use Rattle.rules.specs.Types.{Test}
+use Rattle.std.specs.Prelude.{Err, Ok}
+use Rattle.std.specs.Prelude.{true, false}
 
 -- I of state and fuel where a run is finished, and where it is ended, with E of the ending's number
 abbrev pub Outcomes : {S : Type 0} → (S → ℕ → Type 0) → (ℕ → Type 0) → Outcome S → Type 0
@@ -62,9 +64,9 @@ module _ {S : Type 0} {P : S → Type 0} {R : S → S → Type 0} (E : ℕ → T
 
   pub reach-decide : (s : ℕ) (ρ : Variables) (t : Test) (x : S) (f : ℕ) (a b : Outcome S) → P x → TestStops E t
       → Reaches R E x f a → Reaches R E x f b → Reaches R E x f (decide s ρ t x f a b)
-  reach-decide s ρ Test.Yes x f a b v h p q = p
-  reach-decide s ρ Test.No x f a b v h p q = q
-  reach-decide s ρ (Test.Stopped c) x f a b v h p q = (h, (w.itself v, omega arith))
+  reach-decide s ρ (Ok true) x f a b v h p q = p
+  reach-decide s ρ (Ok false) x f a b v h p q = q
+  reach-decide s ρ (Err c) x f a b v h p q = (h, (w.itself v, omega arith))
 
   pub reach-turns : (s : ℕ) (ρ : Variables) (holds : S → Test) (body : S → ℕ → Outcome S) → E 32
       → ((y : S) → P y → TestStops E (holds y)) → ((y : S) (g : ℕ) → P y → Reaches R E y g (body y g))
@@ -121,9 +123,9 @@ made_in_lem J K E put (unmade c) g h = h
 
 pub asserted-keeps : {S : Type 0} (J : S → Type 0) (E : ℕ → Type 0) (x : S) (t : Test) → E 33 → J x → TestStops E t
     → ChangeKeeps J E (asserted x t)
-asserted-keeps J E x Test.Yes e j h = j
-asserted-keeps J E x Test.No e j h = (e, j)
-asserted-keeps J E x (Test.Stopped c) e j h = (h, j)
+asserted-keeps J E x (Ok true) e j h = j
+asserted-keeps J E x (Ok false) e j h = (e, j)
+asserted-keeps J E x (Err c) e j h = (h, j)
 
 pub made_more : {S : Type 0} (J K : ℕ → S → Type 0) (E : ℕ → Type 0) (r : Made S)
     → ((k : ℕ) (x : S) → J k x → K k x) → MadeKeeps J E r → MadeKeeps K E r
@@ -138,6 +140,6 @@ next-ending n (ended c s ρ w x f) k l h = refl
 
 pub decide-ending : {S : Type 0} (s : ℕ) (ρ : Variables) (t : Test) (x : S) (f : ℕ) (a b c d : Outcome S)
     → ending a ≡ ending c → ending b ≡ ending d → ending (decide s ρ t x f a b) ≡ ending (decide s ρ t x f c d)
-decide-ending s ρ Test.Yes x f a b c d p q = p
-decide-ending s ρ Test.No x f a b c d p q = q
-decide-ending s ρ (Test.Stopped k) x f a b c d p q = refl
+decide-ending s ρ (Ok true) x f a b c d p q = p
+decide-ending s ρ (Ok false) x f a b c d p q = q
+decide-ending s ρ (Err k) x f a b c d p q = refl

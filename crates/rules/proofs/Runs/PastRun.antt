@@ -17,6 +17,8 @@ use Rattle.rules.proofs.Runs.Outcomes.{AnyBlock, Onwards, Reaches, reach-turns, 
 use Rattle.rules.proofs.Runs.Outcomes.{change-in, made_in_lem}
 use Rattle.rules.proofs.Runs.SourceRuns.{MeaningKeeps, run-reaches}
 use Rattle.rules.specs.Types.{Test}
+use Rattle.std.specs.Prelude.{Err, Ok}
+use Rattle.std.specs.Prelude.{true, false}
 
 -- of the assertions reached one is false, whose ending is e; or none is
 abbrev Decided : List Reached → Ending Memory → Type 0
@@ -46,9 +48,9 @@ later-reached : (x : PastState) (r : Reached) (e : Ending Memory) → Decided x.
 later-reached x r e h d = up_to-append x.assertions (r ∷ []) d ∙ h (up_to (r ∷ []) d)
 
 later-asserted : (s : ℕ) (x : PastState) (f : ℕ) (t : Test) → ChangeKeeps (Later x) AnyNumber (asserted_past s x f t)
-later-asserted s x f Test.Yes = later-reached x _
-later-asserted s x f Test.No = later-reached x _
-later-asserted s x f (Test.Stopped c) = (tt, later-reached x _)
+later-asserted s x f (Ok true) = later-reached x _
+later-asserted s x f (Ok false) = later-reached x _
+later-asserted s x f (Err c) = (tt, later-reached x _)
 
 past-keeps : MeaningKeeps past_meaning AnyState Later AnyBlock AnyNumber
 past-keeps = record {
@@ -116,16 +118,16 @@ follows-after s ρ x f (stopped c m) h = alike_end {x = with_memory x m} h
 
 follows-assert : (s : ℕ) (ρ : Variables) (x : PastState) (f : ℕ) (t : Test) → Passed x.assertions
     → Follows (after s ρ f (asserted x.memory t)) (after s ρ f (asserted_past s x f t))
-follows-assert s ρ x f Test.Yes h = alike-finish (λ d. up_to-append x.assertions _ d ∙ h d)
-follows-assert s ρ x f Test.No h = failed (λ d. up_to-append x.assertions _ d ∙ h _)
-follows-assert s ρ x f (Test.Stopped c) h = alike_end (λ d. up_to-append x.assertions _ d ∙ h d)
+follows-assert s ρ x f (Ok true) h = alike-finish (λ d. up_to-append x.assertions _ d ∙ h d)
+follows-assert s ρ x f (Ok false) h = failed (λ d. up_to-append x.assertions _ d ∙ h _)
+follows-assert s ρ x f (Err c) h = alike_end (λ d. up_to-append x.assertions _ d ∙ h d)
 
 follows-decide : (s : ℕ) (ρ : Variables) (t : Test) (x : PastState) (f : ℕ) (a b : Outcome Memory)
     (u v : Outcome PastState) → Passed x.assertions → Follows a u → Follows b v
     → Follows (decide s ρ t x.memory f a b) (decide s ρ t x f u v)
-follows-decide s ρ Test.Yes x f a b u v h p q = p
-follows-decide s ρ Test.No x f a b u v h p q = q
-follows-decide s ρ (Test.Stopped c) x f a b u v h p q = alike_end h
+follows-decide s ρ (Ok true) x f a b u v h p q = p
+follows-decide s ρ (Ok false) x f a b u v h p q = q
+follows-decide s ρ (Err c) x f a b u v h p q = alike_end h
 
 follows-turns : (g s : ℕ) (ρ : Variables) (test : Memory → Test) (k : Memory → ℕ → Outcome Memory) (kp : Going)
     → Stays kp → ((x : PastState) (f : ℕ) → Passed x.assertions → Follows (k x.memory f) (kp x f))

@@ -31,6 +31,7 @@ use Rattle.rules.proofs.Acceptance.FormLaws.{FieldHolds, LiteralHolds, FormHolds
 use Rattle.rules.proofs.Acceptance.FormLaws.{node-built}
 use Rattle.rules.proofs.Acceptance.Standing.{stands, stands_at}
 use Rattle.rules.proofs.Simulation.PredicateSimulation.{embed-is, embed_place-is}
+use Rattle.std.specs.Prelude.{Ok}
 
 and-join : (a b : Bool) → a ≡ true → b ≡ true → (a && b) ≡ true
 and-join a b p q = rw (p, q)
@@ -85,7 +86,7 @@ form-made l t n f p q o m a b c z =
     and-join _ _ (and-join _ _ (node-passes l t n (field_of f 0) (child_a t n) a)
     (node-passes l t n (field_of f 1) (child_b t n) b))
     (node-passes l t n (field_of f 2) (child_c t n) c) in
-    let e : record_fault l t n ≡ 0 =
+    let e : record_fault l t n ≡ Ok tt =
     ap (fault_of l t n) o
     ∙ ap₂ (λ (u v : Bool). cond u (cond v 0 5) 4) h g in
     node-built l t n f p q e o h k

@@ -14,6 +14,8 @@ use Rattle.rules.proofs.Runs.TargetRuns.{assigning, allocating, freeing, operati
 use Rattle.rules.proofs.Runs.TargetRuns.{deleting, initialising, making}
 use Rattle.rules.proofs.Runs.EndedAt.{ChangeStops, EndsAt, SourceEnds, run-ends-at, TargetEnds, watch-ends-at}
 use Rattle.rules.specs.Types.{Test}
+use Rattle.std.specs.Prelude.{Err, Ok}
+use Rattle.std.specs.Prelude.{true, false}
 
 -- the number of a statement
 abbrev pub number_of : Statement → ℕ
@@ -58,9 +60,9 @@ module _ {P : Type 0} (h : P) where
   any-change (stopped k x) = h
 
   any-test : (t : Test) → TestStops (λ c. P) t
-  any-test Test.Yes = tt
-  any-test Test.No = tt
-  any-test (Test.Stopped c) = h
+  any-test (Ok true) = tt
+  any-test (Ok false) = tt
+  any-test (Err c) = h
 
   any-made : {S : Type 0} (r : Made S) → MadeKeeps (λ k y. AnyState y) (λ c. P) r
   any-made (made k x) = tt

@@ -20,6 +20,8 @@ use Rattle.rules.specs.Types.{Test}
 use Rattle.rules.proofs.Lists.BooleanLaws.{neither}
 use Rattle.rules.proofs.Runs.TargetRuns.{assigning, allocating, freeing, operating, querying, negating, storing}
 use Rattle.rules.proofs.Runs.TargetRuns.{deleting, initialising, making, closing}
+use Rattle.std.specs.Prelude.{Err, Ok}
+use Rattle.std.specs.Prelude.{true}
 
 -- A are the statements of a language, of which some bind a variable
 module _ {A : Type 0} (children : A → List (Option A)) (binds : A → ℕ → Bool) where
@@ -57,9 +59,9 @@ module _ {A : Type 0} (children : A → List (Option A)) (binds : A → ℕ → 
 
     kept-decide : (s : ℕ) (t : Test) (x : S) (f : ℕ) (o p : Outcome S) → KeepsVariables a ρ o → KeepsVariables a ρ p
         → KeepsVariables a ρ (decide s ρ t x f o p)
-    kept-decide s Test.Yes x f o p h g = h
-    kept-decide s Test.No x f o p h g = g
-    kept-decide s (Test.Stopped c) x f o p h g = λ y u. refl
+    kept-decide s (Ok true) x f o p h g = h
+    kept-decide s (Ok false) x f o p h g = g
+    kept-decide s (Err c) x f o p h g = λ y u. refl
 
     kept-turns : (s : ℕ) (holds : S → Test) (body : S → ℕ → Outcome S)
         → ((x : S) (f : ℕ) → KeepsVariables a ρ (body x f)) → (g : ℕ) (x : S) (f : ℕ)

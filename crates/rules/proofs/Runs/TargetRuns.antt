@@ -20,7 +20,8 @@ use Rattle.rules.specs.Watched.{called_on, called_on_two, watch}
 use Rattle.rules.proofs.Runs.Keeping.{Gives, TestStops, ChangeKeeps, MadeKeeps}
 use Rattle.rules.proofs.Runs.Outcomes.{Onwards, Reaches, reach-itself, reach-into, reach-next, reach-after}
 use Rattle.rules.proofs.Runs.Outcomes.{reach-decide, reach-turns, reach-let, asserted-keeps}
-use Rattle.rules.specs.Types.{Value, Evaluated, Temporary}
+use Rattle.rules.specs.Types.{Value, Evaluated}
+use Rattle.std.specs.Prelude.{Err, Ok, Some}
 
 -- O of the observation memory after a call, E of the number of a refusal
 abbrev pub NotedKeeps : (Observation → Type 0) → (ℕ → Type 0) → Noted → Type 0
@@ -29,10 +30,10 @@ NotedKeeps O E (refused c) = E c
 
 pub taken-keeps : (J : WatchedState → Type 0) (E : ℕ → Type 0) (T : Value → Type 0) (x : WatchedState) (n : ℕ)
     (e : Evaluated) → J x → Gives T E e
-    → ((v : Value) → T v → J (watching x.memory x.observation (set x.temporaries n (Temporary.Holds v))))
+    → ((v : Value) → T v → J (watching x.memory x.observation (set x.temporaries n (Some v))))
     → ChangeKeeps J E (taken x n e)
-taken-keeps J E T x n (Evaluated.Value v) j h g = g v h
-taken-keeps J E T x n (Evaluated.Stopped c) j h g = (h, j)
+taken-keeps J E T x n (Ok v) j h g = g v h
+taken-keeps J E T x n (Err c) j h g = (h, j)
 
 pub observed-keeps : (J : WatchedState → Type 0) (E : ℕ → Type 0) (O : Observation → Type 0) (x : WatchedState)
     (r : Noted) → J x → NotedKeeps O E r → ((o : Observation) → O o → J (watching x.memory o x.temporaries))
@@ -58,10 +59,10 @@ abbrev pub operating : Operator → ℕ → WatchedState → Evaluated
 operating q n x = operated (asked_in x) q (holding x (suc n)) (holding x (suc (suc n)))
 
 abbrev pub querying : Query → ℕ → WatchedState → Evaluated
-querying q n x = on_value (holding x (suc n)) Evaluated.Stopped (query_observation q x.observation)
+querying q n x = on_value (holding x (suc n)) Err (query_observation q x.observation)
 
 abbrev pub negating : ℕ → WatchedState → Evaluated
-negating n x = on_value (holding x (suc n)) Evaluated.Stopped opposite
+negating n x = on_value (holding x (suc n)) Err opposite
 
 abbrev pub storing : ℕ → WatchedState → Noted
 storing n x = called_on_two (holding x n) (holding x (suc n)) (store_block x.observation)

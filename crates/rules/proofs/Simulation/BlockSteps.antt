@@ -23,18 +23,20 @@ use Rattle.rules.proofs.Simulation.StatementSteps.{Watching, Running, Agree, bot
 use Rattle.rules.proofs.Simulation.StatementSteps.{agree-within}
 use Rattle.rules.proofs.Simulation.StatementSteps.{stored}
 use Rattle.rules.proofs.Simulation.StatementSteps.{changing}
-use Rattle.rules.specs.Types.{Pointer, Value, Evaluated, Found, Located, Search, Block, Cell, Temporary}
+use Rattle.rules.specs.Types.{Pointer, Value, Evaluated, Found, Located, Search, Block, Cell}
+use Rattle.std.specs.Prelude.{Err, None, Ok, Some}
+use Rattle.rules.specs.Types.{Miss}
 
 -- a new block: made, its pointer stored and read back, the block recorded, the pointer's cell marked
 abbrev record_after : ℕ → Variables → Watching
 record_after s ρ x f =
     into 1 (next (into 0 (after s ρ f (taken x 1
-    (on_place (pointed_by (held_in x.temporaries 0)) Evaluated.Stopped (read_cell x.memory))))) (λ y g.
+    (on_place (pointed_by (held_in x.temporaries 0)) Err (read_cell x.memory))))) (λ y g.
     into 1 (next (into 0 (after s ρ g (observed y (storing 1 y)))) (λ z h.
     into 1 (after s ρ h (observed z (initialising 0 z)))))))
 
 record_after-is : (s : ℕ) (ρ : Variables) (m : Memory) (o o₁ o₂ : Observation) (τ : Temporaries) (f : ℕ) (v : Value)
-    → on_place (pointed_by (held_in τ 0)) Evaluated.Stopped (read_cell m) ≡ Evaluated.Value v
+    → on_place (pointed_by (held_in τ 0)) Err (read_cell m) ≡ Ok v
     → called_on_two (held_in (put τ 1 v) 1) (held_in (put τ 1 v) 2) (store_block o) ≡ noted o₁
     → called_on (held_in (put τ 1 v) 0) (initialise o₁) ≡ noted o₂
     → record_after s ρ (watching m o τ) f ≡ finished (watching m o₂ (put τ 1 v)) f
@@ -45,27 +47,27 @@ unfolding locate
 locate-set m i c p = refl
 
 -- the cell that a pointer leads to, after a store
-read_back : (m : Memory) (p q : Pointer) (i : ℕ) → locate m p ≡ Located.At i → Invariant m
-    → read_cell (set_cell m i (Cell.Holds p.name (Value.Pointer q))) p ≡ Evaluated.Value (Value.Pointer q)
+read_back : (m : Memory) (p q : Pointer) (i : ℕ) → locate m p ≡ Ok i → Invariant m
+    → read_cell (set_cell m i (Cell.Holds p.name (Value.Pointer q))) p ≡ Ok (Value.Pointer q)
 read_back m p q i e y =
     let c : Cell = Cell.Holds p.name (Value.Pointer q) in
-    let at : Leads m p.name (Located.At i) = rw e at (leads m p y) in
+    let at : Leads m p.name (Ok i) = rw e at (leads m p y) in
     rw (locate-set m i c p ∙ e, get_or-set_same m.cells i c Cell.Free (omega (arith, y.size, at.1))) refl
 
 agree-stored : (s : ℕ) (ρ : Variables) (m : Memory) (τ : Temporaries) (f : ℕ) (p : Pointer) (n k first : ℕ)
     (r : Located)
-    → Room m (suc n) k first → free_run m (suc n) ≡ Search.At first → Invariant m
+    → Room m (suc n) k first → free_run m (suc n) ≡ Some first → Invariant m
     → locate (with_block m freeable k first (suc n)) p ≡ r
-    → temporary_of τ 0 ≡ Temporary.Holds (Value.Pointer p)
-    → temporary_of τ 2 ≡ Temporary.Holds (Value.Integer (pos (suc n)))
+    → temporary_of τ 0 ≡ Some (Value.Pointer p)
+    → temporary_of τ 2 ≡ Some (Value.Integer (pos (suc n)))
     → Full τ
     → let c = stored (with_block m freeable k first (suc n)) p (pointer_to k 0) r in
     Agree (after s ρ f c) (next (changing s ρ (watching m (mirror m) τ) f c) (record_after s ρ))
-agree-stored s ρ m τ f p n k first Located.Dead h g y e t₀ t₂ l =
+agree-stored s ρ m τ f p n k first (Err Miss.Dead) h g y e t₀ t₂ l =
     both_end (λ d. absurd (d.0 refl))
-agree-stored s ρ m τ f p n k first Located.Outside h g y e t₀ t₂ l =
+agree-stored s ρ m τ f p n k first (Err Miss.Outside) h g y e t₀ t₂ l =
     both_end (λ d. absurd (d.1 refl))
-agree-stored s ρ m τ f p n k first (Located.At i) h g y e t₀ t₂ l =
+agree-stored s ρ m τ f p n k first (Ok i) h g y e t₀ t₂ l =
     rw (record_after-is s ρ (set_cell m₁ i (Cell.Holds p.name (pointer_to k 0))) (mirror m) (mirror m₁) o₂ τ f
     (pointer_to k 0) back record-block mark) (both-finish refl (full_put τ 1 (pointer_to k 0) l))
   where
@@ -75,9 +77,9 @@ agree-stored s ρ m τ f p n k first (Located.At i) h g y e t₀ t₂ l =
     o₂ : Observation
     o₂ = mirror (set_cell m₁ i (Cell.Holds p.name (pointer_to k 0)))
 
-    back : on_place (pointed_by (held_in τ 0)) Evaluated.Stopped
+    back : on_place (pointed_by (held_in τ 0)) Err
         (read_cell (set_cell m₁ i (Cell.Holds p.name (pointer_to k 0))))
-        ≡ Evaluated.Value (pointer_to k 0)
+        ≡ Ok (pointer_to k 0)
     back =
         rw t₀ (read_back m₁ p (record { name = k; offset = pos 0 }) i e
         (onward-make m freeable (suc n) k first h y).invariant)
@@ -96,14 +98,14 @@ agree-stored s ρ m τ f p n k first (Located.At i) h g y e t₀ t₂ l =
 agree-new : (s : ℕ) (ρ : Variables) (m : Memory) (τ : Temporaries) (f : ℕ) (p : Pointer) (n : ℕ) (r₁ r₂ : Search)
     → HasRoom m (suc n) r₁ r₂
     → free_run m (suc n) ≡ r₂ → Invariant m
-    → temporary_of τ 0 ≡ Temporary.Holds (Value.Pointer p)
-    → temporary_of τ 2 ≡ Temporary.Holds (Value.Integer (pos (suc n)))
+    → temporary_of τ 0 ≡ Some (Value.Pointer p)
+    → temporary_of τ 2 ≡ Some (Value.Integer (pos (suc n)))
     → Full τ
     → let c = store_new m p (make_at m freeable (suc n) r₁ r₂) in
     Agree (after s ρ f c) (next (changing s ρ (watching m (mirror m) τ) f c) (record_after s ρ))
-agree-new s ρ m τ f p n Search.Nothing r₂ h g y t₀ t₂ l = both_end (λ z. refl)
-agree-new s ρ m τ f p n (Search.At k) Search.Nothing h g y t₀ t₂ l = both_end (λ z. refl)
-agree-new s ρ m τ f p n (Search.At k) (Search.At first) h g y t₀ t₂ l =
+agree-new s ρ m τ f p n None r₂ h g y t₀ t₂ l = both_end (λ z. refl)
+agree-new s ρ m τ f p n (Some k) None h g y t₀ t₂ l = both_end (λ z. refl)
+agree-new s ρ m τ f p n (Some k) (Some first) h g y t₀ t₂ l =
     agree-stored s ρ m τ f p n k first (locate (with_block m freeable k first (suc n)) p) h g y refl t₀ t₂ l
 
 pub agree-allocated : (s : ℕ) (ρ : Variables) (m : Memory) (τ : Temporaries) (f : ℕ) (x : Found) (r : Evaluated)
@@ -113,10 +115,10 @@ pub agree-allocated : (s : ℕ) (ρ : Variables) (m : Memory) (τ : Temporaries)
     (next (into 0 (after s ρ f (taken (watching m (mirror m) τ) 0 (address_of (x₁ (watching m (mirror m) τ)))))) (λ y g.
     into 1 (next (into 0 (after s ρ g (taken y 2 (r₁ y)))) (λ z h.
     into 1 (next (changing s ρ z h (allocated z.memory (x₁ z) (r₁ z))) (record_after s ρ))))))
-agree-allocated s ρ m τ f (Found.Stopped c) r x₁ r₁ y l h g = rw (h τ) (both_end (λ z. refl))
-agree-allocated s ρ m τ f (Found.Place p) (Evaluated.Stopped c) x₁ r₁ y l h g =
+agree-allocated s ρ m τ f (Err c) r x₁ r₁ y l h g = rw (h τ) (both_end (λ z. refl))
+agree-allocated s ρ m τ f (Ok p) (Err c) x₁ r₁ y l h g =
     rw (h τ, g (put τ 0 (Value.Pointer p))) (both_end (λ z. refl))
-agree-allocated s ρ m τ f (Found.Place p) (Evaluated.Value v) x₁ r₁ y l h g =
+agree-allocated s ρ m τ f (Ok p) (Ok v) x₁ r₁ y l h g =
     rw (
       h τ,
       g (put τ 0 (Value.Pointer p)),
@@ -125,7 +127,7 @@ agree-allocated s ρ m τ f (Found.Place p) (Evaluated.Value v) x₁ r₁ y l h 
     ) (agree-within 1 (agree-within 1 (go v)))
   where
     go : (v : Value)
-        → let c = allocated m (Found.Place p) (Evaluated.Value v) in
+        → let c = allocated m (Ok p) (Ok v) in
         Agree (after s ρ f c)
         (next (changing s ρ (watching m (mirror m) (put (put τ 0 (Value.Pointer p)) 2 v)) f c) (record_after s ρ))
     go Value.Undefined = both_end (λ z. refl)
@@ -144,7 +146,7 @@ agree-allocated s ρ m τ f (Found.Place p) (Evaluated.Value v) x₁ r₁ y l h 
 -- a let: its block is recorded before the body and deleted after it
 abbrev remove_after : ℕ → Variables → ℕ → Watching
 remove_after s ρ j x f =
-    into 1 (next (into 0 (after s ρ f (taken x 0 (Evaluated.Value (pointer_to j 0))))) (λ y g.
+    into 1 (next (into 0 (after s ρ f (taken x 0 (Ok (pointer_to j 0))))) (λ y g.
     into 1 (after s ρ g (observed y (deleting 0 y)))))
 
 remove_after-is : (s : ℕ) (ρ : Variables) (k first n : ℕ) (m : Memory) (τ : Temporaries) (f : ℕ)
@@ -172,13 +174,13 @@ pub agree-let : (s : ℕ) (ρ : Variables) (m : Memory) (τ : Temporaries) (f : 
     (in_let s ρ (watching m (mirror m) τ) f
     (made_in (with_memory (watching m (mirror m) τ)) (make_at m fixed 1 r₁ r₂)) closing
     (λ k x g. into 0
-    (next (into 0 (after s (inner k) g (taken x 0 (Evaluated.Value (pointer_to (at k) 0))))) (λ x₁ g₁.
-    into 1 (next (into 0 (after s (inner k) g₁ (taken x₁ 1 (Evaluated.Value (Value.Integer (pos 1)))))) (λ x₂ g₂.
+    (next (into 0 (after s (inner k) g (taken x 0 (Ok (pointer_to (at k) 0))))) (λ x₁ g₁.
+    into 1 (next (into 0 (after s (inner k) g₁ (taken x₁ 1 (Ok (Value.Integer (pos 1)))))) (λ x₂ g₂.
     into 1 (next (into 0 (after s (inner k) g₂ (observed x₂ (storing 0 x₂)))) (λ x₃ g₃.
     into 1 (next (into 0 (bw k x₃ g₃)) (remove_after s (inner k) (at k)))))))))))
-agree-let s ρ m τ f inner at b bw Search.Nothing r₂ h g y l e i v = both_end (λ z. refl)
-agree-let s ρ m τ f inner at b bw (Search.At k) Search.Nothing h g y l e i v = both_end (λ z. refl)
-agree-let s ρ m τ f inner at b bw (Search.At k) (Search.At first) h g y l e i v =
+agree-let s ρ m τ f inner at b bw None r₂ h g y l e i v = both_end (λ z. refl)
+agree-let s ρ m τ f inner at b bw (Some k) None h g y l e i v = both_end (λ z. refl)
+agree-let s ρ m τ f inner at b bw (Some k) (Some first) h g y l e i v =
     rw (
       e k,
       put_other (put τ 0 (pointer_to k 0)) 1 0 (Value.Integer (pos 1)) (omega arith)

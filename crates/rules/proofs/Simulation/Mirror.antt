@@ -20,7 +20,8 @@ use Rattle.rules.proofs.Memory.MemoryLaws.{covered-is}
 use Rattle.rules.proofs.Memory.Invariant.{occupied, records_of, Invariant}
 use Rattle.rules.proofs.Memory.BlockChanges.{recorded-for}
 use Rattle.rules.proofs.Runs.DefinedValues.{Defined}
-use Rattle.rules.specs.Types.{Pointer, Value, Located, Search, Block, Recorded, Cell}
+use Rattle.rules.specs.Types.{Pointer, Value, Block, Recorded, Cell}
+use Rattle.std.specs.Prelude.{Ok, Some}
 
 module _ (m : Memory) where
   pub mirror-record : (k : ℕ) → record_of (mirror m) k ≡ recorded_of (block_of m k)
@@ -61,7 +62,7 @@ initialised-is o Value.Undefined d = absurd d
 initialised-is o (Value.Integer z) d = refl
 initialised-is o (Value.Pointer p) d = refl
 
-pub mirror-initialise : (m : Memory) (p : Pointer) (i : ℕ) (v : Value) → Defined v → locate m p ≡ Located.At i
+pub mirror-initialise : (m : Memory) (p : Pointer) (i : ℕ) (v : Value) → Defined v → locate m p ≡ Ok i
     → initialise (mirror m) (Value.Pointer p) ≡ noted (mirror (set_cell m i (Cell.Holds p.name v)))
 mirror-initialise m p i v d e =
     ap (mark_at (mirror m)) (mirror-locate m p ∙ e)
@@ -72,7 +73,7 @@ mirror-initialise m p i v d e =
         ∙ sym (map-set is_initialised m.cells i (Cell.Holds p.name v))
 
 pub mirror-store : (m : Memory) (u : Use) (n k first : ℕ) → Invariant m → block_of m k ≡ Block.Unused
-    → free_run m (suc n) ≡ Search.At first
+    → free_run m (suc n) ≡ Some first
     → store_block (mirror m) (pointer_to k 0) (Value.Integer (pos (suc n)))
     ≡ noted (mirror (with_block m u k first (suc n)))
 mirror-store m u n k first y e g =
@@ -82,7 +83,7 @@ mirror-store m u n k first y e g =
     unused : record_of (mirror m) k ≡ Recorded.Unused
     unused = mirror-record m k ∙ ap recorded_of e
 
-    run : mark_run (mirror m) (suc n) ≡ Search.At first
+    run : mark_run (mirror m) (suc n) ≡ Some first
     run = mirror-run m y (suc n) ∙ g
 
     blocks : set_named (records_of m) k (Recorded.Live first (suc n))

@@ -22,7 +22,9 @@ use Rattle.rules.specs.Translation.{embed, embed_place, translate_term, translat
 use Rattle.rules.proofs.Acceptance.Sound.{Scope, SoundTerm, SoundPredicate}
 use Rattle.rules.proofs.Runs.TargetRuns.{operating, querying, negating}
 use Rattle.rules.proofs.Simulation.Mirror.{mirror-query, mirror-live}
-use Rattle.rules.specs.Types.{Value, Evaluated, Test, Temporary}
+use Rattle.rules.specs.Types.{Value, Evaluated, Test}
+use Rattle.std.specs.Prelude.{Err, None, Ok, Some}
+use Rattle.std.specs.Prelude.{true, false}
 
 -- a source expression gives the same in the target, whatever the temporaries hold
 mutual
@@ -31,7 +33,7 @@ mutual
   pub embed-is : (e : Expression ⊥) (τ : Temporaries) (ρ : Variables) (m : Memory)
       → evaluate (embed e) (temporary_of τ) ρ m ≡ evaluate_source e ρ m
   embed-is (literal z) τ ρ m = refl
-  embed-is (read p) τ ρ m = ap (λ r. on_place r Evaluated.Stopped (read_cell m)) (embed_place-is p τ ρ m)
+  embed-is (read p) τ ρ m = ap (λ r. on_place r Err (read_cell m)) (embed_place-is p τ ρ m)
   embed-is (address p) τ ρ m = ap address_of (embed_place-is p τ ρ m)
   embed-is (operation o a b) τ ρ m = λ i. operated (live_block m) o (embed-is a τ ρ m i) (embed-is b τ ρ m i)
   embed-is (shifted a b) τ ρ m = λ i. operated (live_block m) shift (embed-is a τ ρ m i) (embed-is b τ ρ m i)
@@ -47,17 +49,17 @@ abbrev pub Full : Temporaries → Type 0
 Full τ = length τ ≡ temporary_count
 
 abbrev pub put : Temporaries → ℕ → Value → Temporaries
-put τ n v = set τ n (Temporary.Holds v)
+put τ n v = set τ n (Some v)
 
 pub full_put : (τ : Temporaries) (n : ℕ) (v : Value) → Full τ → Full (put τ n v)
-full_put τ n v h = length-set τ n (Temporary.Holds v) ∙ h
+full_put τ n v h = length-set τ n (Some v) ∙ h
 
 pub put_same : (τ : Temporaries) (n : ℕ) (v : Value) → Full τ → n < 64
-    → temporary_of (put τ n v) n ≡ Temporary.Holds v
-put_same τ n v h l = get_or-set_same τ n (Temporary.Holds v) Temporary.Empty (omega arith)
+    → temporary_of (put τ n v) n ≡ Some v
+put_same τ n v h l = get_or-set_same τ n (Some v) None (omega arith)
 
 pub put_other : (τ : Temporaries) (n k : ℕ) (v : Value) → k ≢ n → temporary_of (put τ n v) k ≡ temporary_of τ k
-put_other τ n k v d = get_or-set_other τ n k (Temporary.Holds v) Temporary.Empty d
+put_other τ n k v d = get_or-set_other τ n k (Some v) None d
 
 -- temporaries that are alike below n
 abbrev Alike : ℕ → Temporaries → Temporaries → Type 0
@@ -66,10 +68,10 @@ Alike n τ₁ τ = (k : ℕ) → k < n → temporary_of τ₁ k ≡ temporary_of
 -- the result is in temporary n, those below n are as before, nothing else has changed
 pub data Gives (n s : ℕ) (ρ : Variables) (τ : Temporaries) (m : Memory) (o : Observation) (f : ℕ)
     : Evaluated → Outcome WatchedState → Type 0 where
-  gives : {v : Value} {τ₁ : Temporaries} → temporary_of τ₁ n ≡ Temporary.Holds v → Full τ₁ → Alike n τ₁ τ
-      → Gives n s ρ τ m o f (Evaluated.Value v) (finished (watching m o τ₁) f)
+  gives : {v : Value} {τ₁ : Temporaries} → temporary_of τ₁ n ≡ Some v → Full τ₁ → Alike n τ₁ τ
+      → Gives n s ρ τ m o f (Ok v) (finished (watching m o τ₁) f)
   stops : {c : ℕ} {w : TreePath} {τ₁ : Temporaries}
-      → Gives n s ρ τ m o f (Evaluated.Stopped c) (ended c s ρ w (watching m o τ₁) f)
+      → Gives n s ρ τ m o f (Err c) (ended c s ρ w (watching m o τ₁) f)
 
 module _ (s : ℕ) (ρ : Variables) (m : Memory) (o : Observation) (f : ℕ) where
   gives-from : {n : ℕ} {τ τ₁ : Temporaries} {r : Evaluated} {w : Outcome WatchedState} → Alike n τ₁ τ
@@ -85,51 +87,51 @@ module _ (s : ℕ) (ρ : Variables) (m : Memory) (o : Observation) (f : ℕ) whe
 
   gives-taken : (n : ℕ) (τ τ₁ : Temporaries) (r : Evaluated) → n < 64 → Full τ₁ → Alike n τ₁ τ
       → Gives n s ρ τ m o f r (after s ρ f (taken (watching m o τ₁) n r))
-  gives-taken n τ τ₁ (Evaluated.Value v) l h p =
+  gives-taken n τ τ₁ (Ok v) l h p =
       gives (put_same τ₁ n v h l) (full_put τ₁ n v h) (λ k b. put_other τ₁ n k v (omega arith) ∙ p k b)
-  gives-taken n τ τ₁ (Evaluated.Stopped c) l h p = stops
+  gives-taken n τ τ₁ (Err c) l h p = stops
 
   gives-next : {n n₁ : ℕ} {τ : Temporaries} {r : Evaluated} {w : Outcome WatchedState} (kr : Value → Evaluated)
       (kw : WatchedState → ℕ → Outcome WatchedState)
       → Gives n₁ s ρ τ m o f r w
-      → ((v : Value) (τ₁ : Temporaries) → temporary_of τ₁ n₁ ≡ Temporary.Holds v → Full τ₁ → Alike n₁ τ₁ τ
+      → ((v : Value) (τ₁ : Temporaries) → temporary_of τ₁ n₁ ≡ Some v → Full τ₁ → Alike n₁ τ₁ τ
       → Gives n s ρ τ m o f (kr v) (kw (watching m o τ₁) f))
-      → Gives n s ρ τ m o f (on_value r Evaluated.Stopped kr) (next (into 0 w) (λ x g. into 1 (kw x g)))
+      → Gives n s ρ τ m o f (on_value r Err kr) (next (into 0 w) (λ x g. into 1 (kw x g)))
   gives-next kr kw (gives {v} {τ₁} h l p) g = gives_into 1 (g v τ₁ h l p)
   gives-next kr kw stops g = stops
 
   gives-test : (n : ℕ) (τ : Temporaries) (t : Test) (x y : Evaluated) (u v : Outcome WatchedState)
       → Gives n s ρ τ m o f x u → Gives n s ρ τ m o f y v
-      → Gives n s ρ τ m o f (on_test t Evaluated.Stopped x y) (decide s ρ t (watching m o τ) f u v)
-  gives-test n τ Test.Yes x y u v p q = p
-  gives-test n τ Test.No x y u v p q = q
-  gives-test n τ (Test.Stopped c) x y u v p q = stops
+      → Gives n s ρ τ m o f (on_test t Err x y) (decide s ρ t (watching m o τ) f u v)
+  gives-test n τ (Ok true) x y u v p q = p
+  gives-test n τ (Ok false) x y u v p q = q
+  gives-test n τ (Err c) x y u v p q = stops
 
   -- 'and' and 'or'
   gives_both : (n : ℕ) (τ : Temporaries) (v : Value) (r : Evaluated) (w : Outcome WatchedState)
-      → temporary_of τ n ≡ Temporary.Holds v → Full τ → Gives n s ρ τ m o f r w
+      → temporary_of τ n ≡ Some v → Full τ → Gives n s ρ τ m o f r w
       → Gives n s ρ τ m o f (and_then v r)
       (decide s ρ (condition (held_in τ n)) (watching m o τ) f (into 1 w) (finished (watching m o τ) f))
   gives_both n τ v r w h l g =
-      rw h (gives-test n τ (tested v) r (Evaluated.Value v) (into 1 w) (finished (watching m o τ) f) (gives_into 1 g)
+      rw h (gives-test n τ (tested v) r (Ok v) (into 1 w) (finished (watching m o τ) f) (gives_into 1 g)
       (gives h l (λ k b. refl)))
 
   gives-either : (n : ℕ) (τ : Temporaries) (v : Value) (r : Evaluated) (w : Outcome WatchedState)
-      → temporary_of τ n ≡ Temporary.Holds v → Full τ → Gives n s ρ τ m o f r w
+      → temporary_of τ n ≡ Some v → Full τ → Gives n s ρ τ m o f r w
       → Gives n s ρ τ m o f (or_else v r)
       (decide s ρ (condition (held_in τ n)) (watching m o τ) f (finished (watching m o τ) f) (into 2 w))
   gives-either n τ v r w h l g =
-      rw h (gives-test n τ (tested v) (Evaluated.Value v) r (finished (watching m o τ) f) (into 2 w)
+      rw h (gives-test n τ (tested v) (Ok v) r (finished (watching m o τ) f) (into 2 w)
       (gives h l (λ k b. refl)) (gives_into 2 g))
 
-  gives-not : (n : ℕ) (v : Value) (τ τ₁ : Temporaries) → n < 64 → temporary_of τ₁ (suc n) ≡ Temporary.Holds v
+  gives-not : (n : ℕ) (v : Value) (τ τ₁ : Temporaries) → n < 64 → temporary_of τ₁ (suc n) ≡ Some v
       → Full τ₁
       → Alike (suc n) τ₁ τ
       → Gives n s ρ τ m o f (opposite v) (after s ρ f (taken (watching m o τ₁) n (negating n (watching m o τ₁))))
   gives-not n v τ τ₁ b h l p = rw h (gives-taken n τ τ₁ (opposite v) b l (λ k c. p k (omega arith)))
 
   gives-operation : (q : Operator) (n : ℕ) (v u : Value) (τ₁ τ₂ : Temporaries) → n < 64
-      → temporary_of τ₁ (suc n) ≡ Temporary.Holds v → temporary_of τ₂ (suc (suc n)) ≡ Temporary.Holds u → Full τ₂
+      → temporary_of τ₁ (suc n) ≡ Some v → temporary_of τ₂ (suc (suc n)) ≡ Some u → Full τ₂
       → Alike (suc (suc n)) τ₂ τ₁
       → Gives n s ρ τ₁ m o f (operate (live_record o) q v u)
       (after s ρ f (taken (watching m o τ₂) n (operating q n (watching m o τ₂))))
@@ -139,7 +141,7 @@ module _ (s : ℕ) (ρ : Variables) (m : Memory) (o : Observation) (f : ℕ) whe
 
 -- a query of the mirror is a query of the execution memory
 gives-query : (q : Query) (s : ℕ) (ρ : Variables) (n : ℕ) (m : Memory) (f : ℕ) (v : Value) (τ τ₁ : Temporaries)
-    → n < 64 → temporary_of τ₁ (suc n) ≡ Temporary.Holds v → Full τ₁ → Alike (suc n) τ₁ τ
+    → n < 64 → temporary_of τ₁ (suc n) ≡ Some v → Full τ₁ → Alike (suc n) τ₁ τ
     → Gives n s ρ τ m (mirror m) f (query_memory q m v)
     (after s ρ f (taken (watching m (mirror m) τ₁) n (querying q n (watching m (mirror m) τ₁))))
 gives-query q s ρ n m f v τ τ₁ b h l p =

@@ -18,7 +18,10 @@ use Rattle.rules.proofs.Memory.Invariant.{Invariant}
 use Rattle.rules.proofs.Runs.DefinedValues.{Defined, FairEvaluated}
 use Rattle.rules.proofs.Simulation.Mirror.{mirror-initialise, mirror-delete}
 use Rattle.rules.proofs.Simulation.PredicateSimulation.{Full, put, full_put, put_same, Gives, gives, stops}
-use Rattle.rules.specs.Types.{Pointer, Value, Evaluated, Found, Test, Located, Block, Cell, Temporary}
+use Rattle.rules.specs.Types.{Pointer, Value, Evaluated, Found, Test, Located, Block, Cell}
+use Rattle.std.specs.Prelude.{Err, Ok, Some}
+use Rattle.rules.specs.Types.{Miss}
+use Rattle.std.specs.Prelude.{true, false}
 
 -- a watched run from a state and fuel, and a plain one
 abbrev pub Watching : Type 0
@@ -56,9 +59,9 @@ agree-next k kw (both_end h) y g = both_end h
 pub agree-decide : (s : ℕ) (ρ : Variables) (t t₁ : Test) (m : Memory) (τ : Temporaries) (f : ℕ) (x y : Outcome Memory)
     (u v : Outcome WatchedState) → t₁ ≡ t → Agree x u → Agree y v
     → Agree (decide s ρ t m f x y) (decide s ρ t₁ (watching m (mirror m) τ) f u v)
-agree-decide s ρ Test.Yes t₁ m τ f x y u v e p q = rw e p
-agree-decide s ρ Test.No t₁ m τ f x y u v e p q = rw e q
-agree-decide s ρ (Test.Stopped c) t₁ m τ f x y u v e p q = rw e (both_end (λ z. refl))
+agree-decide s ρ (Ok true) t₁ m τ f x y u v e p q = rw e p
+agree-decide s ρ (Ok false) t₁ m τ f x y u v e p q = rw e q
+agree-decide s ρ (Err c) t₁ m τ f x y u v e p q = rw e (both_end (λ z. refl))
 
 pub agree-turns : (g s : ℕ) (ρ : Variables) (holds : Memory → Test) (holds₁ : WatchedState → Test) (k : Running)
     (kw : Watching)
@@ -77,9 +80,9 @@ agree-turns (suc g) s ρ holds holds₁ k kw e h v m τ (suc f) i l =
 -- a change that both make
 agree_after : (s : ℕ) (ρ : Variables) (m : Memory) (τ : Temporaries) (f : ℕ) (t : Test) → Full τ
     → Agree (after s ρ f (asserted m t)) (after s ρ f (asserted (watching m (mirror m) τ) t))
-agree_after s ρ m τ f Test.Yes l = both-finish refl l
-agree_after s ρ m τ f Test.No l = both_end (λ z. refl)
-agree_after s ρ m τ f (Test.Stopped c) l = both_end (λ z. refl)
+agree_after s ρ m τ f (Ok true) l = both-finish refl l
+agree_after s ρ m τ f (Ok false) l = both_end (λ z. refl)
+agree_after s ρ m τ f (Err c) l = both_end (λ z. refl)
 
 -- the assertion
 pub agree-assert : {s : ℕ} {ρ : Variables} {m : Memory} {τ : Temporaries} {f : ℕ} {r : Evaluated}
@@ -101,12 +104,12 @@ abbrev pub changing : ℕ → Variables → WatchedState → ℕ → Change Memo
 changing s ρ x f c = into 0 (after s ρ f (change_in (with_memory x) c))
 
 agree-stored : (s : ℕ) (ρ : Variables) (m : Memory) (τ : Temporaries) (f : ℕ) (p : Pointer) (v : Value) (r : Located)
-    → Defined v → locate m p ≡ r → temporary_of τ 0 ≡ Temporary.Holds (Value.Pointer p) → Full τ
+    → Defined v → locate m p ≡ r → temporary_of τ 0 ≡ Some (Value.Pointer p) → Full τ
     → Agree (after s ρ f (stored m p v r))
     (next (changing s ρ (watching m (mirror m) τ) f (stored m p v r)) (mark_after s ρ))
-agree-stored s ρ m τ f p v (Located.At i) d e t l = rw (t, mirror-initialise m p i v d e) (both-finish refl l)
-agree-stored s ρ m τ f p v Located.Dead d e t l = both_end (λ z. refl)
-agree-stored s ρ m τ f p v Located.Outside d e t l = both_end (λ z. refl)
+agree-stored s ρ m τ f p v (Ok i) d e t l = rw (t, mirror-initialise m p i v d e) (both-finish refl l)
+agree-stored s ρ m τ f p v (Err Miss.Dead) d e t l = both_end (λ z. refl)
+agree-stored s ρ m τ f p v (Err Miss.Outside) d e t l = both_end (λ z. refl)
 
 pub agree-assigned : (s : ℕ) (ρ : Variables) (m : Memory) (τ : Temporaries) (f : ℕ) (x : Found) (r : Evaluated)
     (x₁ : WatchedState → Found) (r₁ : WatchedState → Evaluated) → FairEvaluated r → Full τ
@@ -114,10 +117,10 @@ pub agree-assigned : (s : ℕ) (ρ : Variables) (m : Memory) (τ : Temporaries) 
     → Agree (after s ρ f (assigned m x r))
     (next (into 0 (after s ρ f (taken (watching m (mirror m) τ) 0 (address_of (x₁ (watching m (mirror m) τ))))))
     (λ y g. into 1 (next (changing s ρ y g (assigned y.memory (x₁ y) (r₁ y))) (mark_after s ρ))))
-agree-assigned s ρ m τ f (Found.Stopped c) r x₁ r₁ d l h g = rw (h τ) (both_end (λ z. refl))
-agree-assigned s ρ m τ f (Found.Place p) (Evaluated.Stopped c) x₁ r₁ d l h g =
+agree-assigned s ρ m τ f (Err c) r x₁ r₁ d l h g = rw (h τ) (both_end (λ z. refl))
+agree-assigned s ρ m τ f (Ok p) (Err c) x₁ r₁ d l h g =
     rw (h τ, h (put τ 0 (Value.Pointer p)), g (put τ 0 (Value.Pointer p))) (both_end (λ z. refl))
-agree-assigned s ρ m τ f (Found.Place p) (Evaluated.Value v) x₁ r₁ d l h g =
+agree-assigned s ρ m τ f (Ok p) (Ok v) x₁ r₁ d l h g =
     rw (h τ, h (put τ 0 (Value.Pointer p)), g (put τ 0 (Value.Pointer p)))
     (agree-within 1 (agree-stored s ρ m (put τ 0 (Value.Pointer p)) f p v (locate m p) d refl
     (put_same τ 0 (Value.Pointer p) l (omega arith)) (full_put τ 0 (Value.Pointer p) l)))
@@ -127,7 +130,7 @@ abbrev delete_after : ℕ → Variables → Watching
 delete_after s ρ x f = into 1 (after s ρ f (observed x (deleting 0 x)))
 
 agree-free_of : (s : ℕ) (ρ : Variables) (m : Memory) (τ : Temporaries) (f k : ℕ) (b : Block) → block_of m k ≡ b
-    → temporary_of τ 0 ≡ Temporary.Holds (pointer_to k 0) → Full τ
+    → temporary_of τ 0 ≡ Some (pointer_to k 0) → Full τ
     → Agree (after s ρ f (free_of m k b))
     (next (changing s ρ (watching m (mirror m) τ) f (free_of m k b)) (delete_after s ρ))
 agree-free_of s ρ m τ f k Block.Unused e t l = both_end (λ z. refl)
@@ -137,8 +140,8 @@ agree-free_of s ρ m τ f k (Block.Freeable first n) e t l =
 agree-free_of s ρ m τ f k Block.Dead e t l = both_end (λ z. refl)
 
 agree-free_at : (s : ℕ) (ρ : Variables) (m : Memory) (τ : Temporaries) (f k : ℕ) (z : ℤ)
-    → temporary_of τ 0 ≡ Temporary.Holds (Value.Pointer (record { name = k; offset = z })) → Full τ
-    → let c = freed m (Evaluated.Value (Value.Pointer (record { name = k; offset = z }))) in
+    → temporary_of τ 0 ≡ Some (Value.Pointer (record { name = k; offset = z })) → Full τ
+    → let c = freed m (Ok (Value.Pointer (record { name = k; offset = z }))) in
     Agree (after s ρ f c) (next (changing s ρ (watching m (mirror m) τ) f c) (delete_after s ρ))
 agree-free_at s ρ m τ f k (pos zero) t l = agree-free_of s ρ m τ f k (block_of m k) refl t l
 agree-free_at s ρ m τ f k (pos (suc i)) t l = both_end (λ z. refl)
@@ -150,12 +153,12 @@ pub agree-freed : (s : ℕ) (ρ : Variables) (m : Memory) (τ : Temporaries) (f 
     → Agree (after s ρ f (freed m r))
     (next (into 0 (after s ρ f (taken (watching m (mirror m) τ) 0 (r₁ (watching m (mirror m) τ)))))
     (λ y g. into 1 (next (changing s ρ y g (freed y.memory (r₁ y))) (delete_after s ρ))))
-agree-freed s ρ m τ f (Evaluated.Stopped c) r₁ l g = rw (g τ) (both_end (λ z. refl))
-agree-freed s ρ m τ f (Evaluated.Value v) r₁ l g = rw (g τ, g (put τ 0 v)) (agree-within 1 (go v))
+agree-freed s ρ m τ f (Err c) r₁ l g = rw (g τ) (both_end (λ z. refl))
+agree-freed s ρ m τ f (Ok v) r₁ l g = rw (g τ, g (put τ 0 v)) (agree-within 1 (go v))
   where
     go : (v : Value)
-        → Agree (after s ρ f (freed m (Evaluated.Value v)))
-        (next (changing s ρ (watching m (mirror m) (put τ 0 v)) f (freed m (Evaluated.Value v))) (delete_after s ρ))
+        → Agree (after s ρ f (freed m (Ok v)))
+        (next (changing s ρ (watching m (mirror m) (put τ 0 v)) f (freed m (Ok v))) (delete_after s ρ))
     go Value.Undefined = both_end (λ z. refl)
     go (Value.Integer z) = both_end (λ z. refl)
     go (Value.Pointer p) =

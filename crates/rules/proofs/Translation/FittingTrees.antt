@@ -18,6 +18,7 @@ use Rattle.rules.specs.Emission as tree
 use Rattle.rules.proofs.Lists.BooleanLaws.{both_true}
 use Rattle.rules.proofs.Acceptance.Sound.{Scope}
 use Rattle.rules.proofs.Translation.EmissionLaws.{Holds, own_record, field-root, Step, everywhere}
+use Rattle.std.specs.Prelude.{Ok}
 
 abbrev pub root_kind : RecordTree → ℕ
 root_kind tree.none = 0
@@ -96,15 +97,15 @@ child_fits_lem l t (number p) w x n j h q i = refl
 
 -- a record that is some record whose fields fit has no fault
 fault-free : (l : Language) (t : List ℕ) (j : ℕ) (f : Form) → form_of l (kind_of t j) ≡ some f
-    → fields_fit f (record_at t j) ≡ true → children_fit l t j f (record_at t j) ≡ true → record_fault l t j ≡ 0
+    → fields_fit f (record_at t j) ≡ true → children_fit l t j f (record_at t j) ≡ true → record_fault l t j ≡ Ok tt
 unfolding record_fault
 fault-free l t j f p q s = rw (p, q, s)
 
 pub no-fault : (l : Language) (t : List ℕ) (j : ℕ) (f : Form) (r : Record) → record_at t j ≡ r
-    → form_of l r.kind ≡ some f → fields_fit f r ≡ true → children_fit l t j f r ≡ true → record_fault l t j ≡ 0
+    → form_of l r.kind ≡ some f → fields_fit f r ≡ true → children_fit l t j f r ≡ true → record_fault l t j ≡ Ok tt
 no-fault l t j f r e =
     subst (λ (r : Record). form_of l r.kind ≡ some f → fields_fit f r ≡ true → children_fit l t j f r ≡ true
-    → record_fault l t j ≡ 0) e (fault-free l t j f)
+    → record_fault l t j ≡ Ok tt) e (fault-free l t j f)
 
 -- each record of a tree that keeps the rules keeps 3, 4 and 5
 pub record Held (l : Language) (t : List ℕ) (w : RecordTree) (n : ℕ) : Type 0 where
@@ -114,7 +115,7 @@ pub record Held (l : Language) (t : List ℕ) (w : RecordTree) (n : ℕ) : Type 
 
 own-fault : (l : Language) (t : List ℕ) (k m : ℕ) (z : ℤ) (x : ℕ) (a b c : RecordTree) (n : ℕ) (ρ : Scope)
     → Fits l k m z x a b c ρ → Holds (record_at t) (node k m z x a b c) n
-    → record_fault l t (n + suc (tree_size a + tree_size b + tree_size c)) ≡ 0
+    → record_fault l t (n + suc (tree_size a + tree_size b + tree_size c)) ≡ Ok tt
 own-fault l t k m z x a b c n ρ h q =
     let j : ℕ = n + suc (tree_size a + tree_size b + tree_size c) in
     let f : Form = h.form in
@@ -136,11 +137,11 @@ own-fault l t k m z x a b c n ρ h q =
     (both_true _ _ (both_true _ _ ga gb) gc)
 
 pub records-fit : (l : Language) (t : List ℕ) (w : RecordTree) (n : ℕ) → Held l t w n
-    → (j : ℕ) → n < j → j ≤ n + tree_size w → record_fault l t j ≡ 0
-records-fit l t = everywhere (λ j. record_fault l t j ≡ 0) (Held l t) step
+    → (j : ℕ) → n < j → j ≤ n + tree_size w → record_fault l t j ≡ Ok tt
+records-fit l t = everywhere (λ j. record_fault l t j ≡ Ok tt) (Held l t) step
   where
     step : (k m : ℕ) (z : ℤ) (x : ℕ) (a b c : RecordTree) (n : ℕ) → Held l t (node k m z x a b c) n
-        → Step (λ j. record_fault l t j ≡ 0) (Held l t) a b c n
+        → Step (λ j. record_fault l t j ≡ Ok tt) (Held l t) a b c n
     step k m z x a b c n h = record {
       own = own-fault l t k m z x a b c n h.in_scope_at_root h.fitting.0 h.records;
       below-a = record { records = h.records.0; in_scope_at_root = scope_below k m h.in_scope_at_root; fitting = h.fitting.1 };

@@ -27,6 +27,7 @@ use Rattle.rules.proofs.Acceptance.Standing.{form-sort}
 use Rattle.rules.proofs.Acceptance.AcceptedTrees.{accepted-record, accepted-last}
 use Rattle.rules.proofs.Translation.RecordSizes.{has_no_number, children-only}
 use Rattle.rules.proofs.Translation.Counting.{sum-equal, sum-none, sum-pick}
+use Rattle.std.specs.Prelude.{None, Some}
 
 -- how often j is a child, by the numbers in the fields
 times-field : (t : List ℕ) (n : ℕ) (f : Field) (x j : ℕ) → has_no_number f ≡ true → FieldHolds source t n f x → 1 ≤ j
@@ -96,8 +97,8 @@ one_field r x y most false true true e f g h = absurd (omega arith)
 one_field r x y most false false false e f g h = absurd (omega arith)
 
 abbrev parent_number : Search → ℕ
-parent_number (Search.At m) = m
-parent_number Search.Nothing = 0
+parent_number (Some m) = m
+parent_number None = 0
 
 module _ (t : List ℕ) (a : Accepted source t) where
   times-are : (m : ℕ) → 1 ≤ m → m ≤ record_count t → (j : ℕ) → 1 ≤ j

@@ -16,6 +16,7 @@ use Rattle.rules.proofs.Translation.FittingTrees.{Fitting, Held, records-fit}
 use Rattle.rules.proofs.Translation.EmittedBytes.{emitted, emitted-count}
 use Rattle.rules.proofs.Acceptance.NodeLaws.{node-earlier, node-zero}
 use Rattle.rules.proofs.Translation.BuiltNodes.{built}
+use Rattle.std.specs.Prelude.{Ok}
 
 -- the node of a tree's root
 abbrev pub IsNode : (l : Language) → List ℕ → RecordTree → ℕ → NodeOf l → Type 0
@@ -34,7 +35,7 @@ field-node l t w n j x h e = rw (field-root w n) at (child-node l t w n j x h e)
 
 -- the records of a table, up to its count, have no fault
 pub record FaultFree (l : Language) (t : List ℕ) : Type 0 where
-  pub no-fault : (j : ℕ) → 0 < j → j ≤ record_count t → record_fault l t j ≡ 0
+  pub no-fault : (j : ℕ) → 0 < j → j ≤ record_count t → record_fault l t j ≡ Ok tt
 
 module _ {l : Language} {t : List ℕ} (clean : FaultFree l t) where
   -- of the nodes of A, of B and of whatever field C names

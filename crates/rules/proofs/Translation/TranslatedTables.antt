@@ -8,7 +8,6 @@ use Rattle.rules.specs.Checker.{check}
 use Rattle.rules.specs.Nodes.{source_program, target_program}
 use Rattle.rules.specs.Emission.{statement_tree, tree_size}
 use Rattle.rules.specs.Translation.{translate, translated_records, translation}
-use Rattle.rules.specs.Types.{Checked}
 use Rattle.rules.proofs.Acceptance.Sound.{start_scope, SoundStatement}
 use Rattle.rules.proofs.Translation.SoundTranslation.{sound-translation}
 use Rattle.rules.proofs.Translation.RecordBytes.{AllBytes}
@@ -16,6 +15,7 @@ use Rattle.rules.proofs.Translation.TargetFitting.{statement-fits}
 use Rattle.rules.proofs.Translation.EmittedBytes.{emitted-count, emitted-bytes}
 use Rattle.rules.proofs.Translation.ReadBack.{program-back}
 use Rattle.rules.proofs.Translation.TargetAccepted.{target-accepted}
+use Rattle.std.specs.Prelude.{Ok}
 
 abbrev pub translated_size : List ℕ → ℕ
 translated_size t = tree_size (statement_tree (translate (source_program t)))
@@ -25,7 +25,7 @@ unfolding translated_records
 translation-count t = emitted-count (statement_tree (translate (source_program t)))
 
 module _ (t : List ℕ) (sound : SoundStatement (source_program t) start_scope) (small : translated_size t ≤ 4096) where
-  pub translation-accepted : check target (translation t) ≡ Checked.Accepted
+  pub translation-accepted : check target (translation t) ≡ (Ok tt)
   unfolding translated_records
   translation-accepted =
       target-accepted (translate (source_program t)) (sound-translation (source_program t) start_scope sound) small

@@ -4,7 +4,6 @@ use Rattle.rules.specs.Records.{kind_of, mark_of, child_a, child_b}
 use Rattle.rules.specs.Nodes.{target_expression_at, target_statement_at, number_at}
 use Rattle.rules.specs.Evaluation.{Variables, condition, extend}
 use Rattle.rules.specs.Watched.{value_in}
-use Rattle.rules.specs.declared.{Test.Test}
 use Rattle.evaluation.specs.State.{variables_of}
 use Rattle.run_changes.proofs.ChangeLaws.{let-block}
 use Rattle.run_children.specs.Children.{first_of, rest_of}
@@ -20,6 +19,8 @@ use Rattle.watched_runs.proofs.MemberLaws.{Remaining, Part, part-ends, part-fini
 use Rattle.watched_runs.proofs.MemberLaws.{run-first-then, turn_by, turn-out, let-made, let-unmade}
 use Rattle.watched_runs.proofs.MemberLaws.{inside-block, inside-ends, inside-stays}
 use Rattle.watched_runs.proofs.+run.Goals as goal
+use Rattle.std.specs.Prelude.{Err, Ok}
+use Rattle.std.specs.Prelude.{true, false}
 
 module _ {T : List ℕ} {n : ℕ} {ρ : Variables} {entry : Lent} {fuel m : ℕ} {x : Lent} {left : ℕ} {r : Ended} {y : Lent}
     (e : Remaining T n ρ entry fuel m x left) (h : Ready T m) where
@@ -30,10 +31,10 @@ module _ {T : List ℕ} {n : ℕ} {ρ : Variables} {entry : Lent} {fuel m : ℕ}
 
   -- of while m a turn's condition is true, and its child ran
   turn : kind_of T m ≡ 46 → 0 < left
-      → condition (value_in (target_expression_at T (child_a T m)) ρ (state_of x)) ≡ Test.Yes
+      → condition (value_in (target_expression_at T (child_a T m)) ρ (state_of x)) ≡ (Ok true)
       → (b : ℕ) → b ≡ child_b T m → Ran (watch_from (target_statement_at T b) ρ x (left - 1)) r x y
       → Part T n ρ entry fuel m x left (child_b T m) m (left - 1) r y
-  turn q z u b i w = record { earlier = e; ran = rw i at w; leads = turn_by ρ h q x left z Test.Yes u }
+  turn q z u b i w = record { earlier = e; ran = rw i at w; leads = turn_by ρ h q x left z (Ok true) u }
 
 pub branch-child_b-then-requires : goal.branch-child_b-then-requires
 branch-child_b-then-requires t c = ready-within c.requires.0
@@ -56,7 +57,7 @@ branch-returns-in-Yes-clause-outcome t c =
     let a = c.args in
     ran-is
     (branch_by (variables_of a.variables.now) c.requires.0 c.requires.1 (lent a.mem.now a.obs.now a.temporaries.now)
-    a.fuel Test.Yes (sym c.test.ensures ∙ c.in-Yes.is))
+    a.fuel (Ok true) (sym c.test.ensures ∙ c.in-Yes.is))
     (rw c.child_b-then.ensures at c.run.ensures.outcome)
 
 pub branch-returns-in-No-clause-outcome : goal.branch-returns-in-No-clause-outcome
@@ -64,7 +65,7 @@ branch-returns-in-No-clause-outcome t c =
     let a = c.args in
     ran-is
     (branch_by (variables_of a.variables.now) c.requires.0 c.requires.1 (lent a.mem.now a.obs.now a.temporaries.now)
-    a.fuel Test.No (sym c.test.ensures ∙ c.in-No.is))
+    a.fuel (Ok false) (sym c.test.ensures ∙ c.in-No.is))
     (rw c.child_c-other.ensures at c.run-in-No.ensures.outcome)
 
 pub branch-returns-in-Stopped-clause-outcome : goal.branch-returns-in-Stopped-clause-outcome
@@ -74,7 +75,7 @@ branch-returns-in-Stopped-clause-outcome t c =
     let k = c.in-Stopped.k in
     rw c.statement_of.ensures
     (ran-is
-    (branch_by (variables_of a.variables.now) c.requires.0 c.requires.1 x a.fuel (Test.Stopped k)
+    (branch_by (variables_of a.variables.now) c.requires.0 c.requires.1 x a.fuel (Err k)
     (sym c.test.ensures ∙ c.in-Stopped.is))
     (ran-ended x k (number_at a.table.now a.n) a.fuel))
 
@@ -152,7 +153,7 @@ repeat-returns-in-No-clause-outcome t c =
     let y = lent i.mem i.obs i.temporaries in
     ran-is
     (i.invariant.remaining.rest
-    ∙ turn_by (variables_of c.args.variables.now) c.requires.0 c.requires.1 y i.left (omega arith) Test.No
+    ∙ turn_by (variables_of c.args.variables.now) c.requires.0 c.requires.1 y i.left (omega arith) (Ok false)
     (sym c.test_a.ensures ∙ c.in-No.is))
     (ran-from i.invariant.remaining.bytes (ran-finished y (i.left - 1)))
 
@@ -165,7 +166,7 @@ repeat-returns-in-Stopped-clause-outcome t c =
     rw c.statement_of.ensures
     (ran-is
     (i.invariant.remaining.rest
-    ∙ turn_by (variables_of a.variables.now) c.requires.0 c.requires.1 y i.left (omega arith) (Test.Stopped k)
+    ∙ turn_by (variables_of a.variables.now) c.requires.0 c.requires.1 y i.left (omega arith) (Err k)
     (sym c.test_a.ensures ∙ c.in-Stopped.is))
     (ran-from i.invariant.remaining.bytes (ran-ended y k (number_at a.table.now a.n) (i.left - 1))))
 

@@ -11,6 +11,7 @@ use Rattle.checker.proofs.OrderLaws.{limit-most}
 use Rattle.checker.proofs.DescentLaws.{no-fault}
 use Rattle.checker.proofs.TimesLaws.{room-a, room-b, room-c, at-three, noted-three}
 use Rattle.checker.proofs.descent.pass_scope.Goals as goal
+use Rattle.std.specs.Prelude.{Ok}
 
 pub note_children-requires : goal.note_children-requires
 note_children-requires c =
@@ -18,7 +19,7 @@ note_children-requires c =
     let l = language_of a.target in
     let t = a.table.now in
     let notes = a.notes.now in
-    let keeps : record_fault l t a.n ≡ 0 = no-fault l t c.requires.1 a.n c.requires.0.0 c.requires.0.1 in
+    let keeps : record_fault l t a.n ≡ Ok tt = no-fault l t c.requires.1 a.n c.requires.0.0 c.requires.0.1 in
     let size : a.n < length notes = omega (arith, c.requires.0, c.requires.2) in
     let few : a.n ≤ target_limit = omega (arith, c.requires.0, c.requires.1.sized.few, limit-most a.target) in
     let third = c.third_child-c.ensures ∙ (λ i. third_child (c.kind.ensures i) (c.child_c.ensures i)) in (
@@ -33,7 +34,7 @@ returns c =
     let l = language_of a.target in
     let t = a.table.now in
     let notes = a.notes.now in
-    let keeps : record_fault l t a.n ≡ 0 = no-fault l t c.requires.1 a.n c.requires.0.0 c.requires.0.1 in
+    let keeps : record_fault l t a.n ≡ Ok tt = no-fault l t c.requires.1 a.n c.requires.0.0 c.requires.0.1 in
     let third = c.third_child-c.ensures ∙ (λ i. third_child (c.kind.ensures i) (c.child_c.ensures i)) in
     let code = code_of l (kind_of t a.n) in
     subst (λ (m : List ℕ). Noted l t a.n a.scope notes m)

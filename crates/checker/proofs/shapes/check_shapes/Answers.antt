@@ -7,6 +7,7 @@ use Rattle.checker.proofs.DescentLaws.{no-fault}
 use Rattle.checker.proofs.RightLaws.{mark-used, mark-let}
 use Rattle.checker.proofs.TurnLaws.{passing-start, passing-down}
 use Rattle.checker.proofs.shapes.check_shapes.Goals as goal
+use Rattle.std.specs.Prelude.{Ok}
 
 pub loop-n-init : goal.loop-n-init
 loop-n-init c =
@@ -19,7 +20,7 @@ is_out_of_scope-requires c =
     let l = language_of a.target in
     let t = a.table.now in
     let e = c.loop-n in
-    let none : record_fault l t e.n ≡ 0 = no-fault l t c.requires.formed e.n c.loop-n-test.true e.invariant.within in
+    let none : record_fault l t e.n ≡ Ok tt = no-fault l t c.requires.formed e.n c.loop-n-test.true e.invariant.within in
     let ek = c.kind-kind.ensures in
     let em = c.mark-mark.ensures in (
       λ h. subst (λ (m : ℕ). m < 64) (sym em) (mark-used l t e.n none (sym ek ∙ h)),
@@ -32,7 +33,7 @@ scope_below-requires c =
     let l = language_of a.target in
     let t = a.table.now in
     let e = c.loop-n in
-    let none : record_fault l t e.n ≡ 0 = no-fault l t c.requires.formed e.n c.loop-n-test.true e.invariant.within in
+    let none : record_fault l t e.n ≡ Ok tt = no-fault l t c.requires.formed e.n c.loop-n-test.true e.invariant.within in
     let ek = c.kind-kind.ensures in
     let em = c.mark-mark.ensures in
     λ h. subst (λ (m : ℕ). m < 64) (sym em) (mark-let l t e.n none (sym ek ∙ h))
