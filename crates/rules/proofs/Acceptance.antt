@@ -10,6 +10,7 @@ pub mod FormLaws
 pub mod Standing
 pub mod AcceptedTrees
 pub mod RecordScopes
+pub mod SaidLaws
 pub mod Readiness
 pub mod SoundSource
 pub mod SoundTargets

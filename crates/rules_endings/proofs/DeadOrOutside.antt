@@ -43,6 +43,7 @@ use Rattle.rules_endings.proofs.StatementsTold.{operating-silent, querying-silen
 use Rattle.rules_endings.proofs.StatementsTold.{storing-silent, deleting-silent, initialising-silent}
 use Rattle.rules_endings.proofs.StatementsTold.{deciding-silent, value-told}
 use Rattle.std.specs.Prelude.{Ok}
+use Rattle.rules.specs.Types.{Stop}
 
 -- what a plain run's ending tells at statement b
 abbrev pub PlainTold : Statement → ℕ → ℕ → Variables → Memory → Type 0
@@ -71,7 +72,7 @@ plain-told = record {
       let u = used_by_predicate p ρ m in
       let r = evaluate_predicate p ρ m in
       asserted-told (λ c x. VariablesNamed ρ x × Tells no_temporaries ρ x (used_by_predicate p ρ x) c) m (condition r)
-      (j.1, λ n. other m u 33 (omega arith) (omega arith))
+      (j.1, λ n. other m u Stop.FalseAssertion (omega arith) (omega arith))
       (test-told (Tells no_temporaries ρ m u) (condition r) j.1
       (condition-told no_temporaries ρ m u r (predicate-told ρ m p)));
   branches = λ s e a b ρ m j.
@@ -80,10 +81,10 @@ plain-told = record {
   turns-on = λ s e b ρ m j.
       test-told (Tells no_temporaries ρ m (used_by e no_temporaries ρ m)) (condition (evaluate_source e ρ m)) j.1
       (decided-by no_temporaries ρ m e);
-  out-of-fuel = λ s e b ρ m j. (j.1, λ n. other m (used_by e no_temporaries ρ m) 32 (omega arith) (omega arith));
+  out-of-fuel = λ s e b ρ m j. (j.1, λ n. other m (used_by e no_temporaries ρ m) Stop.NoFuel (omega arith) (omega arith));
   makes = λ s z b ρ m j.
-      let-started (λ c. PlainKept (let_in s z b) c s ρ m) ρ z m j (j.1, λ n. other m none 31 (omega arith) (omega arith))
-      (j.1, λ n. other m none 30 (omega arith) (omega arith));
+      let-started (λ c. PlainKept (let_in s z b) c s ρ m) ρ z m j (j.1, λ n. other m none Stop.NamesGiven (omega arith) (omega arith))
+      (j.1, λ n. other m none Stop.NoRun (omega arith) (omega arith));
 }
 
 -- every accepted source table
@@ -135,8 +136,8 @@ watched-told = record {
       made_in_lem (λ k m. Started (extend ρ z k) m) (λ k y. WatchStarted (extend ρ z k) y)
       (λ c. WatchedKept (tree.let_in s z b) c s ρ x) (with_memory x) (make_block x.memory fixed 1) (λ k m h. h)
       (let-started (λ c. WatchedKept (tree.let_in s z b) c s ρ x) ρ z x.memory j
-      (j.1, λ n. other x.memory none 31 (omega arith) (omega arith))
-      (j.1, λ n. other x.memory none 30 (omega arith) (omega arith)));
+      (j.1, λ n. other x.memory none Stop.NamesGiven (omega arith) (omega arith))
+      (j.1, λ n. other x.memory none Stop.NoRun (omega arith) (omega arith)));
   takes-address = λ s n p ρ x j.
       let τ = temporary_of x.temporaries in
       let u = used_to p τ ρ x.memory in
@@ -162,7 +163,7 @@ watched-told = record {
   branches-on = λ s n a b ρ x j. deciding-silent ρ x j n;
   asserts-on = λ s n ρ x j.
       asserted-told (λ c y. WatchedKept (tree.assert_on s n) c s ρ y) x (condition (holding x n))
-      (j.1, λ k. other x.memory none 33 (omega arith) (omega arith)) (deciding-silent ρ x j n);
+      (j.1, λ k. other x.memory none Stop.FalseAssertion (omega arith) (omega arith)) (deciding-silent ρ x j n);
   stores = λ s n ρ x j.
       observed-told (λ c y. WatchedKept (tree.store_block s n) c s ρ y) x (storing n x) (storing-silent ρ x j n);
   deletes = λ s n ρ x j.

@@ -23,6 +23,7 @@ use Rattle.rules.specs.Types.{Evaluated, Found, Located}
 use Rattle.rules.specs.declared.{Block.Block, Cell.Cell}
 use Rattle.std.specs.Prelude.{Err, Ok}
 use Rattle.rules.specs.Types.{Miss}
+use Rattle.rules.specs.Types.{Stop}
 
 -- a value that was given is given again
 abbrev pub SameValue : Evaluated → Evaluated → Type 0
@@ -51,8 +52,8 @@ module _ (live live₁ : Liveness) (living : (k : ℕ) → live k ≡ true → l
       r = truth_value (same_pointer p q)
 
       go : (a b : Bool) → live p.name ≡ a → live q.name ≡ b
-          → SameValue (cond (a && b) r (Err 47))
-          (cond (live₁ p.name && live₁ q.name) r (Err 47))
+          → SameValue (cond (a && b) r (Err Stop.NotLive))
+          (cond (live₁ p.name && live₁ q.name) r (Err Stop.NotLive))
       go true true d e = rw (living p.name d, living q.name e) (same-itself r)
       go true false d e = tt
       go false b d e = tt

@@ -21,6 +21,7 @@ use Rattle.rules_endings.proofs.UsedLaws.{IsNamed, NamedValue, VariablesNamed}
 use Rattle.rules.specs.declared.{Value.Value, Cell.Cell}
 use Rattle.rules.specs.Types.{Search, Temporary}
 use Rattle.std.specs.Prelude.{None, Some}
+use Rattle.rules.specs.Types.{Stop}
 
 -- names that were given stay given
 pub names-stay : {m m₁ : Memory} (ρ : Variables) → Onward m m₁ → VariablesNamed ρ m → VariablesNamed ρ m₁
@@ -34,7 +35,7 @@ pub started-on : {m m₁ : Memory} (ρ : Variables) → Onward m m₁ → Starte
 started-on ρ h j = (h.invariant, names-stay ρ h j.1)
 
 -- a let's block, or the number where there is none
-pub let-started : (C : ℕ → Type 0) (ρ : Variables) (z : ℕ) (m : Memory) → Started ρ m → C 31 → C 30
+pub let-started : (C : Stop → Type 0) (ρ : Variables) (z : ℕ) (m : Memory) → Started ρ m → C Stop.NamesGiven → C Stop.NoRun
     → MadeKeeps (λ k m₁. Started (extend ρ z k) m₁) C (make_block m fixed 1)
 let-started C ρ z m j no_name no_cells = go (next_name m) (free_run m 1) (room m 1)
   where

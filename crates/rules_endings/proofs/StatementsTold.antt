@@ -12,7 +12,7 @@ use Rattle.rules.specs.Observation.{Noted, noted, refused, record_of, is_marked}
 use Rattle.rules.specs.Watched.{WatchedState, temporary_of, with_memory, value_in, holding, taken}
 use Rattle.rules.specs.Watched.{observed}
 use Rattle.rules.specs.Answers.{operation_endings}
-use Rattle.rules.proofs.Lists.Among.{Among}
+use Rattle.rules.proofs.Lists.Among.{StopsAmong}
 use Rattle.rules.proofs.Runs.Keeping.{AnyValue, AnyState, Gives, TestStops, on_value_lem, on-pointer}
 use Rattle.rules.proofs.Runs.Operations.{operated-gives, queried-gives, opposite-gives, condition-stops}
 use Rattle.rules.proofs.Runs.TargetRuns.{NotedKeeps, operating, querying, negating, storing, deleting, initialising}
@@ -27,6 +27,7 @@ use Rattle.rules_endings.proofs.NamedPointers.{names-stay, Started}
 use Rattle.rules.specs.Types.{Evaluated, Test}
 use Rattle.std.specs.Prelude.{Err, Ok}
 use Rattle.std.specs.Prelude.{true, false}
+use Rattle.rules.specs.Types.{Stop}
 
 -- a stop tells Q, and leaves the names as they were
 pub change-told : (ρ : Variables) (Q : ℕ → Memory → Type 0) (m : Memory) (c : Change Memory) → Onward m (changed_memory c)
@@ -34,7 +35,7 @@ pub change-told : (ρ : Variables) (Q : ℕ → Memory → Type 0) (m : Memory) 
 change-told ρ Q m (changed x) o v h = tt
 change-told ρ Q m (stopped k x) o v h = (names-stay ρ o v, h)
 
-pub test-told : {A : Type 0} (C : ℕ → Type 0) (t : Test) → A → TestStops C t → TestStops (λ c. A × C c) t
+pub test-told : {A : Type 0} (C : Stop → Type 0) (t : Test) → A → TestStops C t → TestStops (λ c. A × C c) t
 test-told C (Ok true) v h = tt
 test-told C (Ok false) v h = tt
 test-told C (Err c) v h = (v, h)
@@ -68,7 +69,7 @@ pub observed-told : (P : ℕ → WatchedState → Type 0) (x : WatchedState) (r 
 observed-told P x (noted o) h = tt
 observed-told P x (refused c) h = h
 
-pub given-told : {A : Type 0} (C : ℕ → Type 0) (e : Evaluated) → A → Gives AnyValue C e → Gives AnyValue (λ c. A × C c) e
+pub given-told : {A : Type 0} (C : Stop → Type 0) (e : Evaluated) → A → Gives AnyValue C e → Gives AnyValue (λ c. A × C c) e
 given-told C (Ok v) a h = tt
 given-told C (Err c) a h = (a, h)
 
@@ -77,7 +78,7 @@ module _ (ρ : Variables) (x : WatchedState) (j : WatchStarted ρ x) where
   abbrev Silent : ℕ → Type 0
   Silent c = VariablesNamed ρ x.memory × (Pointed ρ x → ToldApart c x.memory none)
 
-  operations-silent : (c : ℕ) → Among operation_endings c → Silent c
+  operations-silent : (c : Stop) → StopsAmong operation_endings c → Silent c
   operations-silent c h = (j.1, operations (temporary_of x.temporaries) ρ x.memory none c h)
 
   held-silent : (n : ℕ) → Gives AnyValue Silent (holding x n)
@@ -85,8 +86,8 @@ module _ (ρ : Variables) (x : WatchedState) (j : WatchStarted ρ x) where
       given-told (Tells (temporary_of x.temporaries) ρ x.memory none) (holding x n) j.1
       (any_held (temporary_of x.temporaries) ρ x.memory none (temporary_of x.temporaries n))
 
-  contradicted : Silent 48
-  contradicted = (j.1, λ n. other x.memory none 48 (omega arith) (omega arith))
+  contradicted : Silent Stop.Contradiction
+  contradicted = (j.1, λ n. other x.memory none Stop.Contradiction (omega arith) (omega arith))
 
   pub operating-silent : (q : Operator) (n : ℕ) → Gives AnyValue Silent (operating q n x)
   operating-silent q n =
@@ -97,7 +98,7 @@ module _ (ρ : Variables) (x : WatchedState) (j : WatchStarted ρ x) where
   querying-silent q n =
       on_value_lem (Gives AnyValue Silent) Silent Err (λ c k. k) (holding x (suc n)) _ (held-silent (suc n))
       (λ v u. on-pointer (Gives AnyValue Silent) Silent Err (λ c k. k) AnyValue v _
-      (operations-silent 40 refl) tt
+      (operations-silent Stop.WrongSort refl) tt
       (λ p w. queried-gives AnyValue Silent (λ z. tt) (λ p. tt) operations-silent q
       (record_of x.observation p.name) (λ i. is_marked x.observation i) p))
 
@@ -108,17 +109,17 @@ module _ (ρ : Variables) (x : WatchedState) (j : WatchStarted ρ x) where
 
   pub storing-silent : (n : ℕ) → NotedKeeps AnyState Silent (storing n x)
   storing-silent n =
-      store-called AnyState Silent (operations-silent 40 refl) contradicted x.observation (holding x n)
+      store-called AnyState Silent (operations-silent Stop.WrongSort refl) contradicted x.observation (holding x n)
       (holding x (suc n)) (held-silent n) (held-silent (suc n)) (λ k l first y z. tt)
 
   pub deleting-silent : (n : ℕ) → NotedKeeps AnyState Silent (deleting n x)
   deleting-silent n =
-      delete-called AnyState Silent (operations-silent 40 refl) contradicted x.observation (holding x n)
+      delete-called AnyState Silent (operations-silent Stop.WrongSort refl) contradicted x.observation (holding x n)
       (held-silent n) (λ k first l y. tt)
 
   pub initialising-silent : (n : ℕ) → NotedKeeps AnyState Silent (initialising n x)
   initialising-silent n =
-      initialise-called AnyState Silent (operations-silent 40 refl) contradicted x.observation (holding x n)
+      initialise-called AnyState Silent (operations-silent Stop.WrongSort refl) contradicted x.observation (holding x n)
       (held-silent n) (λ p i y. tt)
 
   pub deciding-silent : (n : ℕ) → TestStops Silent (condition (holding x n))

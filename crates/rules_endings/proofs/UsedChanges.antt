@@ -23,6 +23,7 @@ use Rattle.rules.specs.Types.{Evaluated, Found, Located}
 use Rattle.rules.specs.declared.{Block.Block, Cell.Cell}
 use Rattle.rules.specs.Types.{Search}
 use Rattle.std.specs.Prelude.{Err, None, Ok, Some}
+use Rattle.rules.specs.Types.{Stop}
 
 -- a store that stops tells of its pointer
 stored-told : (P : ℕ → Memory → Type 0) (m : Memory) (p : Pointer) (v : Value)
@@ -32,8 +33,8 @@ stored-told P m p v h = go (locate m p) refl (whereabouts m p)
     go : (l : Located) → locate m p ≡ l → Whereabouts m p l
         → ChangeStops P (at_cell (λ i. changed (set_cell m i (Cell.Holds p.name v))) (λ k. stopped k m) l)
     go _ e (at i) = tt
-    go _ e (dead d) = h 42 (λ n. rw e (used-dead m p (d n)))
-    go _ e (outside d) = h 50 (λ n. rw e (used-outside m p d))
+    go _ e (dead d) = h Stop.DeadBlock (λ n. rw e (used-dead m p (d n)))
+    go _ e (outside d) = h Stop.OutsideBlock (λ n. rw e (used-outside m p d))
 
 module _ {T : Type 0} (τ : Holding T) (ρ : Variables) where
   -- at memory m
@@ -81,8 +82,8 @@ module _ {T : Type 0} (τ : Holding T) (ρ : Variables) where
     made_told : (m : Memory) (q : Pointer) (v : Value) (n : ℕ) (r s : Search) → Invariant m
         → find_place p τ ρ m ≡ Ok q → evaluate e τ ρ m ≡ Ok v → HasRoom m (suc n) r s
         → ChangeStops StoreTells (store_new m q (make_at m freeable (suc n) r s))
-    made_told m q v n None s y a b h = earlier m 31 (omega arith) (omega arith)
-    made_told m q v n (Some k) None y a b h = earlier m 30 (omega arith) (omega arith)
+    made_told m q v n None s y a b h = earlier m Stop.NamesGiven (omega arith) (omega arith)
+    made_told m q v n (Some k) None y a b h = earlier m Stop.NoRun (omega arith) (omega arith)
     made_told m q v n (Some k) (Some first) y a b h =
         let m₁ = with_block m freeable k first (suc n) in
         let kept = read_kept m freeable (suc n) k first h y in
@@ -97,17 +98,17 @@ module _ {T : Type 0} (τ : Holding T) (ρ : Variables) where
       where
         sized : (q : Pointer) (v : Value) (z : ℤ) → find_place p τ ρ m ≡ Ok q
             → evaluate e τ ρ m ≡ Ok v → ChangeStops StoreTells (new_of_size m q z)
-        sized q v (pos zero) a b = earlier m 45 (omega arith) (omega arith)
+        sized q v (pos zero) a b = earlier m Stop.SizeBelowOne (omega arith) (omega arith)
         sized q v (pos (suc n)) a b = made_told m q v n (next_name m) (free_run m (suc n)) y a b (room m (suc n))
-        sized q v (negsuc n) a b = earlier m 45 (omega arith) (omega arith)
+        sized q v (negsuc n) a b = earlier m Stop.SizeBelowOne (omega arith) (omega arith)
 
         go : (f : Found) (r : Evaluated) → find_place p τ ρ m ≡ f → evaluate e τ ρ m ≡ r
             → ChangeStops StoreTells (allocated m f r)
         go (Err c) r a b = λ n. rw a (place-stopped m p c a n)
         go (Ok q) (Err c) a b = λ n. rw (a, b) (value-stopped m e c b n)
-        go (Ok q) (Ok Value.Undefined) a b = earlier m 40 (omega arith) (omega arith)
+        go (Ok q) (Ok Value.Undefined) a b = earlier m Stop.WrongSort (omega arith) (omega arith)
         go (Ok q) (Ok (Value.Integer z)) a b = sized q (Value.Integer z) z a b
-        go (Ok q) (Ok (Value.Pointer x)) a b = earlier m 40 (omega arith) (omega arith)
+        go (Ok q) (Ok (Value.Pointer x)) a b = earlier m Stop.WrongSort (omega arith) (omega arith)
 
   -- kind 43
   pub freed-told : (e : Expression T) (m : Memory)
@@ -117,11 +118,11 @@ module _ {T : Type 0} (τ : Holding T) (ρ : Variables) where
       Freeing : ℕ → Memory → Type 0
       Freeing c x = Tells τ ρ x (used_by e τ ρ x) c
 
-      wrong-sort : Freeing 40 m
-      wrong-sort n = other m (used_by e τ ρ m) 40 (omega arith) (omega arith)
+      wrong-sort : Freeing Stop.WrongSort m
+      wrong-sort n = other m (used_by e τ ρ m) Stop.WrongSort (omega arith) (omega arith)
 
-      not_first : Freeing 46 m
-      not_first n = other m (used_by e τ ρ m) 46 (omega arith) (omega arith)
+      not_first : Freeing Stop.WrongFree m
+      not_first n = other m (used_by e τ ρ m) Stop.WrongFree (omega arith) (omega arith)
 
       by-block : (k : ℕ) (b : Block) → ChangeStops Freeing (free_of m k b)
       by-block k Block.Unused = not_first

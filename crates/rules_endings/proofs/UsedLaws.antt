@@ -17,7 +17,7 @@ use Rattle.rules.specs.Memory.{is_unused, on_value, on_place, live_block}
 use Rattle.rules.specs.Evaluation.{Variables, Holding, no_temporaries, held, pointed_by, address_of, operated, evaluate}
 use Rattle.rules.specs.Evaluation.{find_place, evaluate_term, evaluate_predicate, query_memory, on_test, opposite, condition}
 use Rattle.rules.specs.Answers.{operation_endings}
-use Rattle.rules.proofs.Lists.Among.{Among, among-not}
+use Rattle.rules.proofs.Lists.Among.{StopsAmong, among-not}
 use Rattle.rules.proofs.Runs.EvaluatedValues.{CellHas, TemporaryHas}
 use Rattle.rules.proofs.Runs.Keeping.{AnyValue, Gives, Finds, TestStops, on_value_lem, on-pointer}
 use Rattle.rules.proofs.Runs.Operations.{operate-gives, query_memory-gives, tested-stops, condition-stops}
@@ -30,6 +30,7 @@ use Rattle.rules.specs.declared.{Block.Block, Recorded.Recorded, Cell.Cell}
 use Rattle.rules.specs.Types.{Located, Temporary}
 use Rattle.std.specs.Prelude.{Err, None, Ok, Some}
 use Rattle.rules.specs.Types.{Miss}
+use Rattle.rules.specs.Types.{Stop}
 
 -- a name was given: its block is not unused
 abbrev pub IsNamed : Memory → ℕ → Type 0
@@ -80,13 +81,13 @@ module _ (m : Memory) where
   pub other : (u : Option Pointer) (c : ℕ) → c ≢ 42 → c ≢ 50 → ToldApart c m u
   other u c d o = record { dead = λ h. absurd (d h); outside = λ h. absurd (o h) }
 
-  pub used-dead : (p : Pointer) → IsDead m p → ToldApart 42 m (some p)
+  pub used-dead : (p : Pointer) → IsDead m p → ToldApart Stop.DeadBlock m (some p)
   used-dead p h = record {
     dead = λ e. record { pointer = p; used = refl; is = h };
     outside = λ e. absurd (omega (arith, e));
   }
 
-  pub used-outside : (p : Pointer) → IsOutside m p → ToldApart 50 m (some p)
+  pub used-outside : (p : Pointer) → IsOutside m p → ToldApart Stop.OutsideBlock m (some p)
   used-outside p h = record {
     dead = λ e. absurd (omega (arith, e));
     outside = λ e. record { pointer = p; used = refl; is = h };
@@ -107,7 +108,7 @@ module _ {T : Type 0} (τ : Holding T) (ρ : Variables) (m : Memory) where
   abbrev pub FoundTold : Option Pointer → Found → Type 0
   FoundTold u f = Finds (λ p. Named (Value.Pointer p)) (Tells u) f
 
-  pub operations : (u : Option Pointer) (c : ℕ) → Among operation_endings c → Tells u c
+  pub operations : (u : Option Pointer) (c : Stop) → StopsAmong operation_endings c → Tells u c
   operations u c h n = other m u c (among-not operation_endings c 42 refl h) (among-not operation_endings c 50 refl h)
 
   -- G is of values, pointers with other offsets among them
@@ -122,8 +123,8 @@ module _ {T : Type 0} (τ : Holding T) (ρ : Variables) (m : Memory) where
 
   defined-told : (u : Option Pointer) (c : Cell) → (PointersNamed τ ρ m → CellHas (NamedValue m) c)
       → Told u (defined c)
-  defined-told u Cell.Free h = λ n. other m u 41 (omega arith) (omega arith)
-  defined-told u (Cell.Holds o Value.Undefined) h = λ n. other m u 41 (omega arith) (omega arith)
+  defined-told u Cell.Free h = λ n. other m u Stop.UndefinedCell (omega arith) (omega arith)
+  defined-told u (Cell.Holds o Value.Undefined) h = λ n. other m u Stop.UndefinedCell (omega arith) (omega arith)
   defined-told u (Cell.Holds o (Value.Integer z)) h = λ n. tt
   defined-told u (Cell.Holds o (Value.Pointer p)) h = h
 
@@ -148,13 +149,13 @@ module _ {T : Type 0} (τ : Holding T) (ρ : Variables) (m : Memory) where
   pointed-told : (e : Evaluated) (u : Option Pointer) → Told u e → FoundTold u (pointed_by e)
   pointed-told e u h =
       on_value_lem (FoundTold u) (Tells u) Err (λ c x. x) e _ h (λ v k.
-      on-pointer (FoundTold u) (Tells u) Err (λ c x. x) Named v Ok (operations u 40 refl) k
+      on-pointer (FoundTold u) (Tells u) Err (λ c x. x) Named v Ok (operations u Stop.WrongSort refl) k
       (λ p l. l))
 
   -- "49 empty temporary"
   held-told : (G : Value → Type 0) (u : Option Pointer) (t : Temporary) → TemporaryHas G t
       → Gives G (Tells u) (held t)
-  held-told G u None h = λ n. other m u 49 (omega arith) (omega arith)
+  held-told G u None h = λ n. other m u Stop.EmptyTemporary (omega arith) (omega arith)
   held-told G u (Some v) h = h
 
   temporary-named : (t : Temporary) → (PointersNamed τ ρ m → TemporaryHas (NamedValue m) t) → TemporaryHas Named t

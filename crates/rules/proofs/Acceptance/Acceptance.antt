@@ -22,6 +22,8 @@ use Rattle.rules.specs.Types.{Search}
 pub use Rattle.rules.proofs.Lists.SearchLaws.{NonePass, Lowest}
 use Rattle.std.specs.Prelude.{None, Ok, Some}
 use Rattle.rules.specs.Types.{Found}
+use Rattle.rules.proofs.Acceptance.SaidLaws.{err-is-not-ok}
+use Rattle.rules.specs.Types.{Rule}
 
 pub lowest-at : (p : ℕ → Bool) (j k n : ℕ) → lowest p j k ≡ Some n → Lowest p j k n
 lowest-at p j k n e = subst (search-laws.Found p j k) e (lowest-found p j k)
@@ -53,12 +55,12 @@ pub record Accepted (l : Language) (t : List ℕ) : Type 0 where
   pub scopes : NoRecord t (scope_fault l t)
   pub levels : LevelsHold l t
 
-refused-nowhere : (rule : ℕ) (s : Search) → refuse_at rule s ≡ (Ok tt) → s ≡ None
-refused-nowhere rule (Some n) h = let z : ◌≡◌ {A = ℕ} 0 1 = cc in absurd (omega arith)
+refused-nowhere : (rule : Rule) (s : Search) → refuse_at rule s ≡ (Ok tt) → s ≡ None
+refused-nowhere rule (Some n) h = absurd (err-is-not-ok h)
 refused-nowhere rule None h = refl
 
 last-holds : (l : Language) (t : List ℕ) → last_rule l t ≡ (Ok tt) → LevelsHold l t
-last-holds source t h = each-passes t (level_fault t) (refused-nowhere 8 (lowest_record t (level_fault t)) h)
+last-holds source t h = each-passes t (level_fault t) (refused-nowhere Rule.Level (lowest_record t (level_fault t)) h)
 last-holds target t h = tt
 
 holds-last : (l : Language) (t : List ℕ) → LevelsHold l t → last_rule l t ≡ (Ok tt)

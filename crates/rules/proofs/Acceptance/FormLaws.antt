@@ -21,6 +21,8 @@ use Rattle.rules.proofs.Lists.BooleanLaws.{three-pass, five-pass}
 use Rattle.rules.proofs.Acceptance.KindViews.{and_split, every, found-passes, found-kind}
 use Rattle.rules.proofs.Acceptance.NodeLaws.{node_before, node-earlier, node-later, node_law, junk-sort}
 use Rattle.std.specs.Prelude.{Ok, is_ok}
+use Rattle.rules.proofs.Acceptance.SaidLaws.{faults, err-is-not-ok, kept-ok}
+use Rattle.std.specs.Prelude.{Err}
 
 -- what each field of record n is, by the form
 abbrev pub FieldHolds : (l : Language) → List ℕ → ℕ → Field → ℕ → Type 0
@@ -121,14 +123,14 @@ pub record Faultless (l : Language) (t : List ℕ) (n : ℕ) (o : Option Form) :
   pub children : children_fit l t n form (record_at t n) ≡ true
 
 no-fault : (l : Language) (t : List ℕ) (n : ℕ) (o : Option Form) → fault_of l t n o ≡ Ok tt → Faultless l t n o
-no-fault l t n none h = absurd (omega arith)
+no-fault l t n none h = absurd (err-is-not-ok h)
 no-fault l t n (some f) h = go (fields_fit f (record_at t n)) (children_fit l t n f (record_at t n)) refl refl h
   where
     go : (p q : Bool) → fields_fit f (record_at t n) ≡ p → children_fit l t n f (record_at t n) ≡ q
-        → ◌≡◌ {A = ℕ} (cond p (cond q 0 5) 4) 0 → Faultless l t n (some f)
+        → faults p q ≡ Ok tt → Faultless l t n (some f)
     go true true d e r = record { form = f; found = refl; fields = d; children = e }
-    go true false d e r = absurd (omega arith)
-    go false q d e r = absurd (omega arith)
+    go true false d e r = absurd (err-is-not-ok r)
+    go false q d e r = absurd (err-is-not-ok r)
 
 pub faultless : (l : Language) (t : List ℕ) (n : ℕ) → record_fault l t n ≡ Ok tt → Faultless l t n (form_of l (kind_of t n))
 unfolding record_fault
@@ -230,5 +232,5 @@ pub node-built : (l : Language) (t : List ℕ) (n : ℕ) (f : Form) → 1 ≤ n 
     → FormHolds l t n f
 node-built l t n f p q r o h w =
     let g : in_table l t n (form_of l (kind_of t n)) ≡ true =
-    rw (lt-ltb 0 n p, le-leb n (record_count t) q, eq-is_ok (record_fault l t n) r, o) w in
+    rw (lt-ltb 0 n p, le-leb n (record_count t) q, kept-ok r, o) w in
     kept l t n f p o h w (node_law l t n ∙ ap (λ (b : Bool). guarded l b (node_under l t n)) g)

@@ -16,6 +16,10 @@ use Rattle.rules.specs.Records.{fields_of, record_at}
 use Rattle.rules.specs.Kinds.{Language, sort_number, Field, unnamed, child, number, Form, field_of, form_of}
 use Rattle.rules.specs.Checker.{fields_fit, sort_of, child_fits, children_fit, fault_of, record_fault}
 use Rattle.rules.specs.Nodes.{NodeOf, build_node, nodes_fit, guarded, node_in, make_node, with_next, nodes, node_at}
+use Rattle.std.specs.Prelude.{Err, Ok}
+use Rattle.rules.specs.Types.{Rule}
+use Rattle.rules.proofs.Acceptance.SaidLaws.{faults}
+use Rattle.std.specs.Prelude.{is_ok, Result}
 
 take-front : (n : ℕ) (t z : List ℕ) → n ≤ length t → take n (t ++ z) ≡ take n t
 take-front zero t z h = refl
@@ -85,7 +89,7 @@ module _ (t z : List ℕ) where
       by_form : (o : Option Form) → fault_of l (t ++ z) n o ≡ fault_of l t n o
       by_form none = refl
       by_form (some f) =
-          ap₂ (λ (u v : Bool). cond u (cond v 0 5) 4) (ap (fields_fit f) e)
+          ap₂ (λ (u v : Bool). faults u v) (ap (fields_fit f) e)
           (children-padded l n f (record_at (t ++ z) n) q ∙ ap (children_fit l t n f) e)
 
   make-padded : (l : Language) (n : ℕ) (ns : List (NodeOf l)) → n ≤ record_count t
@@ -100,10 +104,10 @@ module _ (t z : List ℕ) where
       ∙ sym (le-leb (suc n) (record_count t) q) in
       λ i. from (w i) (f i) (r i)
     where
-      from : Bool → ℕ → Record → NodeOf l
+      from : Bool → Result Unit Rule → Record → NodeOf l
       from u v r =
           let cs = map (node_in l ns) (fields_of r) in
-          guarded l (ltb 0 (suc n) && u && eqb v 0 && nodes_fit l (form_of l r.kind) cs) (build_node l (suc n) r cs)
+          guarded l (ltb 0 (suc n) && u && is_ok v && nodes_fit l (form_of l r.kind) cs) (build_node l (suc n) r cs)
 
   nodes-padded : (l : Language) (n : ℕ) → n ≤ suc (record_count t) → nodes l (t ++ z) n ≡ nodes l t n
   unfolding nodes

@@ -18,6 +18,7 @@ use Rattle.rules.proofs.Lists.BooleanLaws.{and_split}
 use Rattle.rules.proofs.Lists.SearchLaws.{lowest-nothing, lowest-at, Outcome, lowest-outcome}
 use Rattle.std.specs.Prelude.{None, Some}
 use Rattle.std.specs.Prelude.{Ok}
+use Rattle.rules.proofs.Acceptance.SaidLaws.{faults, err-is-not-ok}
 
 -- a table that keeps 3, 4, 5 and 6
 pub record Passed (l : Language) (t : List ℕ) : Type 0 where
@@ -30,10 +31,10 @@ clash e = false≢true e
 pub two-pass : (p q : Bool) → (p && q) ≡ true → (p ≡ true) × (q ≡ true)
 two-pass p q e = and_split p q e
 
-fits-of : (p q : Bool) → ◌≡◌ {A = ℕ} (cond p (cond q 0 5) 4) 0 → (p ≡ true) × (q ≡ true)
+fits-of : (p q : Bool) → faults p q ≡ Ok tt → (p ≡ true) × (q ≡ true)
 fits-of true true e = (refl, refl)
-fits-of true false e = absurd (omega arith)
-fits-of false q e = absurd (omega arith)
+fits-of true false e = absurd (err-is-not-ok e)
+fits-of false q e = absurd (err-is-not-ok e)
 
 module _ (l : Language) (t : List ℕ) (m : ℕ) where
   -- what is a child in a field of record m
@@ -70,7 +71,7 @@ module _ (l : Language) (t : List ℕ) (m : ℕ) where
       go (no u) (no v) a b d = d (omega arith)
 
   in-record : (o : Option Form) (c : ℕ) → fault_of l t m o ≡ Ok tt → 0 < times_of o (record_at t m) c → (0 < c) × (c < m)
-  in-record none c e h = absurd (omega arith)
+  in-record none c e h = absurd (err-is-not-ok e)
   in-record (some f) c e h =
       let both : (fields_fit f (record_at t m) ≡ true) × (children_fit l t m f (record_at t m) ≡ true) = fits-of _ _ e in
       in-fields f (record_at t m) c both.0 both.1 h

@@ -19,6 +19,7 @@ use Rattle.rules.proofs.Acceptance.FormLaws.{some-sort, faultless, record_as, Fo
 use Rattle.rules.proofs.Acceptance.FormLaws.{in_table}
 use Rattle.rules.proofs.Acceptance.FormLaws.{node-built}
 use Rattle.std.specs.Prelude.{is_ok}
+use Rattle.rules.proofs.Acceptance.SaidLaws.{ok-kept}
 
 not-guarded : (l : Language) (b : Bool) (x : NodeOf l) → 1 ≤ sort_of_node l (guarded l b x) → b ≡ true
 not-guarded l true x h = refl
@@ -87,7 +88,7 @@ stands l t n s e =
     let u = and_split (ltb 0 n) (leb n (record_count t)) v.0 in
     let p = ltb-true 0 n u.0 in
     let q = leb-true n (record_count t) u.1 in
-    let r = eqb-true (record_fault l t n) 0 v.1 in
+    let r = ok-kept (record_fault l t n) v.1 in
     let f = faultless l t n r in
     let h = node-built l t n f.form p q r f.found f.fields (rw f.found at w.1) in
     let k = sort-by-number f.form.sort s (sym (form-sort l t n f.form f.found h) ∙ e) in

@@ -19,6 +19,8 @@ use Rattle.rules.specs.Types.{Checked}
 use Rattle.rules.proofs.Lists.Among.{Among}
 use Rattle.rules.proofs.Acceptance.CheckLaws.{Numbered, check-numbered}
 use Rattle.std.specs.Prelude.{Ok}
+use Rattle.std.specs.Prelude.{Err}
+use Rattle.rules.specs.Types.{Refusal, Rule, rule_number}
 
 -- a buffer of the right length is not refused
 right-length : (l : List ℕ) (n : ℕ) → length l ≡ n → not (eqb (length l) n) ≡ false
@@ -43,7 +45,7 @@ pub plain_runs : (t i : List ℕ) (f : ℕ) (memory : List ℕ) → check source
     → length memory ≡ memory_length → run_plain t i f memory ≡ plain_ended (ending (plain_outcome t i f))
 plain_runs t i f memory c e h =
     ap (λ x. plain_by x t i f memory) c
-    ∙ (λ k. plain_as (refuse_if 9 (e k) otherwise refuse_if 21 (right-length memory memory_length h k)) t i f memory)
+    ∙ (λ k. plain_as (refuse_if Rule.Inputs (e k) otherwise refuse_if Rule.Memory (right-length memory memory_length h k)) t i f memory)
 
 pub watched-runs : (t i : List ℕ) (f : ℕ) (memory observation : List ℕ) → check target t ≡ (Ok tt)
     → inputs_fault i ≡ false → length memory ≡ memory_length → length observation ≡ observation_length
@@ -51,31 +53,31 @@ pub watched-runs : (t i : List ℕ) (f : ℕ) (memory observation : List ℕ) �
 watched-runs t i f memory observation c e h k =
     ap (λ x. watched_by x t i f memory observation) c
     ∙ (λ j. watched_as
-    (refuse_if 9 (e j) otherwise refuse_if 21 (right-length memory memory_length h j)
-    otherwise refuse_if 22 (right-length observation observation_length k j))
+    (refuse_if Rule.Inputs (e j) otherwise refuse_if Rule.Memory (right-length memory memory_length h j)
+    otherwise refuse_if Rule.Observation (right-length observation observation_length k j))
     t i f memory observation)
 
 -- "Numbers 1–22 return the number and record (0 where none) and write no lent byte."
 pub data PlainAnswered (t i : List ℕ) (f : ℕ) (memory : List ℕ) : PlainRun → Type 0 where
-  refused : {k n : ℕ} → Among refusals k → PlainAnswered t i f memory (plain_refused k n memory)
+  refused : (r : Refusal) → Among refusals (rule_number r.rule) → PlainAnswered t i f memory (plain_refused r memory)
   ran : PlainAnswered t i f memory (plain_ended (ending (plain_outcome t i f)))
 
 pub plain-answered : (t i : List ℕ) (f : ℕ) (memory : List ℕ) → PlainAnswered t i f memory (run_plain t i f memory)
 plain-answered t i f memory = by-check (check source t) (check-numbered source t)
   where
     by_tests : (p q : Bool)
-        → PlainAnswered t i f memory (plain_as (refuse_if 9 p otherwise refuse_if 21 q) t i f memory)
-    by_tests true q = refused refl
-    by_tests false true = refused refl
+        → PlainAnswered t i f memory (plain_as (refuse_if Rule.Inputs p otherwise refuse_if Rule.Memory q) t i f memory)
+    by_tests true q = refused (record { rule = Rule.Inputs; «record» = 0 }) refl
+    by_tests false true = refused (record { rule = Rule.Memory; «record» = 0 }) refl
     by_tests false false = ran
 
     by-check : (c : Checked) → Numbered c → PlainAnswered t i f memory (plain_by c t i f memory)
-    by-check (Checked.Refused k n) h = refused h
-    by-check (Ok tt) h = by_tests (inputs_fault i) (memory_fault memory)
+    by-check (Err r) h = refused r h
+    by-check (Ok u) h = by_tests (inputs_fault i) (memory_fault memory)
 
 pub data WatchedAnswered (t i : List ℕ) (f : ℕ) (memory observation : List ℕ) : WatchedRun → Type 0 where
-  refused : {k n : ℕ} → Among refusals k
-      → WatchedAnswered t i f memory observation (watched_refused k n memory observation)
+  refused : (r : Refusal) → Among refusals (rule_number r.rule)
+      → WatchedAnswered t i f memory observation (watched_refused r memory observation)
   ran : WatchedAnswered t i f memory observation (watched_ended (ending (watched_outcome t i f)))
 
 pub watched-answered : (t i : List ℕ) (f : ℕ) (memory observation : List ℕ)
@@ -84,13 +86,13 @@ watched-answered t i f memory observation = by-check (check target t) (check-num
   where
     by_tests : (p q r : Bool)
         → WatchedAnswered t i f memory observation
-        (watched_as (refuse_if 9 p otherwise refuse_if 21 q otherwise refuse_if 22 r) t i f memory observation)
-    by_tests true q r = refused refl
-    by_tests false true r = refused refl
-    by_tests false false true = refused refl
+        (watched_as (refuse_if Rule.Inputs p otherwise refuse_if Rule.Memory q otherwise refuse_if Rule.Observation r) t i f memory observation)
+    by_tests true q r = refused (record { rule = Rule.Inputs; «record» = 0 }) refl
+    by_tests false true r = refused (record { rule = Rule.Memory; «record» = 0 }) refl
+    by_tests false false true = refused (record { rule = Rule.Observation; «record» = 0 }) refl
     by_tests false false false = ran
 
     by-check : (c : Checked) → Numbered c
         → WatchedAnswered t i f memory observation (watched_by c t i f memory observation)
-    by-check (Checked.Refused k n) h = refused h
-    by-check (Ok tt) h = by_tests (inputs_fault i) (memory_fault memory) (observation_fault observation)
+    by-check (Err r) h = refused r h
+    by-check (Ok u) h = by_tests (inputs_fault i) (memory_fault memory) (observation_fault observation)

@@ -28,6 +28,8 @@ use Rattle.rules.proofs.Claim.Start.{start-invariant}
 use Rattle.rules.proofs.Claim.StartObservation.{start-mirrors}
 use Rattle.rules.proofs.Memory.Orderly.{Orderly, plain-orderly, watched-orderly}
 use Rattle.std.specs.Prelude.{None}
+use Rattle.rules.specs.Types.{stop_number}
+use Rattle.rules.specs.Types.{Temporary}
 
 -- a plain and a watched run come out alike
 pub record Same (p : Ending Memory) (w : Ending WatchedState) : Type 0 where
@@ -49,9 +51,9 @@ same_of (both-finish e l) c = record {
 same_of (both_end {c = n} h) c = record {
   same_answer = refl;
   same_memory = refl;
-  unrefused = (among_none plain_endings refusals n refl c, among_none plain_endings refusals n refl c);
+  unrefused = (among_none plain_endings refusals (stop_number n) refl c, among_none plain_endings refusals (stop_number n) refl c);
   mirrors = h;
-  no-contradiction = (among-not plain_endings n 48 refl c, among-not plain_endings n 49 refl c);
+  no-contradiction = (among-not plain_endings (stop_number n) 48 refl c, among-not plain_endings (stop_number n) 49 refl c);
 }
 
 -- the runs of a source tree, and a target tree's
@@ -75,7 +77,7 @@ runs_same a σ is f d h le =
     rw (start-mirrors is h le)
     (same_of
     (simulates a σ start_variables (start_memory is) start_temporaries f d (start-invariant is le)
-    (length-replicate 64 None))
+    (length-replicate {A = Temporary} 64 None))
     (run-endings a start_variables (start_memory is) f))
 
 -- what holds of the execution memory after a run, of the translation or of any other target statement

@@ -7,10 +7,14 @@ use mathlib.Core.Path.{◌≡◌, refl, sym, ap, ◌∙◌}
 use borrow.Author.Tests.{eqb-true}
 use lib.Dec.{eqb}
 use Rattle.rules.specs.Answers.{is_in}
+use Rattle.rules.specs.Types.{Stop, stop_number}
 use Rattle.rules.proofs.Lists.BooleanLaws.{and_split}
 
 abbrev pub Among : List ℕ → ℕ → Type 0
 Among l c = is_in c l ≡ true
+
+abbrev pub StopsAmong : List ℕ → Stop → Type 0
+StopsAmong l c = Among l (stop_number c)
 
 -- each of a list passes a test
 abbrev pub each : (ℕ → Bool) → List ℕ → Bool

@@ -16,15 +16,16 @@ use Rattle.rules.proofs.Lists.BooleanLaws.{and_split}
 use Rattle.rules.specs.Types.{Pointer, Value, Recorded}
 use Rattle.std.specs.Prelude.{Err, Ok}
 use Rattle.rules.specs.Types.{Miss}
+use Rattle.rules.specs.Types.{Stop}
 
 -- 02 §4: "Operator 7 with a pointer into a dead block on either side ends 47"
 pub operator-7-ends-47 : (live : Liveness) (p q : Pointer) → (live p.name ≡ false) ⊎ (live q.name ≡ false)
-    → operate live (operator_of 7) (Value.Pointer p) (Value.Pointer q) ≡ Err 47
+    → operate live (operator_of 7) (Value.Pointer p) (Value.Pointer q) ≡ Err Stop.NotLive
 unfolding operate on_pointers
 operator-7-ends-47 live p q (inl e) = rw e
 operator-7-ends-47 live p q (inr e) = rw e (neither (live p.name))
   where
-    neither : (b : Bool) → cond (b && false) (truth_value (same_pointer p q)) (Err 47) ≡ Err 47
+    neither : (b : Bool) → cond (b && false) (truth_value (same_pointer p q)) (Err Stop.NotLive) ≡ Err Stop.NotLive
     neither true = refl
     neither false = refl
 
@@ -36,7 +37,7 @@ unfolding operate on_pointers
 operator-7-compares-live-blocks live p q v h = go (live p.name) (live q.name) refl refl h
   where
     go : (a b : Bool) → live p.name ≡ a → live q.name ≡ b
-        → cond (a && b) (truth_value (same_pointer p q)) (Err 47) ≡ Ok v
+        → cond (a && b) (truth_value (same_pointer p q)) (Err Stop.NotLive) ≡ Ok v
         → (live p.name ≡ true) × (live q.name ≡ true) × (v ≡ truth (same_pointer p q))
     go true true d e h = (d, e, sym cc)
     go true false d e h = let z : ◌≡◌ {A = ℕ} 0 1 = cc in absurd (omega arith)
@@ -44,8 +45,8 @@ operator-7-compares-live-blocks live p q v h = go (live p.name) (live q.name) re
 
 -- 02 §4: "The order for one operation becomes 49, 40, 47": a pointer against an integer ends 40, live or not
 pub operator-7-asks-the-sorts-first : (live : Liveness) (p : Pointer) (z : ℤ)
-    → (operate live (operator_of 7) (Value.Pointer p) (Value.Integer z) ≡ Err 40)
-    × (operate live (operator_of 7) (Value.Integer z) (Value.Pointer p) ≡ Err 40)
+    → (operate live (operator_of 7) (Value.Pointer p) (Value.Integer z) ≡ Err Stop.WrongSort)
+    × (operate live (operator_of 7) (Value.Integer z) (Value.Pointer p) ≡ Err Stop.WrongSort)
 unfolding operate on_pointer_and_integer
 operator-7-asks-the-sorts-first live p z = (refl, refl)
 

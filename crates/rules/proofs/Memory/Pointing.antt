@@ -14,6 +14,7 @@ use Rattle.rules.proofs.Memory.Invariant.{Invariant}
 use Rattle.rules.specs.Types.{Pointer, Located, Recorded}
 use Rattle.std.specs.Prelude.{Err, Ok}
 use Rattle.rules.specs.Types.{Miss}
+use Rattle.rules.specs.Types.{Stop}
 
 -- block k covers the cell, which is one of the 1,024
 abbrev pub Leads : Memory → ℕ → Located → Type 0
@@ -40,12 +41,12 @@ leads m p y = go (recorded_of (block_of m p.name)) p.offset refl
             )
 
 -- so what is done at a pointer's cell is done at a cell of its block
-pub at-pointed : {A : Type 0} (P : A → Type 0) (at stop : ℕ → A) (m : Memory) (p : Pointer) → Invariant m
-    → ((i : ℕ) → covers (recorded_of (block_of m p.name)) i ≡ true → P (at i)) → ((c : ℕ) → P (stop c))
+pub at-pointed : {A : Type 0} (P : A → Type 0) (at : ℕ → A) (stop : Stop → A) (m : Memory) (p : Pointer) → Invariant m
+    → ((i : ℕ) → covers (recorded_of (block_of m p.name)) i ≡ true → P (at i)) → ((c : Stop) → P (stop c))
     → P (at_cell at stop (locate m p))
 at-pointed P at stop m p y g h = go (locate m p) (leads m p y)
   where
     go : (r : Located) → Leads m p.name r → P (at_cell at stop r)
     go (Ok i) w = g i w.0
-    go (Err Miss.Dead) w = h 42
-    go (Err Miss.Outside) w = h 50
+    go (Err Miss.Dead) w = h Stop.DeadBlock
+    go (Err Miss.Outside) w = h Stop.OutsideBlock

@@ -15,6 +15,7 @@ use Rattle.rules.specs.Watched.{Temporaries, held_in, watching, value_in, taken,
 use Rattle.rules.proofs.Memory.ComparedPointers.{operator-7-ends-47}
 use Rattle.rules.specs.Types.{Pointer, Value, Evaluated, Recorded}
 use Rattle.std.specs.Prelude.{Err, Ok}
+use Rattle.rules.specs.Types.{Stop}
 
 -- 02 §4: "an expression, there too, asks the execution memory": what it gives does not depend on the observation memory
 pub expressions-ask-the-execution-memory : (e : Expression ℕ) (ρ : Variables) (m : Memory) (o o₁ : Observation)
@@ -43,7 +44,7 @@ module _ (s n : ℕ) (ρ : Variables) (m : Memory) (o : Observation) (τ : Tempo
     (left : held_in τ (suc n) ≡ Ok (Value.Pointer p))
     (right : held_in τ (suc (suc n)) ≡ Ok (Value.Pointer q)) where
   pub never-recorded-ends-47 : (record_of o p.name ≡ Recorded.Unused) ⊎ (record_of o q.name ≡ Recorded.Unused)
-      → watch (take_operation s n (operator_of 7)) ρ (watching m o τ) f ≡ ended 47 s ρ [] (watching m o τ) f
+      → watch (take_operation s n (operator_of 7)) ρ (watching m o τ) f ≡ ended Stop.NotLive s ρ [] (watching m o τ) f
   unfolding watch
   never-recorded-ends-47 h = rw (left, right, operator-7-ends-47 (live_record o) p q (not_live h)) refl
     where

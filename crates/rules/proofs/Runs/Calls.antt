@@ -14,6 +14,7 @@ use Rattle.rules.proofs.Runs.TargetRuns.{NotedKeeps}
 use Rattle.rules.specs.Types.{Pointer, Value, Evaluated, Located, Search, Recorded}
 use Rattle.std.specs.Prelude.{Err, None, Ok, Some}
 use Rattle.rules.specs.Types.{Miss}
+use Rattle.rules.specs.Types.{Stop}
 
 -- O is kept by the three calls that change the observation memory: a block is stored under an unused name in the lowest
 -- run of free marks, a live block is deleted, a mark of a live block is set
@@ -26,7 +27,7 @@ pub record CallsKeep (O : Observation → Type 0) : Type 0 where
       → O (record { blocks = o.blocks; marks = set o.marks i true })
 
 -- O of the observation memory, E of the number of a refusal
-module _ (O : Observation → Type 0) (E : ℕ → Type 0) (wrong : E 40) (misused : E 48) where
+module _ (O : Observation → Type 0) (E : Stop → Type 0) (wrong : E Stop.WrongSort) (misused : E Stop.Contradiction) where
   pub store_block-keeps : (o : Observation) (v w : Value)
       → ((k n first : ℕ) → record_of o k ≡ Recorded.Unused → mark_run o (suc n) ≡ Some first
       → O (with_marks o k (Recorded.Live first (suc n)) first (suc n)))

@@ -20,6 +20,7 @@ use Rattle.rules.proofs.Runs.TargetRuns.{deleting, initialising, making, closing
 use Rattle.rules.specs.Types.{Test}
 use Rattle.std.specs.Prelude.{Err, Ok}
 use Rattle.std.specs.Prelude.{true, false}
+use Rattle.rules.specs.Types.{Stop}
 
 -- P of the statement that there is
 abbrev pub There : {A : Type 0} → (A → Type 0) → Option A → Type 0
@@ -27,13 +28,13 @@ There P none = ⊥
 There P (some b) = P b
 
 -- P of the number and the state of a stop
-abbrev pub ChangeStops : {S : Type 0} → (ℕ → S → Type 0) → Change S → Type 0
+abbrev pub ChangeStops : {S : Type 0} → (Stop → S → Type 0) → Change S → Type 0
 ChangeStops P (changed x) = Unit {0}
 ChangeStops P (stopped c x) = P c x
 
 -- A are the statements of a language; K is of a statement, the number of its stop, its own number, the variables'
 -- blocks and the state
-module _ {A S : Type 0} (children : A → List (Option A)) (K : A → ℕ → ℕ → Variables → S → Type 0) where
+module _ {A S : Type 0} (children : A → List (Option A)) (K : A → Stop → ℕ → Variables → S → Type 0) where
   abbrev pub EndsAt : A → Outcome S → Type 0
   EndsAt a (finished x f) = Unit {0}
   EndsAt a (ended c s ρ w x f) = There (λ b. K b c s ρ x) (statement_on children w a)
@@ -68,7 +69,7 @@ module _ {A S : Type 0} (children : A → List (Option A)) (K : A → ℕ → �
     ends-decide s ρ (Err c) x f o p k h g = k
 
     ends-turns : (J : S → Type 0) (s : ℕ) (ρ : Variables) (holds : S → Test) (n : ℕ) (b : A) (body : S → ℕ → Outcome S)
-        → IsChild n b → ((x : S) → J x → TestStops (λ c. K a c s ρ x) (holds x)) → ((x : S) → J x → K a 32 s ρ x)
+        → IsChild n b → ((x : S) → J x → TestStops (λ c. K a c s ρ x) (holds x)) → ((x : S) → J x → K a Stop.NoFuel s ρ x)
         → ((x : S) (f : ℕ) → J x → EndsAt b (body x f) × J (ending (body x f)).state)
         → (g : ℕ) (x : S) (f : ℕ) → J x → EndsAt a (turns g s ρ holds (λ y k. into n (body y k)) x f)
     unfolding turns statement_on
@@ -94,9 +95,9 @@ module _ {A S : Type 0} (children : A → List (Option A)) (K : A → ℕ → �
         closed (ended c s₁ ρ₁ w z g) i = ends-into n b (ended c s₁ ρ₁ w z g) e i
 
 -- what follows from that and from the state that is left is told too
-pub ends-map : {A S : Type 0} (children : A → List (Option A)) (K L : A → ℕ → ℕ → Variables → S → Type 0) (a : A)
+pub ends-map : {A S : Type 0} (children : A → List (Option A)) (K L : A → Stop → ℕ → Variables → S → Type 0) (a : A)
     (o : Outcome S)
-    → ((b : A) (c s : ℕ) (ρ : Variables) → K b c s ρ (ending o).state → L b c s ρ (ending o).state)
+    → ((b : A) (c : Stop) (s : ℕ) (ρ : Variables) → K b c s ρ (ending o).state → L b c s ρ (ending o).state)
     → EndsAt children K a o → EndsAt children L a o
 ends-map children K L a (finished x f) g h = tt
 ends-map {A} children K L a (ended c s ρ w x f) g h = go (statement_on children w a) h
@@ -107,7 +108,7 @@ ends-map {A} children K L a (ended c s ρ w x f) g h = go (statement_on children
 
 -- what each statement of a source program tells where it stops itself, and what its run keeps
 pub record SourceEnds {S : Type 0} (M : Meaning S) (J : Variables → S → Type 0)
-    (K : Statement → ℕ → ℕ → Variables → S → Type 0) : Type 0 where
+    (K : Statement → Stop → ℕ → Variables → S → Type 0) : Type 0 where
   pub keeps : (a : Statement) (ρ : Variables) (x : S) (f : ℕ) → J ρ x → J ρ (ending (run_by M a ρ x f)).state
   pub assigns : (s : ℕ) (p : Place ⊥) (e : Expression ⊥) (ρ : Variables) (x : S) → J ρ x
       → ChangeStops (λ c y. K (assign s p e) c s ρ y) (M.assigns p e ρ x)
@@ -122,11 +123,11 @@ pub record SourceEnds {S : Type 0} (M : Meaning S) (J : Variables → S → Type
   pub turns-on : (s : ℕ) (e : Expression ⊥) (b : Statement) (ρ : Variables) (x : S) → J ρ x
       → TestStops (λ c. K (while s e b) c s ρ x) (M.decides e ρ x)
   pub out-of-fuel : (s : ℕ) (e : Expression ⊥) (b : Statement) (ρ : Variables) (x : S) → J ρ x
-      → K (while s e b) 32 s ρ x
+      → K (while s e b) Stop.NoFuel s ρ x
   pub makes : (s z : ℕ) (b : Statement) (ρ : Variables) (x : S) → J ρ x
       → MadeKeeps (λ k y. J (extend ρ z k) y) (λ c. K (let_in s z b) c s ρ x) (M.makes x)
 
-module _ {S : Type 0} {M : Meaning S} {J : Variables → S → Type 0} {K : Statement → ℕ → ℕ → Variables → S → Type 0}
+module _ {S : Type 0} {M : Meaning S} {J : Variables → S → Type 0} {K : Statement → Stop → ℕ → Variables → S → Type 0}
     (h : SourceEnds M J K) where
   act : (a : Statement) (s : ℕ) (ρ : Variables) (f : ℕ) (c : Change S) → ChangeStops (λ k x. K a k s ρ x) c
       → EndsAt parts K a (after s ρ f c)
@@ -162,7 +163,7 @@ module _ {S : Type 0} {M : Meaning S} {J : Variables → S → Type 0} {K : Stat
 
 -- the same of target statements
 pub record TargetEnds (J : Variables → WatchedState → Type 0)
-    (K : TargetStatement → ℕ → ℕ → Variables → WatchedState → Type 0) : Type 0 where
+    (K : TargetStatement → Stop → ℕ → Variables → WatchedState → Type 0) : Type 0 where
   pub keeps : (a : TargetStatement) (ρ : Variables) (x : WatchedState) (f : ℕ) → J ρ x
       → J ρ (ending (watch a ρ x f)).state
   pub assigns : (s : ℕ) (p : Place ℕ) (e : Expression ℕ) (ρ : Variables) (x : WatchedState) → J ρ x
@@ -176,7 +177,7 @@ pub record TargetEnds (J : Variables → WatchedState → Type 0)
   pub turns-on : (s : ℕ) (e : Expression ℕ) (b : TargetStatement) (ρ : Variables) (x : WatchedState) → J ρ x
       → TestStops (λ c. K (target.while s e b) c s ρ x) (condition (value_in e ρ x))
   pub out-of-fuel : (s : ℕ) (e : Expression ℕ) (b : TargetStatement) (ρ : Variables) (x : WatchedState) → J ρ x
-      → K (target.while s e b) 32 s ρ x
+      → K (target.while s e b) Stop.NoFuel s ρ x
   pub makes : (s z : ℕ) (b : TargetStatement) (ρ : Variables) (x : WatchedState) → J ρ x
       → MadeKeeps (λ k y. J (extend ρ z k) y) (λ c. K (target.let_in s z b) c s ρ x) (making x)
   pub takes-address : (s n : ℕ) (p : Place ℕ) (ρ : Variables) (x : WatchedState) → J ρ x
@@ -200,7 +201,7 @@ pub record TargetEnds (J : Variables → WatchedState → Type 0)
   pub initialises : (s n : ℕ) (ρ : Variables) (x : WatchedState) → J ρ x
       → ChangeStops (λ c y. K (target.initialise s n) c s ρ y) (observed x (initialising n x))
 
-module _ {J : Variables → WatchedState → Type 0} {K : TargetStatement → ℕ → ℕ → Variables → WatchedState → Type 0}
+module _ {J : Variables → WatchedState → Type 0} {K : TargetStatement → Stop → ℕ → Variables → WatchedState → Type 0}
     (h : TargetEnds J K) where
   target-act : (a : TargetStatement) (s : ℕ) (ρ : Variables) (f : ℕ) (c : Change WatchedState)
       → ChangeStops (λ k x. K a k s ρ x) c → EndsAt target_parts K a (after s ρ f c)

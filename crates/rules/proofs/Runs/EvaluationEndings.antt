@@ -13,7 +13,7 @@ use Rattle.rules.specs.Evaluation.{Variables, Holding, no_temporaries, held, poi
 use Rattle.rules.specs.Evaluation.{evaluate, find_place, queried, query_memory, evaluate_term, on_test, opposite}
 use Rattle.rules.specs.Evaluation.{evaluate_predicate, condition}
 use Rattle.rules.specs.Answers.{operation_endings, evaluation_endings}
-use Rattle.rules.proofs.Lists.Among.{Among, among-more}
+use Rattle.rules.proofs.Lists.Among.{StopsAmong, among-more}
 use Rattle.rules.proofs.Runs.Operations.{operated-gives, tested-stops, condition-stops, opposite-gives}
 use Rattle.rules.proofs.Runs.Operations.{queried-gives, query_memory-gives}
 use Rattle.rules.proofs.Runs.Keeping.{AnyPlace, Gives, Finds, TestStops, on_value_lem, on-place}
@@ -21,64 +21,66 @@ use Rattle.rules.proofs.Runs.Keeping.{on-pointer}
 use Rattle.rules.proofs.Runs.Keeping.{on-test, at-cell}
 use Rattle.rules.specs.Types.{Pointer, Value, Evaluated, Found, Recorded, Cell}
 use Rattle.std.specs.Prelude.{Err, Ok}
+use Rattle.rules.specs.Types.{Stop}
+use Rattle.rules.specs.Types.{stop_number}
 
 -- G of the value; the numbers of stops
 abbrev pub EvaluatedAmong : (Value → Type 0) → List ℕ → Evaluated → Type 0
-EvaluatedAmong G numbers e = Gives G (Among numbers) e
+EvaluatedAmong G numbers e = Gives G (StopsAmong numbers) e
 
 abbrev pub FoundAmong : List ℕ → Found → Type 0
-FoundAmong numbers f = Finds AnyPlace (Among numbers) f
+FoundAmong numbers f = Finds AnyPlace (StopsAmong numbers) f
 
 -- G holds of every defined value; those that evaluating without temporaries has are among the numbers
 module _ (G : Value → Type 0) (integers : (z : ℤ) → G (Value.Integer z))
     (pointers : (p : Pointer) → G (Value.Pointer p)) (numbers : List ℕ)
-    (enough : (c : ℕ) → Among evaluation_endings c → Among numbers c) where
-  operations : (c : ℕ) → Among operation_endings c → Among numbers c
-  operations c h = enough c (among-more operation_endings evaluation_endings c refl h)
+    (enough : (c : Stop) → StopsAmong evaluation_endings c → StopsAmong numbers c) where
+  operations : (c : Stop) → StopsAmong operation_endings c → StopsAmong numbers c
+  operations c h = enough c (among-more operation_endings evaluation_endings (stop_number c) refl h)
 
   pub queried-among : (q : Query) (b : Recorded) (marked : ℕ → Bool) (p : Pointer)
       → EvaluatedAmong G numbers (queried q b marked p)
-  queried-among q b marked p = queried-gives G (Among numbers) integers pointers operations q b marked p
+  queried-among q b marked p = queried-gives G (StopsAmong numbers) integers pointers operations q b marked p
 
-  tested-among : (v : Value) → TestStops (Among numbers) (tested v)
-  tested-among v = tested-stops G (Among numbers) (λ z e. integers z) (λ p z g e. pointers _) operations v
+  tested-among : (v : Value) → TestStops (StopsAmong numbers) (tested v)
+  tested-among v = tested-stops G (StopsAmong numbers) (λ z e. integers z) (λ p z g e. pointers _) operations v
 
   among-value : (e : Evaluated) (next : Value → Evaluated) → EvaluatedAmong G numbers e
       → ((v : Value) → G v → EvaluatedAmong G numbers (next v))
       → EvaluatedAmong G numbers (on_value e Err next)
-  among-value e next h g = on_value_lem (EvaluatedAmong G numbers) (Among numbers) Err (λ c x. x) e next h g
+  among-value e next h g = on_value_lem (EvaluatedAmong G numbers) (StopsAmong numbers) Err (λ c x. x) e next h g
 
-  pub condition-among : (e : Evaluated) → EvaluatedAmong G numbers e → TestStops (Among numbers) (condition e)
-  condition-among e h = condition-stops G (Among numbers) (λ z e. integers z) (λ p z g e. pointers _) operations e h
+  pub condition-among : (e : Evaluated) → EvaluatedAmong G numbers e → TestStops (StopsAmong numbers) (condition e)
+  condition-among e h = condition-stops G (StopsAmong numbers) (λ z e. integers z) (λ p z g e. pointers _) operations e h
 
   pub operated-among : (live : Liveness) (o : Operator) (a b : Evaluated) → EvaluatedAmong G numbers a
       → EvaluatedAmong G numbers b
       → EvaluatedAmong G numbers (operated live o a b)
   operated-among live o a b g h =
-      operated-gives G (Among numbers) (λ z e. integers z) (λ p z g e. pointers _) operations live o a b g h
+      operated-gives G (StopsAmong numbers) (λ z e. integers z) (λ p z g e. pointers _) operations live o a b g h
 
   defined-among : (c : Cell) → EvaluatedAmong G numbers (defined c)
-  defined-among Cell.Free = enough 41 refl
-  defined-among (Cell.Holds o Value.Undefined) = enough 41 refl
+  defined-among Cell.Free = enough Stop.UndefinedCell refl
+  defined-among (Cell.Holds o Value.Undefined) = enough Stop.UndefinedCell refl
   defined-among (Cell.Holds o (Value.Integer z)) = integers z
   defined-among (Cell.Holds o (Value.Pointer p)) = pointers p
 
   read_cell-among : (m : Memory) (p : Pointer) → EvaluatedAmong G numbers (read_cell m p)
-  read_cell-among m p = at-cell (EvaluatedAmong G numbers) (Among numbers) Err (λ c x. x) (locate m p) _
-      (enough 42 refl) (enough 50 refl) (λ i. defined-among (cell_of m i))
+  read_cell-among m p = at-cell (EvaluatedAmong G numbers) (StopsAmong numbers) Err (λ c x. x) (locate m p) _
+      (enough Stop.DeadBlock refl) (enough Stop.OutsideBlock refl) (λ i. defined-among (cell_of m i))
 
   pub address_of-among : (f : Found) → FoundAmong numbers f → EvaluatedAmong G numbers (address_of f)
-  address_of-among f h = on-place (EvaluatedAmong G numbers) (Among numbers) Err (λ c x. x) f _ h
+  address_of-among f h = on-place (EvaluatedAmong G numbers) (StopsAmong numbers) Err (λ c x. x) f _ h
       (λ p u. pointers p)
 
   pointed_by-among : (e : Evaluated) → EvaluatedAmong G numbers e → FoundAmong numbers (pointed_by e)
   pointed_by-among e h =
-      on_value_lem (FoundAmong numbers) (Among numbers) Err (λ c x. x) e _ h (λ v u.
-      on-pointer (FoundAmong numbers) (Among numbers) Err (λ c x. x) G v Ok (enough 40 refl) u
+      on_value_lem (FoundAmong numbers) (StopsAmong numbers) Err (λ c x. x) e _ h (λ v u.
+      on-pointer (FoundAmong numbers) (StopsAmong numbers) Err (λ c x. x) G v Ok (enough Stop.WrongSort refl) u
       (λ p w. tt))
 
   pub opposite-among : (v : Value) → EvaluatedAmong G numbers (opposite v)
-  opposite-among v = opposite-gives G (Among numbers) (λ z e. integers z) (λ p z g e. pointers _) operations v
+  opposite-among v = opposite-gives G (StopsAmong numbers) (λ z e. integers z) (λ p z g e. pointers _) operations v
 
   mutual
     unfolding evaluate
@@ -88,7 +90,7 @@ module _ (G : Value → Type 0) (integers : (z : ℤ) → G (Value.Integer z))
         → EvaluatedAmong G numbers (evaluate e τ ρ m)
     evaluate-among (literal z) τ h ρ m = integers z
     evaluate-among (read p) τ h ρ m =
-        on-place (EvaluatedAmong G numbers) (Among numbers) Err (λ c x. x) (find_place p τ ρ m)
+        on-place (EvaluatedAmong G numbers) (StopsAmong numbers) Err (λ c x. x) (find_place p τ ρ m)
         (read_cell m)
         (find_place-among p τ h ρ m) (λ l u. read_cell-among m l)
     evaluate-among (address p) τ h ρ m = address_of-among (find_place p τ ρ m) (find_place-among p τ h ρ m)
@@ -106,7 +108,7 @@ module _ (G : Value → Type 0) (integers : (z : ℤ) → G (Value.Integer z))
     find_place-among (temporary t) τ h ρ m = pointed_by-among (held (τ t)) (h t)
 
   query_memory-among : (q : Query) (m : Memory) (v : Value) → EvaluatedAmong G numbers (query_memory q m v)
-  query_memory-among q m v = query_memory-gives G (Among numbers) integers pointers operations q m v
+  query_memory-among q m v = query_memory-gives G (StopsAmong numbers) integers pointers operations q m v
 
   pub evaluate_term-among : (t : Term) (ρ : Variables) (m : Memory) → EvaluatedAmong G numbers (evaluate_term t ρ m)
   unfolding evaluate_term
@@ -120,7 +122,7 @@ module _ (G : Value → Type 0) (integers : (z : ℤ) → G (Value.Integer z))
   tested-then : (v : Value) (x y : Evaluated) → EvaluatedAmong G numbers x → EvaluatedAmong G numbers y
       → EvaluatedAmong G numbers (on_test (tested v) Err x y)
   tested-then v x y p q =
-      on-test (EvaluatedAmong G numbers) (Among numbers) Err (λ c h. h) (tested v) x y
+      on-test (EvaluatedAmong G numbers) (StopsAmong numbers) Err (λ c h. h) (tested v) x y
       (tested-among v) p q
 
   pub evaluate_predicate-among : (p : Predicate) (ρ : Variables) (m : Memory)

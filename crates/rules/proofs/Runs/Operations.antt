@@ -8,13 +8,13 @@ use lib.Signed.{le_z}
 use Rattle.rules.specs.Trees.{Query, valid, initialised, base, offset, block_length}
 use Rattle.rules.specs.Trees.{Operator, add, subtract, multiply, divide, nearest, at_most, equal, shift}
 use Rattle.rules.specs.Numbers.{in_range, ranged, quotient_of, toward_zero, to_nearest, divided}
-use Rattle.rules.specs.Numbers.{stop_number, numbered, truth_value, on_integers, on_pointer_and_integer, on_pointers}
+use Rattle.rules.specs.Numbers.{on_number, numbered, truth_value, on_integers, on_pointer_and_integer, on_pointers}
 use Rattle.rules.specs.Numbers.{Liveness, operate, same_integer, same_pointer, tested}
 use Rattle.rules.specs.Memory.{Memory, block_of, cell_of, recorded_of, located_in}
 use Rattle.rules.specs.Evaluation.{operated, opposite, condition, is_initialised, is_valid, initialised_at, of_live}
 use Rattle.rules.specs.Evaluation.{queried, query_memory}
 use Rattle.rules.specs.Answers.{operation_endings}
-use Rattle.rules.proofs.Lists.Among.{Among}
+use Rattle.rules.proofs.Lists.Among.{StopsAmong}
 use Rattle.rules.proofs.Runs.Keeping.{AnyValue, Gives, TestStops, on_value_lem, on-pointer, on-test}
 use Rattle.rules.specs.Types.{Pointer, Value, Evaluated, Number, Recorded}
 use Rattle.std.specs.Prelude.{Err, Ok}
@@ -23,35 +23,33 @@ use Rattle.rules.specs.Types.{Stop}
 -- a number that was worked out is in range
 abbrev FitsNumber : Number → Type 0
 FitsNumber (Ok z) = in_range z ≡ true
-FitsNumber (Err Stop.Overflow) = Unit {0}
-FitsNumber (Err Stop.ZeroDivisor) = Unit {0}
+FitsNumber (Err c) = StopsAmong operation_endings c
 
 ranged-fits : (z : ℤ) → FitsNumber (ranged z)
 ranged-fits z = pick (in_range z) refl
   where
     pick : (b : Bool) → in_range z ≡ b → FitsNumber (cond b (Ok z) (Err Stop.Overflow))
     pick true e = e
-    pick false e = tt
+    pick false e = refl
 
 divided-fits : (rounded : ℕ → ℕ → ℕ) (x y : ℤ) → FitsNumber (divided rounded x y)
 divided-fits rounded x y = pick (eqb (nat_abs y) 0)
   where
     pick : (b : Bool) → FitsNumber (cond b (Err Stop.ZeroDivisor) (ranged (quotient_of rounded x y)))
-    pick true = tt
+    pick true = refl
     pick false = ranged-fits (quotient_of rounded x y)
 
-module _ (G : Value → Type 0) (C : ℕ → Type 0) (numbers : (z : ℤ) → in_range z ≡ true → G (Value.Integer z))
+module _ (G : Value → Type 0) (C : Stop → Type 0) (numbers : (z : ℤ) → in_range z ≡ true → G (Value.Integer z))
     (moves : (p : Pointer) (z : ℤ) → G (Value.Pointer p) → in_range z ≡ true
     → G (Value.Pointer (record { name = p.name; offset = z })))
-    (stops : (c : ℕ) → Among operation_endings c → C c) where
-  stop_number-gives : (is : ℤ → Evaluated) (n : Number) → FitsNumber n
-      → ((z : ℤ) → in_range z ≡ true → Gives G C (is z)) → Gives G C (stop_number is Err n)
-  stop_number-gives is (Ok z) h g = g z h
-  stop_number-gives is (Err Stop.Overflow) h g = stops _ refl
-  stop_number-gives is (Err Stop.ZeroDivisor) h g = stops _ refl
+    (stops : (c : Stop) → StopsAmong operation_endings c → C c) where
+  on_number-gives : (is : ℤ → Evaluated) (n : Number) → FitsNumber n
+      → ((z : ℤ) → in_range z ≡ true → Gives G C (is z)) → Gives G C (on_number is Err n)
+  on_number-gives is (Ok z) h g = g z h
+  on_number-gives is (Err c) h g = stops c h
 
   numbered-gives : (n : Number) → FitsNumber n → Gives G C (numbered n)
-  numbered-gives n h = stop_number-gives _ n h numbers
+  numbered-gives n h = on_number-gives _ n h numbers
 
   pub truth-gives : (b : Bool) → Gives G C (truth_value b)
   truth-gives true = numbers (pos 1) refl
@@ -72,7 +70,7 @@ module _ (G : Value → Type 0) (C : ℕ → Type 0) (numbers : (z : ℤ) → in
       → Gives G C (on_pointer_and_integer o p y)
   unfolding on_pointer_and_integer
   on_pointer_and_integer-gives shift p y h =
-      stop_number-gives _ (ranged (p.offset +ℤ y)) (ranged-fits (p.offset +ℤ y)) (λ z e. moves p z h e)
+      on_number-gives _ (ranged (p.offset +ℤ y)) (ranged-fits (p.offset +ℤ y)) (λ z e. moves p z h e)
   on_pointer_and_integer-gives add p y h = stops _ refl
   on_pointer_and_integer-gives subtract p y h = stops _ refl
   on_pointer_and_integer-gives multiply p y h = stops _ refl
@@ -85,7 +83,7 @@ module _ (G : Value → Type 0) (C : ℕ → Type 0) (numbers : (z : ℤ) → in
   unfolding on_pointers
   on_pointers-gives live equal p q = pick (live p.name && live q.name)
     where
-      pick : (b : Bool) → Gives G C (cond b (truth_value (same_pointer p q)) (Err 47))
+      pick : (b : Bool) → Gives G C (cond b (truth_value (same_pointer p q)) (Err Stop.NotLive))
       pick true = truth-gives (same_pointer p q)
       pick false = stops _ refl
   on_pointers-gives live add p q = stops _ refl
@@ -130,15 +128,15 @@ module _ (G : Value → Type 0) (C : ℕ → Type 0) (numbers : (z : ℤ) → in
       (truth-gives false) (truth-gives true)
 
 -- where G holds of every defined value
-module _ (G : Value → Type 0) (C : ℕ → Type 0) (integers : (z : ℤ) → G (Value.Integer z))
-    (pointers : (p : Pointer) → G (Value.Pointer p)) (stops : (c : ℕ) → Among operation_endings c → C c) where
+module _ (G : Value → Type 0) (C : Stop → Type 0) (integers : (z : ℤ) → G (Value.Integer z))
+    (pointers : (p : Pointer) → G (Value.Pointer p)) (stops : (c : Stop) → StopsAmong operation_endings c → C c) where
   query-truth : (b : Bool) → Gives G C (truth_value b)
   query-truth b = truth-gives G C (λ z e. integers z) (λ p z g e. pointers _) stops b
 
   of_live-gives : (b : Recorded) (f : ℕ → Value) → ((n : ℕ) → G (f n)) → Gives G C (of_live b f)
-  of_live-gives Recorded.Unused f g = stops 47 refl
+  of_live-gives Recorded.Unused f g = stops Stop.NotLive refl
   of_live-gives (Recorded.Live first n) f g = g n
-  of_live-gives Recorded.Dead f g = stops 47 refl
+  of_live-gives Recorded.Dead f g = stops Stop.NotLive refl
 
   pub queried-gives : (q : Query) (b : Recorded) (marked : ℕ → Bool) (p : Pointer) → Gives G C (queried q b marked p)
   unfolding queried
@@ -150,5 +148,5 @@ module _ (G : Value → Type 0) (C : ℕ → Type 0) (integers : (z : ℤ) → G
 
   pub query_memory-gives : (q : Query) (m : Memory) (v : Value) → Gives G C (query_memory q m v)
   query_memory-gives q m v =
-      on-pointer (Gives G C) C Err (λ c x. x) AnyValue v _ (stops 40 refl) tt
+      on-pointer (Gives G C) C Err (λ c x. x) AnyValue v _ (stops Stop.WrongSort refl) tt
       (λ p u. queried-gives q (recorded_of (block_of m p.name)) (λ i. is_initialised (cell_of m i)) p)

@@ -10,13 +10,14 @@ use Rattle.rules.proofs.Runs.Keeping.{TestStops, AnyState, ChangeKeeps, MadeKeep
 use Rattle.rules.specs.Types.{Test}
 use Rattle.std.specs.Prelude.{Err, Ok}
 use Rattle.std.specs.Prelude.{true, false}
+use Rattle.rules.specs.Types.{Stop}
 
 -- I of state and fuel where a run is finished, and where it is ended, with E of the ending's number
-abbrev pub Outcomes : {S : Type 0} → (S → ℕ → Type 0) → (ℕ → Type 0) → Outcome S → Type 0
+abbrev pub Outcomes : {S : Type 0} → (S → ℕ → Type 0) → (Stop → Type 0) → Outcome S → Type 0
 Outcomes I E (finished x f) = I x f
 Outcomes I E (ended c s ρ w x f) = E c × I x f
 
-pub outcomes-state : {S : Type 0} (I : S → ℕ → Type 0) (E : ℕ → Type 0) (o : Outcome S) → Outcomes I E o
+pub outcomes-state : {S : Type 0} (I : S → ℕ → Type 0) (E : Stop → Type 0) (o : Outcome S) → Outcomes I E o
     → I (ending o).state (ending o).fuel
 outcomes-state I E (finished x f) h = h
 outcomes-state I E (ended c s ρ w x f) h = h.1
@@ -36,10 +37,10 @@ pub record Onwards {S : Type 0} (P : S → Type 0) (R : S → S → Type 0) : Ty
   pub further : {x y z : S} → R x y → R y z → R x z
 
 -- a run from x with fuel f reaches what R allows, with no more fuel, and ends with a number of E
-abbrev pub Reaches : {S : Type 0} → (S → S → Type 0) → (ℕ → Type 0) → S → ℕ → Outcome S → Type 0
+abbrev pub Reaches : {S : Type 0} → (S → S → Type 0) → (Stop → Type 0) → S → ℕ → Outcome S → Type 0
 Reaches R E x f o = Outcomes (λ y g. R x y × (g ≤ f)) E o
 
-module _ {S : Type 0} {P : S → Type 0} {R : S → S → Type 0} (E : ℕ → Type 0) (w : Onwards P R) where
+module _ {S : Type 0} {P : S → Type 0} {R : S → S → Type 0} (E : Stop → Type 0) (w : Onwards P R) where
   pub reach-itself : (x : S) (f : ℕ) → P x → Reaches R E x f (finished x f)
   reach-itself x f v = (w.itself v, omega arith)
 
@@ -68,7 +69,7 @@ module _ {S : Type 0} {P : S → Type 0} {R : S → S → Type 0} (E : ℕ → T
   reach-decide s ρ (Ok false) x f a b v h p q = q
   reach-decide s ρ (Err c) x f a b v h p q = (h, (w.itself v, omega arith))
 
-  pub reach-turns : (s : ℕ) (ρ : Variables) (holds : S → Test) (body : S → ℕ → Outcome S) → E 32
+  pub reach-turns : (s : ℕ) (ρ : Variables) (holds : S → Test) (body : S → ℕ → Outcome S) → E Stop.NoFuel
       → ((y : S) → P y → TestStops E (holds y)) → ((y : S) (g : ℕ) → P y → Reaches R E y g (body y g))
       → (g : ℕ) (x : S) (f : ℕ) → P x → Reaches R E x f (turns g s ρ holds body x f)
   unfolding turns
@@ -110,24 +111,24 @@ pub staying : {S : Type 0} (P : S → Type 0) → Onwards {S = S} P (λ x y. P y
 staying P = record { valid = λ r. r; itself = λ h. h; further = λ r q. q }
 
 -- a change in a state that holds the memory, and of an assertion
-pub change-in : {S : Type 0} (J : Memory → Type 0) (K : S → Type 0) (E : ℕ → Type 0) (put : Memory → S)
+pub change-in : {S : Type 0} (J : Memory → Type 0) (K : S → Type 0) (E : Stop → Type 0) (put : Memory → S)
     (c : Change Memory) → ((m : Memory) → J m → K (put m)) → ChangeKeeps J E c → ChangeKeeps K E (change_in put c)
 change-in J K E put (changed m) g h = g m h
 change-in J K E put (stopped c m) g h = (h.0, g m h.1)
 
-pub made_in_lem : {S : Type 0} (J : ℕ → Memory → Type 0) (K : ℕ → S → Type 0) (E : ℕ → Type 0) (put : Memory → S)
+pub made_in_lem : {S : Type 0} (J : ℕ → Memory → Type 0) (K : ℕ → S → Type 0) (E : Stop → Type 0) (put : Memory → S)
     (r : Made Memory) → ((k : ℕ) (m : Memory) → J k m → K k (put m)) → MadeKeeps J E r
     → MadeKeeps K E (made_in put r)
 made_in_lem J K E put (made k m) g h = g k m h
 made_in_lem J K E put (unmade c) g h = h
 
-pub asserted-keeps : {S : Type 0} (J : S → Type 0) (E : ℕ → Type 0) (x : S) (t : Test) → E 33 → J x → TestStops E t
+pub asserted-keeps : {S : Type 0} (J : S → Type 0) (E : Stop → Type 0) (x : S) (t : Test) → E Stop.FalseAssertion → J x → TestStops E t
     → ChangeKeeps J E (asserted x t)
 asserted-keeps J E x (Ok true) e j h = j
 asserted-keeps J E x (Ok false) e j h = (e, j)
 asserted-keeps J E x (Err c) e j h = (h, j)
 
-pub made_more : {S : Type 0} (J K : ℕ → S → Type 0) (E : ℕ → Type 0) (r : Made S)
+pub made_more : {S : Type 0} (J K : ℕ → S → Type 0) (E : Stop → Type 0) (r : Made S)
     → ((k : ℕ) (x : S) → J k x → K k x) → MadeKeeps J E r → MadeKeeps K E r
 made_more J K E (made k x) g h = g k x h
 made_more J K E (unmade c) g h = h

@@ -19,6 +19,7 @@ use Rattle.rules.proofs.Runs.SourceRuns.{MeaningKeeps, run-reaches}
 use Rattle.rules.specs.Types.{Test}
 use Rattle.std.specs.Prelude.{Err, Ok}
 use Rattle.std.specs.Prelude.{true, false}
+use Rattle.rules.specs.Types.{Stop}
 
 -- of the assertions reached one is false, whose ending is e; or none is
 abbrev Decided : List Reached → Ending Memory → Type 0
@@ -85,11 +86,11 @@ stays-into n k h x f = reach-into AnyNumber later n x f (k x f) (h x f)
 -- the plain run beside it: alike while no assertion was false; at the first it has ended 33
 data Follows : Outcome Memory → Outcome PastState → Type 0 where
   alike-finish : {x : PastState} {f : ℕ} → Passed x.assertions → Follows (finished x.memory f) (finished x f)
-  alike_end : {c s : ℕ} {ρ : Variables} {w w₁ : TreePath} {x : PastState} {f : ℕ} → Passed x.assertions
+  alike_end : {c : Stop} {s : ℕ} {ρ : Variables} {w w₁ : TreePath} {x : PastState} {f : ℕ} → Passed x.assertions
       → Follows (ended c s ρ w x.memory f) (ended c s ρ w₁ x f)
   failed : {s : ℕ} {ρ : Variables} {w : TreePath} {m : Memory} {f : ℕ} {o : Outcome PastState}
       → Decided (ending o).state.assertions (record { number = 33; statement = s; state = m; fuel = f })
-      → Follows (ended 33 s ρ w m f) o
+      → Follows (ended Stop.FalseAssertion s ρ w m f) o
 
 follows-says : {p : Outcome Memory} {o : Outcome PastState} → Follows p o → at_first_false (ending o) ≡ ending p
 follows-says (alike-finish h) = h _

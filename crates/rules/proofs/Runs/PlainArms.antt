@@ -19,6 +19,7 @@ use Rattle.rules.proofs.Acceptance.FormLaws.{FormHolds, node_as}
 use Rattle.rules.proofs.Acceptance.Standing.{stands}
 use Rattle.rules.proofs.Runs.Turns.{while-zero, while-suc}
 use Rattle.rules.proofs.Runs.StatementArms.{ChildOfSort, statement-form}
+use Rattle.rules.specs.Types.{Stop}
 
 -- a child of record n
 abbrev pub Under : Sort → List ℕ → ℕ → ℕ → Type 0
@@ -107,7 +108,7 @@ module _ (t : List ℕ) (n : ℕ) (h : HasSort source statement t n) where
 
   -- a while, with fuel and without
   pub run-while-zero : kind_of t n ≡ 46 → (ρ : Variables) (m : Memory)
-      → run (statement_at t n) ρ m 0 ≡ ended 32 n ρ [] m 0
+      → run (statement_at t n) ρ m 0 ≡ ended Stop.NoFuel n ρ [] m 0
   run-while-zero e ρ m =
       run-kind ρ m 0 46 e ∙ while-zero plain_meaning n (expression_at t (child_a t n)) (statement_at t (child_b t n)) ρ m
 

@@ -32,6 +32,7 @@ use Rattle.rules.proofs.Acceptance.FormLaws.{node-built}
 use Rattle.rules.proofs.Acceptance.Standing.{stands, stands_at}
 use Rattle.rules.proofs.Simulation.PredicateSimulation.{embed-is, embed_place-is}
 use Rattle.std.specs.Prelude.{Ok}
+use Rattle.rules.proofs.Acceptance.SaidLaws.{faults}
 
 and-join : (a b : Bool) → a ≡ true → b ≡ true → (a && b) ≡ true
 and-join a b p q = rw (p, q)
@@ -88,7 +89,7 @@ form-made l t n f p q o m a b c z =
     (node-passes l t n (field_of f 2) (child_c t n) c) in
     let e : record_fault l t n ≡ Ok tt =
     ap (fault_of l t n) o
-    ∙ ap₂ (λ (u v : Bool). cond u (cond v 0 5) 4) h g in
+    ∙ ap₂ (λ (u v : Bool). faults u v) h g in
     node-built l t n f p q e o h k
 
 -- the node of an expression or a place as one of a target table

@@ -7,9 +7,10 @@ use Rattle.rules.specs.Flow.{into, Meaning, run_by}
 use Rattle.rules.proofs.Runs.Keeping.{TestStops, ChangeKeeps, MadeKeeps}
 use Rattle.rules.proofs.Runs.Outcomes.{Onwards, Reaches, reach-itself, reach-into, reach-next, reach-after}
 use Rattle.rules.proofs.Runs.Outcomes.{reach-decide, reach-turns, reach-let}
+use Rattle.rules.specs.Types.{Stop}
 
 pub record MeaningKeeps {S : Type 0} (M : Meaning S) (P : S → Type 0) (R : S → S → Type 0) (G : S → ℕ → Type 0)
-    (E : ℕ → Type 0) : Type 0 where
+    (E : Stop → Type 0) : Type 0 where
   pub onwards : Onwards P R
   pub assigns : (p : Place ⊥) (e : Expression ⊥) (ρ : Variables) (x : S) → P x
       → ChangeKeeps (R x) E (M.assigns p e ρ x)
@@ -21,9 +22,9 @@ pub record MeaningKeeps {S : Type 0} (M : Meaning S) (P : S → Type 0) (R : S �
   pub decides : (e : Expression ⊥) (ρ : Variables) (x : S) → P x → TestStops E (M.decides e ρ x)
   pub makes : (x : S) → P x → MadeKeeps (λ k y. G x k × R x y) E (M.makes x)
   pub ends : (x y : S) (k : ℕ) → G x k → R x y → R x (M.ends y k)
-  pub out-of-fuel : E 32
+  pub out-of-fuel : E Stop.NoFuel
 
-module _ {S : Type 0} {M : Meaning S} {P : S → Type 0} {R : S → S → Type 0} {G : S → ℕ → Type 0} {E : ℕ → Type 0}
+module _ {S : Type 0} {M : Meaning S} {P : S → Type 0} {R : S → S → Type 0} {G : S → ℕ → Type 0} {E : Stop → Type 0}
     (h : MeaningKeeps M P R G E) where
   pub run-reaches : (a : Statement) (ρ : Variables) (x : S) (f : ℕ) → P x → Reaches R E x f (run_by M a ρ x f)
   unfolding run_by

@@ -16,6 +16,7 @@ use Rattle.rules.proofs.Runs.EndedAt.{ChangeStops, EndsAt, SourceEnds, run-ends-
 use Rattle.rules.specs.Types.{Test}
 use Rattle.std.specs.Prelude.{Err, Ok}
 use Rattle.std.specs.Prelude.{true, false}
+use Rattle.rules.specs.Types.{Stop}
 
 -- the number of a statement
 abbrev pub number_of : Statement → ℕ
@@ -50,7 +51,7 @@ target_number (target.delete_block s n) = s
 target_number (target.initialise s n) = s
 
 -- the statement has the number that is told
-abbrev pub Numbered : {A S : Type 0} → (A → ℕ) → A → ℕ → ℕ → Variables → S → Type 0
+abbrev pub Numbered : {A S : Type 0} → (A → ℕ) → A → Stop → ℕ → Variables → S → Type 0
 Numbered number a c s ρ x = number a ≡ s
 
 -- whatever it stops with

@@ -17,6 +17,7 @@ use Rattle.rules.proofs.Runs.TargetRuns.{assigning, allocating, freeing, operati
 use Rattle.rules.proofs.Runs.TargetRuns.{deleting, initialising, making, closing}
 use Rattle.rules.proofs.Runs.Turns.{watched-while-zero, watched-while-suc}
 use Rattle.rules.proofs.Runs.StatementArms.{statement-form}
+use Rattle.rules.specs.Types.{Stop}
 
 module _ (t : List ℕ) (n : ℕ) (h : HasSort target statement t n) where
   module _ (ρ : Variables) (x : WatchedState) (f : ℕ) where
@@ -135,7 +136,7 @@ module _ (t : List ℕ) (n : ℕ) (h : HasSort target statement t n) where
 
   -- a while, with fuel and without
   pub watch-while-zero : kind_of t n ≡ 46 → (ρ : Variables) (x : WatchedState)
-      → watch (target_statement_at t n) ρ x 0 ≡ ended 32 (number_at t n) ρ [] x 0
+      → watch (target_statement_at t n) ρ x 0 ≡ ended Stop.NoFuel (number_at t n) ρ [] x 0
   watch-while-zero e ρ x =
       watch-kind ρ x 0 46 e
       ∙ watched-while-zero (number_at t n) (target_expression_at t (child_a t n)) (target_statement_at t (child_b t n)) ρ x

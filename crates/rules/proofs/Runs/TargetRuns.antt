@@ -22,20 +22,21 @@ use Rattle.rules.proofs.Runs.Outcomes.{Onwards, Reaches, reach-itself, reach-int
 use Rattle.rules.proofs.Runs.Outcomes.{reach-decide, reach-turns, reach-let, asserted-keeps}
 use Rattle.rules.specs.Types.{Value, Evaluated}
 use Rattle.std.specs.Prelude.{Err, Ok, Some}
+use Rattle.rules.specs.Types.{Stop}
 
 -- O of the observation memory after a call, E of the number of a refusal
-abbrev pub NotedKeeps : (Observation → Type 0) → (ℕ → Type 0) → Noted → Type 0
+abbrev pub NotedKeeps : (Observation → Type 0) → (Stop → Type 0) → Noted → Type 0
 NotedKeeps O E (noted o) = O o
 NotedKeeps O E (refused c) = E c
 
-pub taken-keeps : (J : WatchedState → Type 0) (E : ℕ → Type 0) (T : Value → Type 0) (x : WatchedState) (n : ℕ)
+pub taken-keeps : (J : WatchedState → Type 0) (E : Stop → Type 0) (T : Value → Type 0) (x : WatchedState) (n : ℕ)
     (e : Evaluated) → J x → Gives T E e
     → ((v : Value) → T v → J (watching x.memory x.observation (set x.temporaries n (Some v))))
     → ChangeKeeps J E (taken x n e)
 taken-keeps J E T x n (Ok v) j h g = g v h
 taken-keeps J E T x n (Err c) j h g = (h, j)
 
-pub observed-keeps : (J : WatchedState → Type 0) (E : ℕ → Type 0) (O : Observation → Type 0) (x : WatchedState)
+pub observed-keeps : (J : WatchedState → Type 0) (E : Stop → Type 0) (O : Observation → Type 0) (x : WatchedState)
     (r : Noted) → J x → NotedKeeps O E r → ((o : Observation) → O o → J (watching x.memory o x.temporaries))
     → ChangeKeeps J E (observed x r)
 observed-keeps J E O x (noted o) j h g = g o h
@@ -81,7 +82,7 @@ closing x k = with_memory x (end_block x.memory k)
 
 -- what each keeps of a state with P
 pub record WatchKeeps (P : WatchedState → Type 0) (R : WatchedState → WatchedState → Type 0)
-    (G : WatchedState → ℕ → Type 0) (E : ℕ → Type 0) : Type 0 where
+    (G : WatchedState → ℕ → Type 0) (E : Stop → Type 0) : Type 0 where
   pub onwards : Onwards P R
   pub assigns : (p : Place ℕ) (e : Expression ℕ) (ρ : Variables) (x : WatchedState) → P x
       → ChangeKeeps (R x) E (assigning p e ρ x)
@@ -103,11 +104,11 @@ pub record WatchKeeps (P : WatchedState → Type 0) (R : WatchedState → Watche
   pub decides-on : (n : ℕ) (x : WatchedState) → P x → TestStops E (condition (holding x n))
   pub makes : (x : WatchedState) → P x → MadeKeeps (λ k y. G x k × R x y) E (making x)
   pub ends : (x y : WatchedState) (k : ℕ) → G x k → R x y → R x (closing y k)
-  pub out-of-fuel : E 32
-  pub false-assertion : E 33
+  pub out-of-fuel : E Stop.NoFuel
+  pub false-assertion : E Stop.FalseAssertion
 
 module _ {P : WatchedState → Type 0} {R : WatchedState → WatchedState → Type 0} {G : WatchedState → ℕ → Type 0}
-    {E : ℕ → Type 0} (h : WatchKeeps P R G E) where
+    {E : Stop → Type 0} (h : WatchKeeps P R G E) where
   pub watch-reaches : (a : TargetStatement) (ρ : Variables) (x : WatchedState) (f : ℕ) → P x
       → Reaches R E x f (watch a ρ x f)
   unfolding watch

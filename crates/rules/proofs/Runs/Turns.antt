@@ -12,6 +12,7 @@ use Rattle.rules.specs.Flow.{Outcome, finished, ended, ending, into, next, decid
 use Rattle.rules.specs.Watched.{WatchedState, value_in, watch}
 use Rattle.rules.proofs.Runs.Fuel.{run-fuel, watch-fuel}
 use Rattle.rules.specs.Types.{Test}
+use Rattle.rules.specs.Types.{Stop}
 
 into-fuel : {S : Type 0} (n f : ℕ) (o : Outcome S) → (ending o).fuel ≤ f → (ending (into n o)).fuel ≤ f
 into-fuel n f (finished x g) h = h
@@ -49,7 +50,7 @@ turn s ρ holds body b x f =
 
 -- a source run
 pub while-zero : {S : Type 0} (M : Meaning S) (s : ℕ) (e : Expression ⊥) (b : Statement) (ρ : Variables) (x : S)
-    → run_by M (tree.while s e b) ρ x 0 ≡ ended 32 s ρ [] x 0
+    → run_by M (tree.while s e b) ρ x 0 ≡ ended Stop.NoFuel s ρ [] x 0
 unfolding run_by turns
 while-zero M s e b ρ x = refl
 
@@ -64,7 +65,7 @@ while-suc M s e b ρ x f =
 
 -- a watched run
 pub watched-while-zero : (s : ℕ) (e : Expression ℕ) (b : TargetStatement) (ρ : Variables) (x : WatchedState)
-    → watch (target.while s e b) ρ x 0 ≡ ended 32 s ρ [] x 0
+    → watch (target.while s e b) ρ x 0 ≡ ended Stop.NoFuel s ρ [] x 0
 unfolding watch turns
 watched-while-zero s e b ρ x = refl
 

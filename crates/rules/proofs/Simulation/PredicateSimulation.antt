@@ -25,6 +25,7 @@ use Rattle.rules.proofs.Simulation.Mirror.{mirror-query, mirror-live}
 use Rattle.rules.specs.Types.{Value, Evaluated, Test}
 use Rattle.std.specs.Prelude.{Err, None, Ok, Some}
 use Rattle.std.specs.Prelude.{true, false}
+use Rattle.rules.specs.Types.{Stop}
 
 -- a source expression gives the same in the target, whatever the temporaries hold
 mutual
@@ -70,7 +71,7 @@ pub data Gives (n s : ℕ) (ρ : Variables) (τ : Temporaries) (m : Memory) (o :
     : Evaluated → Outcome WatchedState → Type 0 where
   gives : {v : Value} {τ₁ : Temporaries} → temporary_of τ₁ n ≡ Some v → Full τ₁ → Alike n τ₁ τ
       → Gives n s ρ τ m o f (Ok v) (finished (watching m o τ₁) f)
-  stops : {c : ℕ} {w : TreePath} {τ₁ : Temporaries}
+  stops : {c : Stop} {w : TreePath} {τ₁ : Temporaries}
       → Gives n s ρ τ m o f (Err c) (ended c s ρ w (watching m o τ₁) f)
 
 module _ (s : ℕ) (ρ : Variables) (m : Memory) (o : Observation) (f : ℕ) where

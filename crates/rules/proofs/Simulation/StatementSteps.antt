@@ -22,6 +22,7 @@ use Rattle.rules.specs.Types.{Pointer, Value, Evaluated, Found, Test, Located, B
 use Rattle.std.specs.Prelude.{Err, Ok, Some}
 use Rattle.rules.specs.Types.{Miss}
 use Rattle.std.specs.Prelude.{true, false}
+use Rattle.rules.specs.Types.{Stop, stop_number}
 
 -- a watched run from a state and fuel, and a plain one
 abbrev pub Watching : Type 0
@@ -34,8 +35,8 @@ Running = Memory → ℕ → Outcome Memory
 pub data Agree : Outcome Memory → Outcome WatchedState → Type 0 where
   both-finish : {m : Memory} {o : Observation} {τ : Temporaries} {f : ℕ} → o ≡ mirror m → Full τ
       → Agree (finished m f) (finished (watching m o τ) f)
-  both_end : {c s : ℕ} {ρ : Variables} {w w₁ : TreePath} {m : Memory} {o : Observation} {τ : Temporaries} {f : ℕ}
-      → ((c ≢ 42) × (c ≢ 50) → o ≡ mirror m) → Agree (ended c s ρ w m f) (ended c s ρ w₁ (watching m o τ) f)
+  both_end : {c : Stop} {s : ℕ} {ρ : Variables} {w w₁ : TreePath} {m : Memory} {o : Observation} {τ : Temporaries} {f : ℕ}
+      → ((stop_number c ≢ 42) × (stop_number c ≢ 50) → o ≡ mirror m) → Agree (ended c s ρ w m f) (ended c s ρ w₁ (watching m o τ) f)
 
 -- a step that does so from every memory
 abbrev pub Agreeing : Running → Watching → Type 0

@@ -10,6 +10,7 @@ use Rattle.rules.specs.Checker.{record_fault}
 use Rattle.rules.specs.Nodes.{NodeOf, build_node, nodes_fit, guarded, node_from, node_in, make_node, nodes, node_at}
 use Rattle.rules.proofs.Lists.BooleanLaws.{both_true}
 use Rattle.std.specs.Prelude.{Ok}
+use Rattle.rules.proofs.Acceptance.SaidLaws.{kept-ok}
 
 -- the nodes that record r, numbered n, has for children, of the sorts that its form asks for
 abbrev pub ChildNodes : (l : Language) → List ℕ → ℕ → Record → NodeOf l → NodeOf l → NodeOf l → Type 0
@@ -27,7 +28,7 @@ own-node l t n p q z a b c (ea, eb, ec, f) =
     (λ i. node_from l t n (ea i ∷ eb i ∷ ec i ∷ []))
     ∙ guard_passed l _ (build_node l n (record_at t n) (a ∷ b ∷ c ∷ []))
     (both_true _ _ (both_true _ _ (both_true _ _ (lt-ltb 0 n p) (le-leb n (record_count t) q))
-    (eq-is_ok (record_fault l t n) z)) f)
+    (kept-ok z)) f)
 
 -- the node of a record without fault, of its children's nodes
 pub built : (l : Language) (t : List ℕ) (n : ℕ) (r : Record) → record_at t n ≡ r → 0 < n → n ≤ record_count t
