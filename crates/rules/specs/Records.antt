@@ -1,15 +1,8 @@
 -- "A table is records of 16 bytes without a header, numbered from 1."
 use Rattle.std.specs.Prelude.{ℕ, ◌+◌, ◌-◌, ◌*◌, ◌/◌, List, [], ◌∷◌, ◌++◌, ℤ, length, get_or}
 use Rattle.rules.specs.Words.{digits, word_at, integer_at, integer_bytes, flat}
-
 -- a record's fields
-pub record Record : Type 0 where
-  pub kind : ℕ
-  pub mark : ℕ
-  pub a : ℕ
-  pub b : ℕ
-  pub c : ℕ
-  pub literal : ℤ
+pub use Rattle.rules.specs.declared.Record.{Record}
 
 -- A, B, C: those of its fields that can be children
 abbrev pub fields_of : Record → List ℕ

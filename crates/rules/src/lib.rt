@@ -2,9 +2,11 @@
 
 #![tactic(auto)]
 
-ghost use Rattle.std.specs.Prelude.{◌≡◌};
+ghost use Rattle.std.specs.Prelude.{◌≡◌, Ok, Err};
 ghost use Rattle.rules.specs.Types.{stop_number, rule_number, missed};
 ghost use Rattle.rules.specs.Nodes.{operator_of, query_of};
+ghost use Rattle.rules.specs.Numbers.{truth};
+ghost use Rattle.rules.specs.Memory.{on_integer, on_pointer};
 
 // The numbers of `specs/Sizes.antt`, by the same names.
 pub const NAME_COUNT: usize = 4095;
@@ -150,19 +152,67 @@ pub enum Use {
     Freeable,
 }
 
+// A record: a kind, a mark, three children and a literal.
+#[derive(Clone, Copy, Debug, PartialEq, Eq)]
+pub struct Record {
+    pub kind: u8,
+    pub mark: u8,
+    pub a: usize,
+    pub b: usize,
+    pub c: usize,
+    pub literal: i64,
+}
+
 // "a pointer with its block name and offset"; the offset may lie outside the block.
-#[derive(Clone, Copy)]
+#[derive(Clone, Copy, Debug, PartialEq, Eq)]
 pub struct Pointer {
     pub name: u16,
     pub offset: i64,
 }
 
 // "A value is an integer, a pointer with its block name and offset, or undefined."
-#[derive(Clone, Copy)]
+#[derive(Clone, Copy, Debug, PartialEq, Eq)]
 pub enum Value {
     Undefined,
     Integer(i64),
     Pointer(Pointer),
+}
+
+// "Operators 6 and 7 and queries 1 and 2 give 1 or 0."
+impl From<bool> for Value {
+    ghost from_gives = { λ holds value. value ≡ truth holds };
+
+    fn from(holds: bool) -> Value {
+        Value::Integer(i64::from(holds))
+    }
+}
+
+// "40 wrong sort of value" where it is no integer.
+impl TryFrom<Value> for i64 {
+    type Error = Stop;
+
+    ghost try_from_gives = { λ value integer. integer ≡ on_integer value Err Ok };
+
+    fn try_from(value: Value) -> Result<i64, Stop> {
+        match value {
+            Value::Integer(z) => Ok(z),
+            Value::Undefined | Value::Pointer(_) => Err(Stop::WrongSort),
+        }
+    }
+}
+
+// "40 wrong sort of value" where it is no pointer.
+impl TryFrom<Value> for Pointer {
+    type Error = Stop;
+
+    ghost try_from_gives = { λ value pointer. pointer ≡ on_pointer value Err Ok };
+
+    fn try_from(value: Value) -> Result<Pointer, Stop> {
+        match value {
+            Value::Pointer(p) => Ok(p),
+            Value::Undefined | Value::Integer(_) => Err(Stop::WrongSort),
+        }
+    }
 }
 
 // Why a run stops, by the number of its ending: "30 no run of free cells long enough. 31 all names given. 32 fuel is 0 at

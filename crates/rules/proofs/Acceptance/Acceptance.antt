@@ -21,7 +21,6 @@ use Rattle.rules.specs.Types.{Search}
 -- the lowest that passes is found, and only it; the same of none
 pub use Rattle.rules.proofs.Lists.SearchLaws.{NonePass, Lowest}
 use Rattle.std.specs.Prelude.{None, Ok, Some}
-use Rattle.rules.specs.Types.{Found}
 use Rattle.rules.proofs.Acceptance.SaidLaws.{err-is-not-ok}
 use Rattle.rules.specs.Types.{Rule}
 

@@ -2,16 +2,12 @@
 use Prim.Native.Nat.{ℕ, ◌≤◌}
 use native.Mathlib.Omega.{arith}
 use mathlib.Core.Path.{◌≡◌, refl, sym, ◌∙◌, subst}
-use mathlib.Core.Bool.{Bool, true, false, cond, true≢false}
+use mathlib.Core.Bool.{Bool, true, false, true≢false}
 use mathlib.Core.List.{List}
-use mathlib.Core.Option.{Option, none, some}
-use lib.Dec.{ltb}
-use borrow.Author.Tests.{ltb-true, ltb-false, le-ltb}
-use Rattle.rules.specs.Records.{record_count, kind_of, record_at}
-use Rattle.rules.specs.Kinds.{Language, source, target, Form, form_of}
-use Rattle.rules.specs.Checker.{length_fault, count_fault, record_fault, shape_fault, scope_fault, level_fault}
+use Rattle.rules.specs.Records.{record_count}
+use Rattle.rules.specs.Kinds.{Language}
+use Rattle.rules.specs.Checker.{length_fault, count_fault, record_fault, shape_fault, scope_fault}
 use Rattle.rules.specs.Checker.{lowest_record, refuse_if, refuse_by, refuse_at, ◌otherwise◌, last_rule, check}
-use Rattle.rules.specs.Checker.{fields_fit, children_fit, fault_of}
 use Rattle.rules.specs.Answers.{refusals, checked_answer}
 use Rattle.rules.specs.Types.{Search, Checked}
 use Rattle.rules.proofs.Lists.Among.{Among, among-not}

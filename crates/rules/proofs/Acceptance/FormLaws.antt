@@ -2,11 +2,11 @@
 use Prim.Native.Nat.{ℕ, ◌≤◌, ◌<◌}
 use native.Mathlib.Decide.{dec_lt}
 use native.Mathlib.Omega.{arith}
-use mathlib.Core.Bool.{Bool, true, false, cond, ◌&&◌, ◌||◌, false≢true}
+use mathlib.Core.Bool.{Bool, true, false, ◌&&◌, ◌||◌, false≢true}
 use mathlib.Core.List.{List, [], ◌∷◌, map}
 use mathlib.Core.Option.{Option, none, some}
 use mathlib.Core.Path.{◌≡◌, refl, sym, ap, ◌∙◌, subst}
-use borrow.Author.Tests.{ltb-true, leb-true, lt-ltb, le-leb, eqb-true, eq-eqb}
+use borrow.Author.Tests.{ltb-true, leb-true, lt-ltb, le-leb, eqb-true}
 use lib.Dec.{ltb, leb, eqb}
 use lib.IntN.{ℤ, pos, negsuc, nat_abs}
 use lib.Signed.{le_z}
@@ -22,7 +22,6 @@ use Rattle.rules.proofs.Acceptance.KindViews.{and_split, every, found-passes, fo
 use Rattle.rules.proofs.Acceptance.NodeLaws.{node_before, node-earlier, node-later, node_law, junk-sort}
 use Rattle.std.specs.Prelude.{Ok, is_ok}
 use Rattle.rules.proofs.Acceptance.SaidLaws.{faults, err-is-not-ok, kept-ok}
-use Rattle.std.specs.Prelude.{Err}
 
 -- what each field of record n is, by the form
 abbrev pub FieldHolds : (l : Language) → List ℕ → ℕ → Field → ℕ → Type 0

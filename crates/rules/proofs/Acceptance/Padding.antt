@@ -1,7 +1,7 @@
 -- A table with bytes behind its records: the records are the same, and so are their nodes.
 use Prim.Native.Nat.{ℕ, zero, suc, ◌+◌, ◌≤◌, ◌<◌}
 use native.Mathlib.Omega.{arith}
-use mathlib.Core.Bool.{Bool, true, false, cond, ◌&&◌}
+use mathlib.Core.Bool.{Bool, true, false, ◌&&◌}
 use mathlib.Core.List.{List, [], ◌∷◌, ◌++◌, map}
 use mathlib.Core.Option.{Option, none, some}
 use mathlib.Core.Path.{◌≡◌, refl, sym, ap, ap₂, ◌∙◌}
@@ -16,7 +16,6 @@ use Rattle.rules.specs.Records.{fields_of, record_at}
 use Rattle.rules.specs.Kinds.{Language, sort_number, Field, unnamed, child, number, Form, field_of, form_of}
 use Rattle.rules.specs.Checker.{fields_fit, sort_of, child_fits, children_fit, fault_of, record_fault}
 use Rattle.rules.specs.Nodes.{NodeOf, build_node, nodes_fit, guarded, node_in, make_node, with_next, nodes, node_at}
-use Rattle.std.specs.Prelude.{Err, Ok}
 use Rattle.rules.specs.Types.{Rule}
 use Rattle.rules.proofs.Acceptance.SaidLaws.{faults}
 use Rattle.std.specs.Prelude.{is_ok, Result}
