@@ -2,11 +2,35 @@
 use Rattle.std.specs.Prelude.{ℕ, suc, Bool, true, false, ◌&&◌, ◌||◌, List, [], ◌∷◌, ◌++◌, leb, eqb, get_or}
 use Rattle.std.proofs.Math.Option.{Option, none, some}
 use Rattle.rules.specs.Sizes.{source_limit, target_limit}
-pub use Rattle.rules.specs.declared.Language.{Language}
-pub use Rattle.rules.specs.declared.Language.TheVariants.{Source as source, Target as target}
-pub use Rattle.rules.specs.declared.Sort.{Sort}
-pub use Rattle.rules.specs.declared.Sort.TheVariants.{Expression as expression, Place as place, Term as term}
-pub use Rattle.rules.specs.declared.Sort.TheVariants.{Predicate as predicate, Statement as statement}
+
+-- the two languages of tables, as src/lib.rt declares them: named anew, since a `pub use` of them ends at the crate
+abbrev pub Language : Type 0
+Language = Rattle.rules.specs.declared.Language.Language
+
+pattern abbrev pub source : Language
+source = Rattle.rules.specs.declared.Language.TheVariants.Source
+
+pattern abbrev pub target : Language
+target = Rattle.rules.specs.declared.Language.TheVariants.Target
+
+-- the sorts of records
+abbrev pub Sort : Type 0
+Sort = Rattle.rules.specs.declared.Sort.Sort
+
+pattern abbrev pub expression : Sort
+expression = Rattle.rules.specs.declared.Sort.TheVariants.Expression
+
+pattern abbrev pub place : Sort
+place = Rattle.rules.specs.declared.Sort.TheVariants.Place
+
+pattern abbrev pub term : Sort
+term = Rattle.rules.specs.declared.Sort.TheVariants.Term
+
+pattern abbrev pub predicate : Sort
+predicate = Rattle.rules.specs.declared.Sort.TheVariants.Predicate
+
+pattern abbrev pub statement : Sort
+statement = Rattle.rules.specs.declared.Sort.TheVariants.Statement
 
 -- sorts are compared by a number of their own
 abbrev pub sort_number : Sort → ℕ

@@ -5,9 +5,16 @@ use Rattle.rules.specs.Checker.{lowest}
 use Rattle.rules.specs.Types.{Pointer, Value, Evaluated, Found, Located, Search, Block, Recorded, Cell}
 use Rattle.std.specs.Prelude.{Err, None, Ok, Some}
 use Rattle.rules.specs.Types.{Miss, Stop}
+
 -- a block of 42 is freeable, that of a let is fixed
-pub use Rattle.rules.specs.declared.Use.{Use}
-pub use Rattle.rules.specs.declared.Use.TheVariants.{Fixed as fixed, Freeable as freeable}
+abbrev pub Use : Type 0
+Use = Rattle.rules.specs.declared.Use.Use
+
+pattern abbrev pub fixed : Use
+fixed = Rattle.rules.specs.declared.Use.TheVariants.Fixed
+
+pattern abbrev pub freeable : Use
+freeable = Rattle.rules.specs.declared.Use.TheVariants.Freeable
 
 -- block records by name from 1, cells from 0
 pub record Memory : Type 0 where

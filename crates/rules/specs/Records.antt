@@ -1,8 +1,10 @@
 -- "A table is records of 16 bytes without a header, numbered from 1."
 use Rattle.std.specs.Prelude.{ℕ, ◌+◌, ◌-◌, ◌*◌, ◌/◌, List, [], ◌∷◌, ◌++◌, ℤ, length, get_or}
 use Rattle.rules.specs.Words.{digits, word_at, integer_at, integer_bytes, flat}
+
 -- a record's fields
-pub use Rattle.rules.specs.declared.Record.{Record}
+abbrev pub Record : Type 0
+Record = Rattle.rules.specs.declared.Record.Record
 
 -- A, B, C: those of its fields that can be children
 abbrev pub fields_of : Record → List ℕ

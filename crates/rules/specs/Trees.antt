@@ -1,16 +1,54 @@
 -- The trees of a source table. Expressions and places serve both languages: T is what names a temporary,
 -- ⊥ in a source table, which has none, and a number in a target table.
 use Rattle.std.specs.Prelude.{ℕ, ℤ}
+
 -- "1 add, 2 subtract, 3 multiply, 4 divide toward zero, 5 divide to nearest .., 6 at most, 7 equal, 8 pointer shift";
 -- where a half goes, 02 §1 decides
-pub use Rattle.rules.specs.declared.Operator.{Operator}
-pub use Rattle.rules.specs.declared.Operator.TheVariants.{Add as add, Subtract as subtract, Multiply as multiply}
-pub use Rattle.rules.specs.declared.Operator.TheVariants.{Divide as divide, Nearest as nearest, AtMost as at_most}
-pub use Rattle.rules.specs.declared.Operator.TheVariants.{Equal as equal, Shift as shift}
+abbrev pub Operator : Type 0
+Operator = Rattle.rules.specs.declared.Operator.Operator
+
+pattern abbrev pub add : Operator
+add = Rattle.rules.specs.declared.Operator.TheVariants.Add
+
+pattern abbrev pub subtract : Operator
+subtract = Rattle.rules.specs.declared.Operator.TheVariants.Subtract
+
+pattern abbrev pub multiply : Operator
+multiply = Rattle.rules.specs.declared.Operator.TheVariants.Multiply
+
+pattern abbrev pub divide : Operator
+divide = Rattle.rules.specs.declared.Operator.TheVariants.Divide
+
+pattern abbrev pub nearest : Operator
+nearest = Rattle.rules.specs.declared.Operator.TheVariants.Nearest
+
+pattern abbrev pub at_most : Operator
+at_most = Rattle.rules.specs.declared.Operator.TheVariants.AtMost
+
+pattern abbrev pub equal : Operator
+equal = Rattle.rules.specs.declared.Operator.TheVariants.Equal
+
+pattern abbrev pub shift : Operator
+shift = Rattle.rules.specs.declared.Operator.TheVariants.Shift
+
 -- "1 valid, 2 initialised, 3 base address, 4 offset, 5 length"
-pub use Rattle.rules.specs.declared.Query.{Query}
-pub use Rattle.rules.specs.declared.Query.TheVariants.{Valid as valid, Initialised as initialised, Base as base}
-pub use Rattle.rules.specs.declared.Query.TheVariants.{Offset as offset, BlockLength as block_length}
+abbrev pub Query : Type 0
+Query = Rattle.rules.specs.declared.Query.Query
+
+pattern abbrev pub valid : Query
+valid = Rattle.rules.specs.declared.Query.TheVariants.Valid
+
+pattern abbrev pub initialised : Query
+initialised = Rattle.rules.specs.declared.Query.TheVariants.Initialised
+
+pattern abbrev pub base : Query
+base = Rattle.rules.specs.declared.Query.TheVariants.Base
+
+pattern abbrev pub offset : Query
+offset = Rattle.rules.specs.declared.Query.TheVariants.Offset
+
+pattern abbrev pub block_length : Query
+block_length = Rattle.rules.specs.declared.Query.TheVariants.BlockLength
 
 mutual
   pub data Expression (T : Type 0) : Type 0 where

@@ -22,7 +22,7 @@ use Rattle.rules.proofs.Runs.TargetRuns.{WatchKeeps, watch-reaches, taken-keeps,
 use Rattle.rules.proofs.Runs.TargetRuns.{storing, deleting, initialising}
 use Rattle.rules_counting.specs.Counting.{History, stored, block_made, block_ended}
 use Rattle.std.specs.Prelude.{Err, Ok}
-use Rattle.rules.specs.Types.{Miss}
+use Rattle.rules.specs.declared.{Miss.Miss}
 
 module _ (m₀ : Memory) where
   abbrev Keeps : Change Memory → Type 0

@@ -43,7 +43,7 @@ use Rattle.rules_endings.proofs.StatementsTold.{operating-silent, querying-silen
 use Rattle.rules_endings.proofs.StatementsTold.{storing-silent, deleting-silent, initialising-silent}
 use Rattle.rules_endings.proofs.StatementsTold.{deciding-silent, value-told}
 use Rattle.std.specs.Prelude.{Ok}
-use Rattle.rules.specs.Types.{Stop}
+use Rattle.rules.specs.declared.{Stop.Stop}
 
 -- what a plain run's ending tells at statement b
 abbrev pub PlainTold : Statement → ℕ → ℕ → Variables → Memory → Type 0

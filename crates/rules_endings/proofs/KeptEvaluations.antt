@@ -22,8 +22,8 @@ use Rattle.rules.specs.declared.{Pointer.Pointer, Value.Value}
 use Rattle.rules.specs.Types.{Evaluated, Found, Located}
 use Rattle.rules.specs.declared.{Block.Block, Cell.Cell}
 use Rattle.std.specs.Prelude.{Err, Ok}
-use Rattle.rules.specs.Types.{Miss}
-use Rattle.rules.specs.Types.{Stop}
+use Rattle.rules.specs.declared.{Miss.Miss}
+use Rattle.rules.specs.declared.{Stop.Stop}
 
 -- a value that was given is given again
 abbrev pub SameValue : Evaluated → Evaluated → Type 0

@@ -21,7 +21,7 @@ use Rattle.rules_endings.proofs.UsedLaws.{IsNamed, NamedValue, VariablesNamed}
 use Rattle.rules.specs.declared.{Value.Value, Cell.Cell}
 use Rattle.rules.specs.Types.{Search, Temporary}
 use Rattle.std.specs.Prelude.{None, Some}
-use Rattle.rules.specs.Types.{Stop}
+use Rattle.rules.specs.declared.{Stop.Stop}
 
 -- names that were given stay given
 pub names-stay : {m m₁ : Memory} (ρ : Variables) → Onward m m₁ → VariablesNamed ρ m → VariablesNamed ρ m₁

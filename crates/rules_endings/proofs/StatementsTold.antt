@@ -27,7 +27,7 @@ use Rattle.rules_endings.proofs.NamedPointers.{names-stay, Started}
 use Rattle.rules.specs.Types.{Evaluated, Test}
 use Rattle.std.specs.Prelude.{Err, Ok}
 use Rattle.std.specs.Prelude.{true, false}
-use Rattle.rules.specs.Types.{Stop}
+use Rattle.rules.specs.declared.{Stop.Stop}
 
 -- a stop tells Q, and leaves the names as they were
 pub change-told : (ρ : Variables) (Q : ℕ → Memory → Type 0) (m : Memory) (c : Change Memory) → Onward m (changed_memory c)

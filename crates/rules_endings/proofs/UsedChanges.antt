@@ -23,7 +23,7 @@ use Rattle.rules.specs.Types.{Evaluated, Found, Located}
 use Rattle.rules.specs.declared.{Block.Block, Cell.Cell}
 use Rattle.rules.specs.Types.{Search}
 use Rattle.std.specs.Prelude.{Err, None, Ok, Some}
-use Rattle.rules.specs.Types.{Stop}
+use Rattle.rules.specs.declared.{Stop.Stop}
 
 -- a store that stops tells of its pointer
 stored-told : (P : ℕ → Memory → Type 0) (m : Memory) (p : Pointer) (v : Value)

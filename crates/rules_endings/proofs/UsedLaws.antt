@@ -29,8 +29,8 @@ use Rattle.rules.specs.Types.{Evaluated, Found, Test}
 use Rattle.rules.specs.declared.{Block.Block, Recorded.Recorded, Cell.Cell}
 use Rattle.rules.specs.Types.{Located, Temporary}
 use Rattle.std.specs.Prelude.{Err, None, Ok, Some}
-use Rattle.rules.specs.Types.{Miss}
-use Rattle.rules.specs.Types.{Stop}
+use Rattle.rules.specs.declared.{Miss.Miss}
+use Rattle.rules.specs.declared.{Stop.Stop}
 
 -- a name was given: its block is not unused
 abbrev pub IsNamed : Memory → ℕ → Type 0
