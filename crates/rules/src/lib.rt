@@ -67,10 +67,11 @@ pub struct Progress {
     pub statement: u32,
 }
 
-// The live block that has each mark, by its name, 0 where none has; and last a mark below which each has an owner.
-pub const OWNERS_LENGTH: usize = CELL_COUNT + 1;
-
-pub type MarkOwners = [u16; OWNERS_LENGTH];
+// The live block that has each mark, by its name, 0 where none has; and a mark below which each has an owner.
+pub struct MarkOwners {
+    pub names: [u16; CELL_COUNT],
+    pub lowest: usize,
+}
 
 // The two languages of tables.
 #[derive(Clone, Copy, Debug, PartialEq, Eq)]

@@ -1,13 +1,15 @@
--- Laws of `fill`: one place more, places past the end, what stands where, a fill that changes nothing, and one behind
--- other places.
+-- Laws of `fill`: one place more, places past the end, what stands where, a fill that changes nothing, a part that is
+-- filled whole, and one behind other places.
 use Prim.Native.Nat.{ℕ, zero, suc, ◌+◌, ◌≤◌, ◌<◌}
 use native.Mathlib.Nat.{le_of_suc-le-suc}
 use native.Mathlib.Omega.{arith}
-use mathlib.Core.Path.{◌≡◌, refl, sym, ap, ap₂}
+use mathlib.Core.Path.{◌≡◌, refl, sym, ap, ap₂, ◌∙◌}
 use mathlib.Core.Bool.{Bool, true, false, ◌&&◌, cond}
 use mathlib.Core.List.{List, [], ◌∷◌, ◌++◌}
 use lib.Dec.{ltb, leb}
-use lib.ListN.{length, get_or, set, replicate}
+use lib.ListN.{length, get_or, set, replicate, drop, length-drop}
+use lib.Seq.{length-take-le}
+use borrow.Rule.Slice.PartMut.{mid_of, put_mid}
 use borrow.Author.Tests.{ltb-true, ltb-false, leb-true, leb-false}
 use Rattle.rules.specs.Words.{flat}
 use Rattle.rules.specs.Memory.{one, fill}
@@ -54,6 +56,23 @@ module _ {A : Type 0} (x : A) where
       (fill-same ys zero n d (λ i a b. f (suc i) (omega arith) (omega arith)))
   fill-same (y ∷ ys) (suc s) n d f =
       ap (λ (t : List A). y ∷ t) (fill-same ys s n d (λ i a b. f (suc i) (omega arith) (omega arith)))
+
+  -- a part of the list, filled whole
+  fill-between : (l : List A) (s n : ℕ) → s + n ≤ length l → put_mid s n l (replicate n x) ≡ fill l s n x
+  fill-between [] zero zero h = refl
+  fill-between [] zero (suc n) h = absurd (omega arith)
+  fill-between [] (suc s) n h = absurd (omega arith)
+  fill-between (y ∷ ys) zero zero h = refl
+  fill-between (y ∷ ys) zero (suc n) h =
+      ap (λ (t : List A). x ∷ t) (fill-between ys zero n (omega arith))
+  fill-between (y ∷ ys) (suc s) n h = ap (λ (t : List A). y ∷ t) (fill-between ys s n (omega arith))
+
+  pub fill-part : (l : List A) (s k n : ℕ) {part : List A} → s + n ≤ length l → k ≡ n
+      → part ≡ replicate (length (mid_of s k l)) x → put_mid s k l part ≡ fill l s n x
+  fill-part l s k n {part} h e p =
+      let long : length (mid_of s n l) ≡ n = length-take-le n (drop s l) (omega (arith, length-drop s l)) in
+      ap (put_mid s k l) p ∙ ap (λ (m : ℕ). put_mid s m l (replicate (length (mid_of s m l)) x)) e
+      ∙ ap (λ (m : ℕ). put_mid s n l (replicate m x)) long ∙ fill-between l s n h
 
   pub fill-all : (l : List A) (n : ℕ) → length l ≤ n → fill l 0 n x ≡ replicate (length l) x
   fill-all [] n h = refl
