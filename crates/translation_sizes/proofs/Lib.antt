@@ -1,3 +1,2 @@
 -- Facts about sizes.
 pub mod SizeSteps
-pub mod Counts

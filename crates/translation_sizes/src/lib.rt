@@ -22,22 +22,12 @@ fn own_records(kind: u8) -> usize
     }
 }
 
-// How often the translation has child A's records.
-fn copies_of_a(kind: u8) -> usize
-    ensures { result ≡ copies_of_child kind 0 }
+// How often the translation has the records of a child, A being 0.
+fn copies(kind: u8, child: usize) -> usize
+    ensures { result ≡ copies_of_child kind child }
 {
-    match kind {
-        41..=43 => 2,
-        _ => 1,
-    }
-}
-
-// How often it has child B's.
-fn copies_of_b(kind: u8) -> usize
-    ensures { result ≡ copies_of_child kind 1 }
-{
-    match kind {
-        42 => 2,
+    match (kind, child) {
+        (41..=43, 0) | (42, 1) => 2,
         _ => 1,
     }
 }
@@ -47,10 +37,11 @@ fn total(kind: u8, a: usize, b: usize, c: usize) -> usize
     requires { size_from kind a b c ≤ target_limit }
     ensures { result ≡ size_from kind a b c }
 {
-    own_records(kind) + copies_of_a(kind) * a + copies_of_b(kind) * b + c
+    own_records(kind) + copies(kind, 0) * a + copies(kind, 1) * b + c
 }
 
 // How many records record n is translated to.
+#[tactic(auto, using(crate::proofs::SizeSteps::within_sorted, crate::proofs::SizeSteps::size_none))]
 pub fn tree_size(table: &[u8], n: usize) -> usize
     requires { (Sorted table.now n) × (tree_size (tree_at table.now n 0 0) ≤ target_limit) }
     ensures { result ≡ tree_size (tree_at table.now n 0 0) }
