@@ -1,2 +1,3 @@
--- What a block record's words say together.
+-- What a block record's words say together, and a search among places.
 pub mod Ends
+pub mod Runs
