@@ -1,41 +1,47 @@
 -- How a statement comes out.
-use Rattle.std.specs.Prelude.{ℕ, zero, suc, ◌-◌, cond, List, [], ◌∷◌, eqb, get_or}
-use Rattle.rules.specs.Types.{Test}
-use Rattle.run_endings.specs.declared.Ended.{Ended}
-use Rattle.std.specs.Prelude.{Err, Ok}
-use Rattle.std.specs.Prelude.{true, false}
+use Rattle.std.specs.Prelude.{ℕ, ◌-◌, true, false, Result, Ok, Err}
+use Rattle.rules.specs.Flow.{Outcome, finished, ended}
+use Rattle.rules.specs.Answers.{answer}
+use Rattle.rules.specs.Types.{Test, stop_number}
+use Rattle.rules.specs.declared.{Answer.Answer, Progress.Progress, Stop.Stop}
+use Rattle.run_endings.specs.declared.Stopped.{Stopped}
 
--- the number of an ending, its statement, and the fuel left; 0 and 0 where it finished
-abbrev pub result : ℕ → ℕ → ℕ → Ended
-result k s f = record { number = k; statement = s; fuel = f }
+-- with the fuel left where it finished; else why and at which statement it stopped, and the fuel left
+abbrev pub Ended : Type 0
+Ended = Result ℕ Stopped
 
--- what a statement with a number of its own answers
-abbrev pub concluded : ℕ → ℕ → ℕ → Ended
-concluded k s f = cond (eqb k 0) (result 0 0 f) (result k s f)
+abbrev pub stopped_at : Stop → ℕ → ℕ → Stopped
+stopped_at c s f = record { stop = c; statement = s; fuel = f }
 
--- a run's progress: the fuel left, and the statement that it stopped at
-abbrev pub fuel_in : List ℕ → ℕ
-fuel_in p = get_or p 0 0
+-- so an outcome of the rules
+abbrev pub ended_of : {S : Type 0} → Outcome S → Ended
+ended_of (finished x f) = Ok f
+ended_of (ended c s ρ w x f) = Err (stopped_at c s f)
 
-abbrev pub statement_in : List ℕ → ℕ
-statement_in p = get_or p 1 0
+-- what a statement with a number of its own comes out with
+abbrev pub concluded : Result Unit Stop → ℕ → ℕ → Ended
+concluded (Ok u) s f = Ok f
+concluded (Err c) s f = Err (stopped_at c s f)
 
-abbrev pub progress : ℕ → ℕ → List ℕ
-progress fuel statement = fuel ∷ statement ∷ []
+-- after a while has taken its unit, and after statement n has come out so
+abbrev pub after_turn : Progress → Progress
+after_turn p = record { fuel = p.fuel - 1; statement = p.statement }
 
--- after a while has taken its unit, and after statement n has ended with number k
-abbrev pub after_turn : List ℕ → List ℕ
-after_turn p = progress (fuel_in p - 1) (statement_in p)
+abbrev pub after_statement : Progress → Result Unit Stop → ℕ → Progress
+after_statement p (Ok u) n = p
+after_statement p (Err c) n = record { fuel = p.fuel; statement = n }
 
-abbrev pub after_statement : List ℕ → ℕ → ℕ → List ℕ
-after_statement p zero n = p
-after_statement p (suc k) n = progress (fuel_in p) n
+-- how a run came out, by its progress
+abbrev pub ended_with : Result Unit Stop → Progress → Ended
+ended_with r p = concluded r p.statement p.fuel
 
--- how a run came out that answers number k, by its progress
-abbrev pub ended_with : ℕ → List ℕ → Ended
-ended_with k p = concluded k (statement_in p) (fuel_in p)
+-- "33 assertion false"
+abbrev pub asserted_true : Test → Result Unit Stop
+asserted_true (Ok true) = Ok tt
+asserted_true (Ok false) = Err Stop.FalseAssertion
+asserted_true (Err c) = Err c
 
-abbrev pub assert_number : Test → ℕ
-assert_number (Ok true) = 0
-assert_number (Ok false) = 33
-assert_number (Err c) = c
+-- "Endings return number, source statement, fuel left, free cells." "0 finished (statement 0)."
+abbrev pub ended_answer : Ended → ℕ → Answer
+ended_answer (Ok f) free = answer 0 0 f free
+ended_answer (Err s) free = answer (stop_number s.stop) s.statement s.fuel free

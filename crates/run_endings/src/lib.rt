@@ -1,78 +1,97 @@
-// The ending of a statement and a refusal, in numbers.
+// How a statement and a run come out, and what a host is answered.
 
 #![tactic(auto)]
 
 ghost use Rattle.std.specs.Prelude.{◌≡◌, ◌<◌};
+ghost use Rattle.rules.specs.Types.{rule_number};
 ghost use Rattle.rules.specs.Answers.{answer};
-ghost use Rattle.run_endings.specs.Ending.{concluded, assert_number, fuel_in, after_turn, after_statement};
+ghost use Rattle.run_endings.specs.Ending.{concluded, asserted_true, after_turn, after_statement, ended_answer};
 
-use rules::{Answer, Progress, Test};
+use rules::{Answer, Progress, Rule, Stop, Test};
 
-// How a statement comes out: the number of the ending and its statement, both 0 where it finished, and the fuel left.
-#[derive(Clone, Copy)]
-pub struct Ended {
-    pub number: u32,
+// Why and at which statement a run stopped, and the fuel left.
+#[derive(Clone, Copy, Debug, PartialEq, Eq)]
+pub struct Stopped {
+    pub stop: Stop,
     pub statement: u32,
     pub fuel: u32,
 }
 
+// How a statement comes out: with the fuel left, where it finished.
+pub type Ended = Result<u32, Stopped>;
+
 // A turn of a while takes a unit of fuel.
 pub fn take_fuel(progress: &mut Progress)
-    requires { 0 < fuel_in progress.old }
+    requires { 0 < progress.old.fuel }
     ensures { progress.new ≡ after_turn progress.old }
 {
-    *progress = [progress[0] - 1, progress[1]];
+    progress.fuel -= 1;
 }
 
-// Statement n ends with a number, 0 where it finished: any other stops the run there.
-pub fn stop_at(progress: &mut Progress, number: u32, n: u32) -> u32
-    ensures number { result ≡ number }
-    ensures progress { progress.new ≡ after_statement progress.old number n }
+// Statement n comes out so: a stop stops the run there.
+pub fn stop_at(progress: &mut Progress, outcome: Result<(), Stop>, n: u32) -> Result<(), Stop>
+    ensures outcome { result ≡ «outcome» }
+    ensures progress { progress.new ≡ after_statement progress.old «outcome» n }
 {
-    if number != 0 {
-        *progress = [progress[0], n];
+    if outcome.is_err() {
+        progress.statement = n;
     }
-    number
+    outcome
 }
 
-// The answer of statement n, of the number that it ended with, 0 where it finished.
-pub fn conclude(number: u32, n: u32, fuel: u32) -> Ended
-    ensures { result ≡ concluded number n fuel }
+// How statement n comes out with this fuel.
+pub fn conclude(outcome: Result<(), Stop>, n: u32, fuel: u32) -> Ended
+    ensures { result ≡ concluded «outcome» n fuel }
 {
-    if number == 0 {
-        Ended {
-            number: 0,
-            statement: 0,
-            fuel,
-        }
-    } else {
-        Ended {
-            number,
+    match outcome {
+        Ok(()) => Ok(fuel),
+        Err(stop) => Err(Stopped {
+            stop,
             statement: n,
             fuel,
-        }
+        }),
     }
 }
 
-// 33 where an assertion is false.
-pub fn assert_number(t: Test) -> u32
-    ensures { result ≡ assert_number t }
+// "33 assertion false".
+pub fn assert_true(t: Test) -> Result<(), Stop>
+    ensures { result ≡ asserted_true t }
 {
-    match t {
-        Test::Yes => 0,
-        Test::No => 33,
-        Test::Stopped(k) => k,
+    if t? {
+        Ok(())
+    } else {
+        Err(Stop::FalseAssertion)
     }
 }
 
 // A refusal.
-pub fn refuse(number: u32, n: u32) -> Answer
-    ensures { result ≡ answer number n 0 0 }
+pub fn refuse(rule: Rule, n: u32) -> Answer
+    ensures { result ≡ answer (rule_number rule) n 0 0 }
 {
     Answer {
-        number,
+        number: rule.into(),
         record: n,
         fuel: 0,
         free_cells: 0,
+    }
+}
+
+// The answer of a run: number and statement are 0 where it finished.
+pub fn answer_of(ended: Ended, free_cells: u32) -> Answer
+    ensures { result ≡ ended_answer ended free_cells }
+{
+    match ended {
+        Ok(fuel) => Answer {
+            number: 0,
+            record: 0,
+            fuel,
+            free_cells,
+        },
+        Err(stopped) => Answer {
+            number: stopped.stop.into(),
+            record: stopped.statement,
+            fuel: stopped.fuel,
+            free_cells,
+        },
     }
 }
