@@ -46,11 +46,11 @@ use Rattle.std.specs.Prelude.{Ok}
 use Rattle.rules.specs.declared.{Stop.Stop}
 
 -- what a plain run's ending tells at statement b
-abbrev pub PlainTold : Statement → ℕ → ℕ → Variables → Memory → Type 0
+abbrev pub PlainTold : Statement → Stop → ℕ → Variables → Memory → Type 0
 PlainTold b c s ρ m = ToldApart c m (used_in b ρ m)
 
 -- where every pointer has a name that was given, and the variables' do
-abbrev PlainKept : Statement → ℕ → ℕ → Variables → Memory → Type 0
+abbrev PlainKept : Statement → Stop → ℕ → Variables → Memory → Type 0
 PlainKept b c s ρ m = VariablesNamed ρ m × (PointersNamed no_temporaries ρ m → PlainTold b c s ρ m)
 
 plain-told : SourceEnds plain_meaning Started PlainKept
@@ -101,10 +101,10 @@ plain-dead-or-outside t i f c e =
     (start-invariant (inputs_of i) (inputs-few i e), start-named (inputs_of i)))
 
 -- what a watched run's ending tells
-abbrev pub WatchedTold : TargetStatement → ℕ → ℕ → Variables → WatchedState → Type 0
+abbrev pub WatchedTold : TargetStatement → Stop → ℕ → Variables → WatchedState → Type 0
 WatchedTold b c s ρ x = ToldApart c x.memory (used_in_target b ρ x)
 
-abbrev WatchedKept : TargetStatement → ℕ → ℕ → Variables → WatchedState → Type 0
+abbrev WatchedKept : TargetStatement → Stop → ℕ → Variables → WatchedState → Type 0
 WatchedKept b c s ρ x = VariablesNamed ρ x.memory × (Pointed ρ x → WatchedTold b c s ρ x)
 
 watched-told : TargetEnds WatchStarted WatchedKept
@@ -131,7 +131,7 @@ watched-told = record {
   branches = λ s e a b ρ x j. value-told ρ x j e;
   turns-on = λ s e b ρ x j. value-told ρ x j e;
   out-of-fuel = λ s e b ρ x j.
-      (j.1, λ n. other x.memory (used_in_target (tree.while s e b) ρ x) 32 (omega arith) (omega arith));
+      (j.1, λ n. other x.memory (used_in_target (tree.while s e b) ρ x) Stop.NoFuel (omega arith) (omega arith));
   makes = λ s z b ρ x j.
       made_in_lem (λ k m. Started (extend ρ z k) m) (λ k y. WatchStarted (extend ρ z k) y)
       (λ c. WatchedKept (tree.let_in s z b) c s ρ x) (with_memory x) (make_block x.memory fixed 1) (λ k m h. h)

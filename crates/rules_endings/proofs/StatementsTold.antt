@@ -30,7 +30,7 @@ use Rattle.std.specs.Prelude.{true, false}
 use Rattle.rules.specs.declared.{Stop.Stop}
 
 -- a stop tells Q, and leaves the names as they were
-pub change-told : (ρ : Variables) (Q : ℕ → Memory → Type 0) (m : Memory) (c : Change Memory) → Onward m (changed_memory c)
+pub change-told : (ρ : Variables) (Q : Stop → Memory → Type 0) (m : Memory) (c : Change Memory) → Onward m (changed_memory c)
     → VariablesNamed ρ m → ChangeStops Q c → ChangeStops (λ k x. VariablesNamed ρ x × Q k x) c
 change-told ρ Q m (changed x) o v h = tt
 change-told ρ Q m (stopped k x) o v h = (names-stay ρ o v, h)
@@ -40,7 +40,7 @@ test-told C (Ok true) v h = tt
 test-told C (Ok false) v h = tt
 test-told C (Err c) v h = (v, h)
 
-pub asserted-told : {S : Type 0} (P : ℕ → S → Type 0) (x : S) (t : Test) → P 33 x → TestStops (λ c. P c x) t
+pub asserted-told : {S : Type 0} (P : Stop → S → Type 0) (x : S) (t : Test) → P Stop.FalseAssertion x → TestStops (λ c. P c x) t
     → ChangeStops P (asserted x t)
 asserted-told P x (Ok true) f h = tt
 asserted-told P x (Ok false) f h = f
@@ -54,17 +54,17 @@ abbrev pub WatchStarted : Variables → WatchedState → Type 0
 WatchStarted ρ x = Started ρ x.memory
 
 -- a change of the execution memory, a temporary taken, a call of the observation memory
-pub changes-told : (P : ℕ → WatchedState → Type 0) (x : WatchedState) (c : Change Memory)
+pub changes-told : (P : Stop → WatchedState → Type 0) (x : WatchedState) (c : Change Memory)
     → ChangeStops (λ k m. P k (with_memory x m)) c → ChangeStops P (change_in (with_memory x) c)
 changes-told P x (changed m) h = tt
 changes-told P x (stopped k m) h = h
 
-pub taken-told : (P : ℕ → WatchedState → Type 0) (x : WatchedState) (n : ℕ) (e : Evaluated)
+pub taken-told : (P : Stop → WatchedState → Type 0) (x : WatchedState) (n : ℕ) (e : Evaluated)
     → Gives AnyValue (λ c. P c x) e → ChangeStops P (taken x n e)
 taken-told P x n (Ok v) h = tt
 taken-told P x n (Err c) h = h
 
-pub observed-told : (P : ℕ → WatchedState → Type 0) (x : WatchedState) (r : Noted) → NotedKeeps AnyState (λ c. P c x) r
+pub observed-told : (P : Stop → WatchedState → Type 0) (x : WatchedState) (r : Noted) → NotedKeeps AnyState (λ c. P c x) r
     → ChangeStops P (observed x r)
 observed-told P x (noted o) h = tt
 observed-told P x (refused c) h = h
@@ -75,7 +75,7 @@ given-told C (Err c) a h = (a, h)
 
 -- what uses temporaries and the observation memory alone reads and stores nothing
 module _ (ρ : Variables) (x : WatchedState) (j : WatchStarted ρ x) where
-  abbrev Silent : ℕ → Type 0
+  abbrev Silent : Stop → Type 0
   Silent c = VariablesNamed ρ x.memory × (Pointed ρ x → ToldApart c x.memory none)
 
   operations-silent : (c : Stop) → StopsAmong operation_endings c → Silent c

@@ -21,13 +21,13 @@ use Rattle.rules_endings.proofs.UsedLaws.{evaluate-told, find_place-told}
 use Rattle.rules.specs.declared.{Pointer.Pointer, Value.Value}
 use Rattle.rules.specs.Types.{Evaluated, Found, Located}
 use Rattle.rules.specs.declared.{Block.Block, Cell.Cell}
-use Rattle.rules.specs.Types.{Search}
+use Rattle.rules.specs.Types.{Search, stop_number}
 use Rattle.std.specs.Prelude.{Err, None, Ok, Some}
 use Rattle.rules.specs.declared.{Stop.Stop}
 
 -- a store that stops tells of its pointer
-stored-told : (P : ℕ → Memory → Type 0) (m : Memory) (p : Pointer) (v : Value)
-    → ((c : ℕ) → (IsNamed m p.name → ToldApart c m (astray m p)) → P c m) → ChangeStops P (store_cell m p v)
+stored-told : (P : Stop → Memory → Type 0) (m : Memory) (p : Pointer) (v : Value)
+    → ((c : Stop) → (IsNamed m p.name → ToldApart c m (astray m p)) → P c m) → ChangeStops P (store_cell m p v)
 stored-told P m p v h = go (locate m p) refl (whereabouts m p)
   where
     go : (l : Located) → locate m p ≡ l → Whereabouts m p l
@@ -38,7 +38,7 @@ stored-told P m p v h = go (locate m p) refl (whereabouts m p)
 
 module _ {T : Type 0} (τ : Holding T) (ρ : Variables) where
   -- at memory m
-  place-stopped : (m : Memory) (p : Place T) (c : ℕ) → find_place p τ ρ m ≡ Err c
+  place-stopped : (m : Memory) (p : Place T) (c : Stop) → find_place p τ ρ m ≡ Err c
       → Tells τ ρ m (used_to p τ ρ m) c
   place-stopped m p c e =
       let h : FoundTold τ ρ m (used_to p τ ρ m) (Err c) = rw e at (find_place-told τ ρ m p) in
@@ -50,7 +50,7 @@ module _ {T : Type 0} (τ : Holding T) (ρ : Variables) where
       let h : FoundTold τ ρ m (used_to p τ ρ m) (Ok q) = rw e at (find_place-told τ ρ m p) in
       h
 
-  value-stopped : (m : Memory) (e : Expression T) (c : ℕ) → evaluate e τ ρ m ≡ Err c
+  value-stopped : (m : Memory) (e : Expression T) (c : Stop) → evaluate e τ ρ m ≡ Err c
       → Tells τ ρ m (used_by e τ ρ m) c
   value-stopped m e c d =
       let h : Told τ ρ m (used_by e τ ρ m) (Err c) = rw d at (evaluate-told τ ρ m e) in
@@ -58,11 +58,11 @@ module _ {T : Type 0} (τ : Holding T) (ρ : Variables) where
 
   -- kinds 41 and 42
   module _ (p : Place T) (e : Expression T) where
-    abbrev pub StoreTells : ℕ → Memory → Type 0
+    abbrev pub StoreTells : Stop → Memory → Type 0
     StoreTells c m = Tells τ ρ m (used_storing p e τ ρ m) c
 
     -- another number, found before the store
-    earlier : (m : Memory) (c : ℕ) → c ≢ 42 → c ≢ 50 → StoreTells c m
+    earlier : (m : Memory) (c : Stop) → stop_number c ≢ 42 → stop_number c ≢ 50 → StoreTells c m
     earlier m c d o n = other m (used_storing p e τ ρ m) c d o
 
     stored_at : (m : Memory) (q : Pointer) (v w : Value) → find_place p τ ρ m ≡ Ok q
@@ -115,7 +115,7 @@ module _ {T : Type 0} (τ : Holding T) (ρ : Variables) where
       → ChangeStops (λ c x. Tells τ ρ x (used_by e τ ρ x) c) (freed m (evaluate e τ ρ m))
   freed-told e m = go (evaluate e τ ρ m) refl
     where
-      Freeing : ℕ → Memory → Type 0
+      Freeing : Stop → Memory → Type 0
       Freeing c x = Tells τ ρ x (used_by e τ ρ x) c
 
       wrong-sort : Freeing Stop.WrongSort m

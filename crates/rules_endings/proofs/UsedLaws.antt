@@ -27,7 +27,7 @@ use Rattle.rules_endings.specs.UsedPointers.{used_by_predicate, IsDead, IsOutsid
 use Rattle.rules.specs.declared.{Pointer.Pointer, Value.Value}
 use Rattle.rules.specs.Types.{Evaluated, Found, Test}
 use Rattle.rules.specs.declared.{Block.Block, Recorded.Recorded, Cell.Cell}
-use Rattle.rules.specs.Types.{Located, Temporary}
+use Rattle.rules.specs.Types.{Located, Temporary, stop_number}
 use Rattle.std.specs.Prelude.{Err, None, Ok, Some}
 use Rattle.rules.specs.declared.{Miss.Miss}
 use Rattle.rules.specs.declared.{Stop.Stop}
@@ -78,7 +78,7 @@ whereabouts m p = go (block_of m p.name) p.offset refl refl
 
 module _ (m : Memory) where
   -- other numbers tell nothing
-  pub other : (u : Option Pointer) (c : ℕ) → c ≢ 42 → c ≢ 50 → ToldApart c m u
+  pub other : (u : Option Pointer) (c : Stop) → stop_number c ≢ 42 → stop_number c ≢ 50 → ToldApart c m u
   other u c d o = record { dead = λ h. absurd (d h); outside = λ h. absurd (o h) }
 
   pub used-dead : (p : Pointer) → IsDead m p → ToldApart Stop.DeadBlock m (some p)
@@ -96,7 +96,7 @@ module _ (m : Memory) where
 -- where every pointer has such a name
 module _ {T : Type 0} (τ : Holding T) (ρ : Variables) (m : Memory) where
   -- a stop with a number, where u was used
-  abbrev pub Tells : Option Pointer → ℕ → Type 0
+  abbrev pub Tells : Option Pointer → Stop → Type 0
   Tells u c = PointersNamed τ ρ m → ToldApart c m u
 
   abbrev pub Named : Value → Type 0
@@ -109,7 +109,9 @@ module _ {T : Type 0} (τ : Holding T) (ρ : Variables) (m : Memory) where
   FoundTold u f = Finds (λ p. Named (Value.Pointer p)) (Tells u) f
 
   pub operations : (u : Option Pointer) (c : Stop) → StopsAmong operation_endings c → Tells u c
-  operations u c h n = other m u c (among-not operation_endings c 42 refl h) (among-not operation_endings c 50 refl h)
+  operations u c h n =
+      other m u c (among-not operation_endings (stop_number c) 42 refl h)
+      (among-not operation_endings (stop_number c) 50 refl h)
 
   -- G is of values, pointers with other offsets among them
   operated-told : (G : Value → Type 0) → ((z : ℤ) → G (Value.Integer z))
@@ -201,7 +203,7 @@ module _ {T : Type 0} (τ : Holding T) (ρ : Variables) (m : Memory) where
 
 -- terms and predicates, which read no cell but through expressions
 module _ (ρ : Variables) (m : Memory) where
-  abbrev pub SourceTells : Option Pointer → ℕ → Type 0
+  abbrev pub SourceTells : Option Pointer → Stop → Type 0
   SourceTells u c = Tells no_temporaries ρ m u c
 
   abbrev Asserted : Option Pointer → Evaluated → Type 0

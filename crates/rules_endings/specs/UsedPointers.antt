@@ -12,8 +12,8 @@ use Rattle.rules.specs.Memory.{Memory, recorded_of, block_of, locate, at_cell, o
 use Rattle.rules.specs.Evaluation.{Variables, Holding, no_temporaries, evaluate, find_place, evaluate_term}
 use Rattle.rules.specs.Evaluation.{evaluate_predicate, on_test}
 use Rattle.rules.specs.Watched.{WatchedState, temporary_of}
-use Rattle.rules.specs.declared.{Pointer.Pointer, Block.Block, Recorded.Recorded}
-use Rattle.rules.specs.Types.{Evaluated}
+use Rattle.rules.specs.declared.{Pointer.Pointer, Stop.Stop, Block.Block, Recorded.Recorded}
+use Rattle.rules.specs.Types.{Evaluated, stop_number}
 
 -- a read or a store with a pointer, where it leads to no cell
 abbrev pub astray : Memory → Pointer → Option Pointer
@@ -119,6 +119,6 @@ pub record Used (P : Pointer → Type 0) (u : Option Pointer) : Type 0 where
   pub is : P pointer
 
 -- what an ending's number tells of the pointer that was used: which of the two repairs it is
-pub record ToldApart (number : ℕ) (m : Memory) (u : Option Pointer) : Type 0 where
-  pub dead : number ≡ 42 → Used (IsDead m) u
-  pub outside : number ≡ 50 → Used (IsOutside m) u
+pub record ToldApart (c : Stop) (m : Memory) (u : Option Pointer) : Type 0 where
+  pub dead : stop_number c ≡ 42 → Used (IsDead m) u
+  pub outside : stop_number c ≡ 50 → Used (IsOutside m) u
