@@ -12,15 +12,13 @@ pub fn restate(e: Evaluated) -> Evaluated
     ensures { result ≡ e }
 {
     match e {
-        Evaluated::Value(v) => match v {
-            Value::Undefined => Evaluated::Value(Value::Undefined),
-            Value::Integer(z) => Evaluated::Value(Value::Integer(z)),
-            Value::Pointer(p) => Evaluated::Value(Value::Pointer(Pointer {
-                name: p.name,
-                offset: p.offset,
-            })),
-        },
-        Evaluated::Stopped(k) => Evaluated::Stopped(k),
+        Ok(Value::Undefined) => Ok(Value::Undefined),
+        Ok(Value::Integer(z)) => Ok(Value::Integer(z)),
+        Ok(Value::Pointer(p)) => Ok(Value::Pointer(Pointer {
+            name: p.name,
+            offset: p.offset,
+        })),
+        Err(stop) => Err(stop),
     }
 }
 
@@ -28,22 +26,12 @@ pub fn restate(e: Evaluated) -> Evaluated
 pub fn address(f: Found) -> Evaluated
     ensures { result ≡ address_of f }
 {
-    match f {
-        Found::Place(p) => Evaluated::Value(Value::Pointer(p)),
-        Found::Stopped(k) => Evaluated::Stopped(k),
-    }
+    Ok(Value::Pointer(f?))
 }
 
 // The place that a value points to: 40 where it is no pointer.
 pub fn point(e: Evaluated) -> Found
     ensures { result ≡ pointed_by e }
 {
-    match e {
-        Evaluated::Value(v) => match v {
-            Value::Undefined => Found::Stopped(40),
-            Value::Integer(_) => Found::Stopped(40),
-            Value::Pointer(p) => Found::Place(p),
-        },
-        Evaluated::Stopped(k) => Found::Stopped(k),
-    }
+    Pointer::try_from(e?)
 }

@@ -2,14 +2,13 @@
 
 #![tactic(auto)]
 
-ghost use Rattle.std.specs.Prelude.{◌≡◌, ◌<◌, set};
+ghost use Rattle.std.specs.Prelude.{◌≡◌, ◌<◌, set, Some};
 ghost use Rattle.rules.specs.Sizes.{temporary_count};
 ghost use Rattle.rules.specs.Layout.{cell_from};
 ghost use Rattle.rules.specs.Watched.{held_in};
-ghost use Rattle.rules.specs.declared.{Temporary.Temporary};
 ghost use Rattle.evaluation_temporaries.specs.Bytes.{temporary_in, temporaries_of};
 
-use rules::{Evaluated, Pointer, Temporaries, Value};
+use rules::{Evaluated, Pointer, Stop, Temporaries, Value};
 
 // What temporary n holds: 49 where it is empty.
 pub fn read_temporary(temporaries: &Temporaries, n: usize) -> Evaluated
@@ -18,13 +17,13 @@ pub fn read_temporary(temporaries: &Temporaries, n: usize) -> Evaluated
 {
     let at = n * 16;
     match temporaries[at] {
-        0 => Evaluated::Stopped(49),
-        1 => Evaluated::Value(Value::Undefined),
-        2 => Evaluated::Value(Value::Integer(byte_words::read_i64(&temporaries[..], at + 8))),
+        0 => Err(Stop::EmptyTemporary),
+        1 => Ok(Value::Undefined),
+        2 => Ok(Value::Integer(byte_words::read_i64(&temporaries[..], at + 8))),
         _ => {
             let name = byte_words::read_word(&temporaries[..], at + 4, 2) as u16;
             let offset = byte_words::read_i64(&temporaries[..], at + 8);
-            Evaluated::Value(Value::Pointer(Pointer { name, offset }))
+            Ok(Value::Pointer(Pointer { name, offset }))
         }
     }
 }
@@ -48,7 +47,7 @@ fn write_temporary(temporaries: &mut Temporaries, n: usize, kind: u8, name: u16,
 pub fn take(temporaries: &mut Temporaries, n: usize, v: Value)
     requires { n < temporary_count }
     ensures { temporaries_of temporaries.new
-        ≡ set (temporaries_of temporaries.old) n (Temporary.Holds v) }
+        ≡ set (temporaries_of temporaries.old) n (Some v) }
 {
     match v {
         Value::Undefined => write_temporary(temporaries, n, 1, 0, 0),
