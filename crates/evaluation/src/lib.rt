@@ -2,7 +2,7 @@
 
 #![tactic(auto)]
 
-ghost use Rattle.std.specs.Prelude.{◌≡◌};
+ghost use Rattle.std.specs.Prelude.{◌≡◌, Err};
 ghost use Rattle.rules.specs.Kinds.{target, sort_number, expression, place};
 ghost use Rattle.rules.specs.Records.{kind_of};
 ghost use Rattle.rules.specs.Nodes.{as_expression, as_place, sort_of_node, node_at};
@@ -10,34 +10,25 @@ ghost use Rattle.rules.specs.Memory.{on_place, read_cell};
 ghost use Rattle.rules.specs.Layout.{memory_of};
 ghost use Rattle.rules.specs.Evaluation.{evaluate, find_place};
 ghost use Rattle.rules.specs.Watched.{temporary_of};
-ghost use Rattle.rules.specs.declared.{Evaluated.Evaluated};
 ghost use Rattle.evaluation.specs.State.{variables_of, Settles};
 ghost use Rattle.evaluation_temporaries.specs.Bytes.{temporaries_of};
 
-use rules::{Evaluated, ExecutionMemory, Found, Pointer, Table, Temporaries, Value, Variables};
-
-// What an operand gives by itself: its value or stop, or nothing, so that it has to be evaluated.
-#[derive(Clone, Copy)]
-pub enum Settled {
-    Is(Evaluated),
-    Open,
-}
+use rules::{
+    Evaluated, ExecutionMemory, Found, Operator, Pointer, Table, Temporaries, Value, Variables,
+};
 
 // The value at a place.
 pub fn fetch(mem: &ExecutionMemory, f: Found) -> Evaluated
-    ensures { result ≡ on_place f Evaluated.Stopped (read_cell (memory_of mem.now)) }
+    ensures { result ≡ on_place f Err (read_cell (memory_of mem.now)) }
 {
-    match f {
-        Found::Place(p) => memory::read(mem, p),
-        Found::Stopped(k) => Evaluated::Stopped(k),
-    }
+    memory::read(mem, f?)
 }
 
-// What place n holds where it is a variable.
-fn settle_read(table: &Table, n: usize, variables: &Variables, mem: &ExecutionMemory) -> Settled
+// What place n holds where it is a variable; another place says nothing yet.
+fn settle_read(table: &Table, n: usize, variables: &Variables, mem: &ExecutionMemory) -> Option<Evaluated>
     requires { sort_of_node target (node_at target table.now n) ≡ sort_number place }
     ensures { Settles result (λ τ. on_place (find_place (as_place (node_at target table.now n)) τ
-        (variables_of variables.now) (memory_of mem.now)) Evaluated.Stopped
+        (variables_of variables.now) (memory_of mem.now)) Err
         (read_cell (memory_of mem.now))) }
 {
     if table::kind(&table[..], n) == 10 {
@@ -46,22 +37,22 @@ fn settle_read(table: &Table, n: usize, variables: &Variables, mem: &ExecutionMe
             name: variables[v],
             offset: 0,
         };
-        Settled::Is(memory::read(mem, p))
+        Some(memory::read(mem, p))
     } else {
-        Settled::Open
+        None
     }
 }
 
 // What expression n gives where it is a literal or the read of a variable.
-fn settle(table: &Table, n: usize, variables: &Variables, mem: &ExecutionMemory) -> Settled
+fn settle(table: &Table, n: usize, variables: &Variables, mem: &ExecutionMemory) -> Option<Evaluated>
     requires { sort_of_node target (node_at target table.now n) ≡ sort_number expression }
     ensures { Settles result (λ τ. evaluate (as_expression (node_at target table.now n)) τ
         (variables_of variables.now) (memory_of mem.now)) }
 {
     match table::kind(&table[..], n) {
-        1 => Settled::Is(Evaluated::Value(Value::Integer(table::literal(&table[..], n)))),
+        1 => Some(Ok(Value::Integer(table::literal(&table[..], n)))),
         2 => settle_read(table, table::child_a(&table[..], n), variables, mem),
-        _ => Settled::Open,
+        _ => None,
     }
 }
 
@@ -79,16 +70,10 @@ pub fn evaluate_operand(
         (temporary_of (temporaries_of temporaries.now)) (variables_of variables.now)
         (memory_of mem.now) }
 {
-    match settle(table, n, variables, mem) {
-        Settled::Is(e) => e,
-        Settled::Open => evaluation_answers::restate(evaluate(
-            table,
-            n,
-            variables,
-            temporaries,
-            mem,
-        )),
+    if let Some(settled) = settle(table, n, variables, mem) {
+        return settled;
     }
+    evaluation_answers::restate(evaluate(table, n, variables, temporaries, mem))
 }
 
 // The value of expression n. An operator's and a shift's operands are worked out alike: a shift's mark is 0.
@@ -106,48 +91,23 @@ pub fn evaluate(
         (memory_of mem.now) }
 {
     match table::kind(&table[..], n) {
-        1 => Evaluated::Value(Value::Integer(table::literal(&table[..], n))),
-        2 => fetch(
-            mem,
-            find_place(
-                table,
-                table::child_a(&table[..], n),
-                variables,
-                temporaries,
-                mem,
-            ),
-        ),
-        3 => evaluation_answers::address(find_place(
-            table,
-            table::child_a(&table[..], n),
-            variables,
-            temporaries,
-            mem,
-        )),
-        _ => match evaluate_operand(
-            table,
-            table::child_a(&table[..], n),
-            variables,
-            temporaries,
-            mem,
-        ) {
-            Evaluated::Value(a) => match evaluate_operand(
-                table,
-                table::child_b(&table[..], n),
-                variables,
-                temporaries,
-                mem,
-            ) {
-                Evaluated::Value(b) => evaluation_answers::restate(evaluation_operators::operate(
-                    mem,
-                    table::mark(&table[..], n),
-                    a,
-                    b,
-                )),
-                Evaluated::Stopped(k) => Evaluated::Stopped(k),
-            },
-            Evaluated::Stopped(k) => Evaluated::Stopped(k),
-        },
+        1 => Ok(Value::Integer(table::literal(&table[..], n))),
+        2 => {
+            let place = table::child_a(&table[..], n);
+            fetch(mem, find_place(table, place, variables, temporaries, mem))
+        }
+        3 => {
+            let place = table::child_a(&table[..], n);
+            evaluation_answers::address(find_place(table, place, variables, temporaries, mem))
+        }
+        _ => {
+            let first = table::child_a(&table[..], n);
+            let a = evaluate_operand(table, first, variables, temporaries, mem)?;
+            let second = table::child_b(&table[..], n);
+            let b = evaluate_operand(table, second, variables, temporaries, mem)?;
+            let operator = Operator::from(table::mark(&table[..], n));
+            evaluation_answers::restate(evaluation_operators::operate(mem, operator, a, b))
+        }
     }
 }
 
@@ -168,22 +128,19 @@ pub fn find_place(
     match table::kind(&table[..], n) {
         10 => {
             let v = table::mark(&table[..], n) as usize;
-            Found::Place(Pointer {
+            Ok(Pointer {
                 name: variables[v],
                 offset: 0,
             })
         }
-        11 => evaluation_answers::point(evaluate(
-            table,
-            table::child_a(&table[..], n),
-            variables,
-            temporaries,
-            mem,
-        )),
-        _ => evaluation_answers::point(evaluation_temporaries::read_temporary(
-            temporaries,
-            table::mark(&table[..], n) as usize,
-        )),
+        11 => {
+            let pointer = table::child_a(&table[..], n);
+            evaluation_answers::point(evaluate(table, pointer, variables, temporaries, mem))
+        }
+        _ => {
+            let holder = table::mark(&table[..], n) as usize;
+            evaluation_answers::point(evaluation_temporaries::read_temporary(temporaries, holder))
+        }
     }
 }
 
@@ -197,7 +154,7 @@ pub fn find_read(
 ) -> Found
     requires { (sort_of_node target (node_at target table.now n) ≡ sort_number expression)
         × (kind_of table.now n ≡ 2) }
-    ensures { on_place result Evaluated.Stopped (read_cell (memory_of mem.now))
+    ensures { on_place result Err (read_cell (memory_of mem.now))
         ≡ evaluate (as_expression (node_at target table.now n))
         (temporary_of (temporaries_of temporaries.now)) (variables_of variables.now)
         (memory_of mem.now) }
@@ -220,7 +177,7 @@ pub fn evaluate_expression(
         (memory_of mem.now) }
 {
     if table::kind(&table[..], n) == 1 {
-        return Evaluated::Value(Value::Integer(table::literal(&table[..], n)));
+        return Ok(Value::Integer(table::literal(&table[..], n)));
     }
     evaluate(table, n, variables, temporaries, mem)
 }

@@ -1,17 +1,14 @@
 -- What A of an 'and' or an 'or' decides.
-use Rattle.std.specs.Prelude.{Bool, cond}
+use Rattle.std.specs.Prelude.{Bool, cond, Option, Some, None, Err, Ok}
 use Rattle.rules.specs.Numbers.{tested}
 use Rattle.rules.specs.Memory.{on_value}
 use Rattle.rules.specs.Evaluation.{on_test}
 use Rattle.rules.specs.Types.{Evaluated}
-use Rattle.evaluation_predicates.specs.declared.Joint.{Joint}
-use Rattle.evaluation_predicates.specs.declared.Joint.TheVariants as joint
-use Rattle.std.specs.Prelude.{Err, Ok}
 
--- "'and' and 'or' skip B when A decides": what A gives, by itself
-abbrev pub joint_of : Bool → Evaluated → Joint
+-- "'and' and 'or' skip B when A decides": what A gives, by itself, or nothing, so that B decides
+abbrev pub joint_of : Bool → Evaluated → Option Evaluated
 joint_of is_or a =
-    on_value a (λ k. joint.Decided (Err k)) (λ v.
-    on_test (tested v) (λ k. joint.Decided (Err k))
-    (cond is_or (joint.Decided (Ok v)) joint.Open)
-    (cond is_or joint.Open (joint.Decided (Ok v))))
+    on_value a (λ k. Some (Err k)) (λ v.
+    on_test (tested v) (λ k. Some (Err k))
+    (cond is_or (Some (Ok v)) None)
+    (cond is_or None (Some (Ok v))))

@@ -1,9 +1,10 @@
 -- The changes that a statement makes.
-use Rattle.std.specs.Prelude.{ℕ, List, ◌≡◌}
+use Rattle.std.specs.Prelude.{ℕ, List, ◌≡◌, Result}
 use Rattle.rules.specs.Memory.{Memory, Change}
-use Rattle.memory_cells.specs.Changes.{Becomes, change_number, change_memory}
+use Rattle.rules.specs.declared.{Stop.Stop}
+use Rattle.memory_cells.specs.Changes.{Becomes, change_result, change_memory}
 
--- a change's number and the memory after it
-pub record Does (x : Change Memory) (r : ℕ) (entry exit : List ℕ) : Type 0 where
-  pub number : r ≡ change_number x
+-- what a change answers, and the memory after it
+pub record Does (x : Change Memory) (r : Result Unit Stop) (entry exit : List ℕ) : Type 0 where
+  pub result : r ≡ change_result x
   pub memory : Becomes entry exit (change_memory x)

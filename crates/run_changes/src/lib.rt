@@ -7,33 +7,20 @@ ghost use Rattle.rules.specs.Layout.{memory_of};
 ghost use Rattle.memory_counts.specs.Counted.{Counted};
 ghost use Rattle.run_changes.specs.Changing.{Does};
 
-use rules::{Counts, Evaluated, ExecutionMemory, Found, Value};
+use rules::{Counts, Evaluated, ExecutionMemory, Found, Pointer, Stop};
 
 // A place takes a value.
-pub fn store_at(mem: &mut ExecutionMemory, f: Found, e: Evaluated) -> u32
+pub fn store_at(mem: &mut ExecutionMemory, f: Found, e: Evaluated) -> Result<(), Stop>
     ensures { Does (assigned (memory_of mem.old) f e) result mem.old mem.new }
 {
-    match f {
-        Found::Place(p) => match e {
-            Evaluated::Value(v) => memory::store(mem, p, v),
-            Evaluated::Stopped(stop) => stop,
-        },
-        Found::Stopped(k) => k,
-    }
+    memory::store(mem, f?, e?)
 }
 
 // The block that a value points to is freed.
-pub fn free_at(mem: &mut ExecutionMemory, counts: &mut Counts, e: Evaluated) -> u32
+pub fn free_at(mem: &mut ExecutionMemory, counts: &mut Counts, e: Evaluated) -> Result<(), Stop>
     requires { Counted (memory_of mem.old) counts.old }
     ensures change { Does (freed (memory_of mem.old) e) result mem.old mem.new }
     ensures counts { Counted (memory_of mem.new) counts.new }
 {
-    match e {
-        Evaluated::Value(v) => match v {
-            Value::Undefined => 40,
-            Value::Integer(_) => 40,
-            Value::Pointer(p) => memory_freeing::free(mem, counts, p),
-        },
-        Evaluated::Stopped(k) => k,
-    }
+    memory_freeing::free(mem, counts, Pointer::try_from(e?)?)
 }

@@ -1,5 +1,5 @@
 -- What a statement finds in the bytes that its run has: the blocks of the variables, the temporaries, the memory.
-use Rattle.std.specs.Prelude.{ℕ, cond, List, eqb}
+use Rattle.std.specs.Prelude.{ℕ, cond, List, eqb, Option, Some, None}
 use Rattle.rules.specs.Records.{kind_of, child_a, child_b}
 use Rattle.rules.specs.Kinds.{target}
 use Rattle.rules.specs.Nodes.{as_expression, as_place, node_at}
@@ -22,9 +22,9 @@ value_in t k variables temporaries mem =
     evaluate (as_expression (node_at target t k)) (temporary_of (temporaries_of temporaries)) (variables_of variables)
     (memory_of mem)
 
--- what statement n runs first: A of a sequence, else itself; and then: B of a sequence, else nothing, which is 0
+-- what statement n runs first: A of a sequence, else itself; and then: B of a sequence, else nothing
 abbrev pub first_of : List ℕ → ℕ → ℕ
 first_of t n = cond (eqb (kind_of t n) 44) (child_a t n) n
 
-abbrev pub rest_of : List ℕ → ℕ → ℕ
-rest_of t n = cond (eqb (kind_of t n) 44) (child_b t n) 0
+abbrev pub rest_of : List ℕ → ℕ → Option ℕ
+rest_of t n = cond (eqb (kind_of t n) 44) (Some (child_b t n)) None

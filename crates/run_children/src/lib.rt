@@ -29,8 +29,10 @@ pub fn find_a(
     evaluation::find_place(table, place, variables, temporaries, mem)
 }
 
-// The value of child A, and of child B.
-fn evaluate_a(
+// The value of child A. What 43 frees and 61 takes is most often a read, whose place is found here and not by a call:
+// each of them takes this in whole.
+#[inline(always)]
+pub fn evaluate_a(
     table: &Table,
     n: usize,
     variables: &Variables,
@@ -43,9 +45,14 @@ fn evaluate_a(
         variables.now temporaries.now mem.now }
 {
     let first = table::child_a(&table[..], n);
+    if table::kind(&table[..], first) == 2 {
+        let place = evaluation::find_read(table, first, variables, temporaries, mem);
+        return evaluation::fetch(mem, place);
+    }
     evaluation::evaluate_expression(table, first, variables, temporaries, mem)
 }
 
+// The value of child B.
 pub fn evaluate_b(
     table: &Table,
     n: usize,
@@ -75,7 +82,8 @@ pub fn test_a(
     ensures { result ≡ condition (value_in table.now (child_a table.now n)
         variables.now temporaries.now mem.now) }
 {
-    let e = evaluate_a(table, n, variables, temporaries, mem);
+    let first = table::child_a(&table[..], n);
+    let e = evaluation::evaluate_expression(table, first, variables, temporaries, mem);
     value::test(e)
 }
 
@@ -91,14 +99,14 @@ pub fn first_of(table: &Table, n: usize) -> usize
     }
 }
 
-// What it runs then: B of a sequence, else 0.
-pub fn rest_of(table: &Table, n: usize) -> usize
+// What it runs then: B of a sequence, else nothing.
+pub fn rest_of(table: &Table, n: usize) -> Option<usize>
     requires { Within table.now n }
     ensures { result ≡ rest_of table.now n }
 {
     if table::kind(&table[..], n) == 44 {
-        table::child_b(&table[..], n)
+        Some(table::child_b(&table[..], n))
     } else {
-        0
+        None
     }
 }
