@@ -1,5 +1,2 @@
--- Laws of integers, and of the operators on them.
+-- Laws of integers.
 pub mod Integers
-pub mod Answers
-pub mod Sums
-pub mod Signs
