@@ -1,6 +1,6 @@
 -- What a record of a source table is translated to.
 use Rattle.std.specs.Prelude.{ℕ, List}
-use Rattle.rules.specs.declared.Language.TheVariants.{Source as source}
+use Rattle.rules.specs.Kinds.{source}
 use Rattle.rules.specs.Nodes.{node_sort, node_at}
 use Rattle.rules.specs.Emission.{RecordTree}
 use Rattle.rules.specs.RecordTrees.{tree_at}
