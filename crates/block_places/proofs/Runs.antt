@@ -1,5 +1,5 @@
 -- The lowest run of n free places, where no place from i on, below i + n, is held.
-use Rattle.std.proofs.Common.{ℕ, ◌+◌, ◌≤◌, ◌<◌, ◌≡◌, refl, Bool, true, Option, Some, arith}
+use Rattle.std.proofs.Common.{ℕ, ◌+◌, ◌≤◌, ◌<◌, ◌≡◌, refl, Bool, true, Some, arith}
 use Rattle.rules.specs.Sizes.{cell_count}
 use Rattle.rules.specs.Memory.{lowest_run}
 use Rattle.rules.proofs.Lists.RunLaws.{NoRunBelow, run-found}

@@ -7,12 +7,13 @@ ghost use Rattle.std.specs.Prelude.{◌≡◌, false, Bool, ℕ, ◌+◌, ◌*�
 ghost use Rattle.rules.specs.Sizes.{cell_count};
 ghost use Rattle.rules.specs.Words.{put};
 ghost use Rattle.rules.specs.Memory.{lowest_run};
+ghost use Rattle.rules.specs.Evaluation.{queried};
 ghost use Rattle.rules.specs.Layout.{block_record};
 ghost use Rattle.rules.proofs.Lists.RunLaws.{NoneBelow, Held, lowest_taken, lowest_given};
 ghost use Rattle.block_places.specs.Ends.{end_at};
 ghost use Rattle.block_places.specs.Runs.{FirstHeld};
 
-use rules::CELL_COUNT;
+use rules::{CELL_COUNT, Evaluated, Pointer, Query, Recorded, Stop, Value};
 use std::cmp::min;
 
 // The places of a memory: which are free, and where the block ends that has one that is not.
@@ -89,4 +90,23 @@ pub fn lowest_given(first: usize, lowest: usize) -> usize
     ensures { result ≡ lowest_given first lowest }
 {
     min(first, lowest)
+}
+
+// A query of a pointer into a block; a test tells the cells that are initialised. 47 where the base, offset or length is
+// asked of a block that is not live.
+#[tactic(auto, unfolding(rules::specs::Evaluation::queried))]
+pub fn query<F: Fn(usize) -> bool>(block: Recorded, is_marked: F, q: Query, p: Pointer) -> Evaluated
+    requires { F.IsAlwaysCallable is_marked }
+    ensures { (marked : ℕ → Bool) → ((i : ℕ) (b : Bool) → F.post is_marked i b → b ≡ marked i)
+        → result ≡ queried q block marked p }
+{
+    let located = value_offsets::locate_in(block, p.offset);
+    match (q, block) {
+        (Query::Valid, _) => Ok(Value::from(located.is_ok())),
+        (Query::Initialised, _) => Ok(Value::from(located.is_ok_and(is_marked))),
+        (_, Recorded::Unused | Recorded::Dead) => Err(Stop::NotLive),
+        (Query::Base, Recorded::Live(..)) => Ok(Value::Pointer(Pointer { offset: 0, ..p })),
+        (Query::Offset, Recorded::Live(..)) => Ok(Value::Integer(p.offset)),
+        (Query::BlockLength, Recorded::Live(_, n)) => Ok(Value::Integer(i64::from(n))),
+    }
 }
