@@ -1,5 +1,5 @@
 -- What the bytes of an observation memory stand for, by record and by mark.
-use Prim.Native.Nat.{ℕ, zero, suc, ◌+◌, ◌-◌, ◌<◌, ◌≤◌}
+use Prim.Native.Nat.{ℕ, zero, suc, ◌-◌, ◌<◌, ◌≤◌}
 use native.Mathlib.Nat.{zero-add, le_trans, le_of_eq}
 use native.Mathlib.Omega.{arith}
 use native.Mathlib.Decide.{dec_le}
@@ -8,9 +8,9 @@ use mathlib.Core.Bool.{false}
 use mathlib.Core.List.{List, ◌++◌}
 use lib.ListN.{length, get_or, replicate, replicate-append-replicate, get_or-eq_default}
 use Rattle.rules.specs.Sizes.{name_count, cell_count, observation_length, blocks_length}
-use Rattle.rules.specs.Words.{digits, word_at}
+use Rattle.rules.specs.Words.{digits}
 use Rattle.rules.specs.Observation.{record_of, empty_observation, is_marked}
-use Rattle.rules.specs.Layout.{block_place, recorded_from, recorded_at, mark_at, observation_of, observation_image}
+use Rattle.rules.specs.Layout.{recorded_at, mark_at, observation_of, observation_image}
 use Rattle.rules.specs.Layout.{recorded_bytes, mark_bytes}
 use Rattle.rules.specs.declared.{Recorded.Recorded}
 use Rattle.rules.proofs.Lists.Rows.{length-tabulate, get_d_tabulate, flat-all}
@@ -42,6 +42,8 @@ record-past l (suc k) h =
     let p : length (observation_of l).blocks ≤ k = omega (arith, record-count l) in
     sym (get_or-eq_default (observation_of l).blocks Recorded.Dead p)
 
+pub ruleset records_by_name = (record-of-name, record-past)
+
 -- a name whose record is not a dead one's is one of the names
 abbrev pub is_dead : Recorded → ℕ
 is_dead Recorded.Unused = 0
@@ -58,31 +60,6 @@ alive-named l (suc k) b e d = (omega arith, below (dec_le (suc k) name_count))
     below (no f) =
         let z : ◌≡◌ {A = ℕ} 1 0 = ap is_dead (record-past l (suc k) (omega arith) ∙ e) ∙ d in
         absurd (omega arith)
-
--- a record by its state
-module _ (l : List ℕ) (k : ℕ) where
-  pub recorded-unused : get_or l (block_place k) 0 ≡ 0 → Recorded.Unused ≡ recorded_at l k
-  unfolding recorded_at
-  recorded-unused e =
-      sym (ap (λ (s : ℕ). recorded_from s (word_at 2 l (block_place k + 2)) (word_at 2 l (block_place k + 4))) e)
-
-  pub recorded-live : (first n : ℕ) → get_or l (block_place k) 0 ≡ 1 → first ≡ word_at 2 l (block_place k + 2)
-      → n ≡ word_at 2 l (block_place k + 4) → Recorded.Live first n ≡ recorded_at l k
-  unfolding recorded_at
-  recorded-live first n e f g =
-      ap₂ Recorded.Live f g
-      ∙ sym (ap (λ (s : ℕ). recorded_from s (word_at 2 l (block_place k + 2)) (word_at 2 l (block_place k + 4))) e)
-
-  pub recorded-dead : (get_or l (block_place k) 0 ≡ 0 → ⊥) → (get_or l (block_place k) 0 ≡ 1 → ⊥)
-      → Recorded.Dead ≡ recorded_at l k
-  unfolding recorded_at
-  recorded-dead a b = go (get_or l (block_place k) 0) a b
-    where
-      go : (s : ℕ) → (s ≡ 0 → ⊥) → (s ≡ 1 → ⊥)
-          → Recorded.Dead ≡ recorded_from s (word_at 2 l (block_place k + 2)) (word_at 2 l (block_place k + 4))
-      go zero a b = absurd (a refl)
-      go (suc zero) a b = absurd (b refl)
-      go (suc (suc s)) a b = refl
 
 -- ---- marks
 pub mark-in : (l : List ℕ) (i : ℕ) → i < cell_count → mark_at l i ≡ is_marked (observation_of l) i

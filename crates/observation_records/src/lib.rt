@@ -10,6 +10,7 @@ ghost use Rattle.rules.specs.Layout.{recorded_at, observation_of};
 use rules::{NAME_COUNT, ObservationMemory, Recorded};
 
 // Block record k, counted from 0.
+#[tactic(auto, unfolding(rules::specs::Layout::recorded_at))]
 pub fn read_record(obs: &ObservationMemory, k: usize) -> Recorded
     requires { k < name_count }
     ensures { result ≡ recorded_at obs.now k }
@@ -17,8 +18,7 @@ pub fn read_record(obs: &ObservationMemory, k: usize) -> Recorded
     let at = k * 8;
     let first = byte_words::read_word(&obs[..], at + 2, 2) as u16;
     let n = byte_words::read_word(&obs[..], at + 4, 2) as u16;
-    let state = obs[at];
-    match state {
+    match obs[at] {
         0 => Recorded::Unused,
         1 => Recorded::Live(first, n),
         _ => Recorded::Dead,
@@ -26,15 +26,12 @@ pub fn read_record(obs: &ObservationMemory, k: usize) -> Recorded
 }
 
 // The record of a name; a name that has none is as a dead one's.
+#[tactic(auto, using(crate::proofs::ObservationLaws::records_by_name))]
 pub fn record_of(obs: &ObservationMemory, name: u16) -> Recorded
     ensures { result ≡ record_of (observation_of obs.now) name }
 {
-    let k = name as usize;
-    if k == 0 {
-        return Recorded::Dead;
+    match usize::from(name) {
+        k @ 1..=NAME_COUNT => read_record(obs, k - 1),
+        _ => Recorded::Dead,
     }
-    if NAME_COUNT < k {
-        return Recorded::Dead;
-    }
-    read_record(obs, k - 1)
 }
