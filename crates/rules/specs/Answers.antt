@@ -1,5 +1,6 @@
 -- What each entry point answers: number, values and every lent buffer, of what went in.
-use Rattle.std.specs.Prelude.{ℕ, zero, suc, ◌/◌, Bool, false, ◌||◌, List, [], ◌∷◌, eqb, ℤ, length, drop}
+use Rattle.std.specs.Prelude.{ℕ, zero, suc, ◌/◌, Bool, false, ◌||◌, List, [], ◌∷◌, eqb, ℤ, length, drop, Err, Ok}
+use Rattle.rules.specs.Types.{Checked, Answer, Refusal, Rule, rule_number}
 use Rattle.rules.specs.Words.{put, integer_at}
 use Rattle.rules.specs.Records.{record_count}
 use Rattle.rules.specs.Kinds.{source, target}
@@ -13,9 +14,6 @@ use Rattle.rules.specs.Plain.{run, start_variables}
 use Rattle.rules.specs.Watched.{WatchedState, watching, watch, start_temporaries}
 use Rattle.rules.specs.Translation.{translation}
 use Rattle.rules.specs.Layout.{memory_image, observation_image}
-use Rattle.rules.specs.Types.{Checked, Answer}
-use Rattle.std.specs.Prelude.{Err, Ok}
-use Rattle.rules.specs.Types.{Refusal, Rule, rule_number}
 
 -- `record` is the refused record, the source statement of an ending, or a translation's record count
 abbrev pub answer : ℕ → ℕ → ℕ → ℕ → Answer

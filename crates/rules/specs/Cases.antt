@@ -1,5 +1,6 @@
 -- Document 01, "Worked on paper", P2 as 02 §1 has it: what the rules give for P1 to P10, and what the papers say.
 use Rattle.std.specs.Prelude.{ℕ, ◌+◌, ◌-◌, ◌^◌, List, [], ◌∷◌, ◌++◌, map, ℤ, pos, neg_ℤ, replicate}
+use Rattle.rules.specs.Types.{Answer}
 use Rattle.rules.specs.Sizes.{memory_length, observation_length}
 use Rattle.rules.specs.Words.{part, integer_at, integer_bytes}
 use Rattle.rules.specs.Records.{Record, table_bytes}
@@ -7,7 +8,6 @@ use Rattle.rules.specs.Translation.{translation}
 use Rattle.rules.specs.Layout.{block_place, cell_place}
 use Rattle.rules.specs.Answers.{PlainRun, WatchedRun, run_plain, run_watched}
 use Rattle.rules.specs.Listing.{listing}
-use Rattle.rules.specs.Types.{Answer}
 
 -- a record: kind, mark, A, B, C, literal
 abbrev pub of_all : ℕ → ℕ → ℕ → ℕ → ℕ → ℤ → Record

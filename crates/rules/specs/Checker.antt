@@ -1,16 +1,15 @@
 -- "Turned away because of the input": the numbered rules as tests of a record, each giving the lowest.
-use Rattle.std.specs.Prelude.{ℕ, zero, suc, ◌+◌, ◌/◌, ◌%◌, Bool, true, false, not, cond, ◌&&◌, ◌||◌, ltb, leb, eqb, ℤ, pos, length}
 use mathlib.Core.List.{List, [], ◌∷◌, foldl}
+use Rattle.std.specs.Prelude.{ℕ, zero, suc, ◌+◌, ◌/◌, ◌%◌, Bool, true, false, not, cond, ◌&&◌, ◌||◌, ltb, leb, eqb, ℤ}
+use Rattle.std.specs.Prelude.{pos, length, Result, Err, None, Ok, Some, is_err}
 use Rattle.std.proofs.Math.Option.{Option, none, some}
 use Rattle.std.specs.Int.Signed.{le_z}
+use Rattle.rules.specs.Types.{Search, Checked, Rule}
 use Rattle.rules.specs.Sizes.{input_limit, temporary_count, memory_length, observation_length}
 use Rattle.rules.specs.Records.{Record, fields_of, record_count, kind_of, mark_of, record_at}
 use Rattle.rules.specs.Kinds.{Language, source, target, statement, sort_number, Field, unnamed, child}
 use Rattle.rules.specs.Kinds.{number, Literal, zero_literal, any_literal, statement_literal, Form, form_of}
 use Rattle.rules.specs.Kinds.{beside, record_limit}
-use Rattle.rules.specs.Types.{Search, Checked}
-use Rattle.std.specs.Prelude.{Result, Err, None, Ok, Some, is_err}
-use Rattle.rules.specs.Types.{Rule}
 
 -- the lowest of k numbers from j on that passes a test
 unfoldable pub lowest : (ℕ → Bool) → ℕ → ℕ → Search
@@ -207,7 +206,7 @@ abbrev pub ◌otherwise◌ : Checked → Checked → Checked
 
 abbrev pub last_rule : Language → List ℕ → Checked
 last_rule source t = refuse_at Rule.Level (lowest_record t (level_fault t))
-last_rule target t = (Ok tt)
+last_rule target t = Ok tt
 
 -- "Checked in this order; .. 3–5 are tried record by record."
 unfoldable pub check : Language → List ℕ → Checked

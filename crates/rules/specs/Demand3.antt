@@ -1,5 +1,5 @@
 -- "Demand 3 in full", as one statement over every accepted source table, inputs, fuel and old memories.
-use Rattle.std.specs.Prelude.{ℕ, ◌≤◌, false, List, ◌≢◌, ◌≡◌, length}
+use Rattle.std.specs.Prelude.{ℕ, ◌≤◌, false, List, ◌≢◌, ◌≡◌, length, Ok}
 use Rattle.rules.specs.Sizes.{memory_length, observation_length}
 use Rattle.rules.specs.Records.{record_count}
 use Rattle.rules.specs.Kinds.{source, target}
@@ -14,7 +14,6 @@ use Rattle.rules.specs.Translation.{translation}
 use Rattle.rules.specs.Origins.{target_records, sum}
 use Rattle.rules.specs.Layout.{memory_of, observation_image}
 use Rattle.rules.specs.Answers.{is_in, refusals, PlainRun, WatchedRun, inputs_of, plain_ended, run_plain, run_watched}
-use Rattle.std.specs.Prelude.{Ok}
 
 -- "Take the source table run by these rules with one change": the run that goes on past false assertions
 abbrev pub past_outcome : List ℕ → List ℕ → ℕ → Outcome PastState

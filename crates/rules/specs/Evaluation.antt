@@ -1,15 +1,13 @@
 -- Evaluating expressions and finding places, terms and predicates on the execution memory.
 -- "Evaluation goes A, then B, then the operation".
-use Rattle.std.specs.Prelude.{ℕ, Bool, true, false, cond, eqb, pos}
+use Rattle.std.specs.Prelude.{ℕ, Bool, true, false, cond, eqb, pos, Err, None, Ok, Some}
+use Rattle.rules.specs.Types.{Pointer, Value, Evaluated, Found, Test, Located, Recorded, Cell, Temporary, Miss, Stop}
 use Rattle.rules.specs.Trees.{Operator, shift, Query, valid, initialised, base, offset, block_length, Expression}
 use Rattle.rules.specs.Trees.{literal, read, address, operation, shifted, Place, variable, pointed, temporary}
 use Rattle.rules.specs.Trees.{Term, value, asked, combined, Predicate, holds, compared, negated, both, either}
 use Rattle.rules.specs.Numbers.{Liveness, operate, truth_value, tested}
 use Rattle.rules.specs.Memory.{Memory, recorded_of, block_of, cell_of, located_in, read_cell, on_value}
 use Rattle.rules.specs.Memory.{live_block, on_place, on_pointer}
-use Rattle.rules.specs.Types.{Pointer, Value, Evaluated, Found, Test, Located, Recorded, Cell, Temporary}
-use Rattle.std.specs.Prelude.{Err, None, Ok, Some}
-use Rattle.rules.specs.Types.{Miss, Stop}
 
 -- the block of each variable
 abbrev pub Variables : Type 0

@@ -1,13 +1,12 @@
 -- Memories whose numbers fit their places in the layout.
-use Rattle.std.specs.Prelude.{ℕ, ◌+◌, ◌≤◌, ◌<◌, true, ◌≡◌, length, List, [], ◌∷◌}
+use Rattle.std.specs.Prelude.{ℕ, ◌+◌, ◌≤◌, ◌<◌, true, ◌≡◌, length, List, [], ◌∷◌, None, Some}
+use Rattle.rules.specs.Types.{Pointer, Value, Block, Recorded, Cell, Temporary}
 use Rattle.rules.specs.Sizes.{name_count, cell_count}
 use Rattle.rules.specs.Layout.{name_limit}
 use Rattle.rules.specs.Numbers.{in_range}
 use Rattle.rules.specs.Memory.{Memory, recorded_of}
 use Rattle.rules.specs.Observation.{Observation}
 use Rattle.rules.specs.Evaluation.{Variables}
-use Rattle.rules.specs.Types.{Pointer, Value, Block, Recorded, Cell, Temporary}
-use Rattle.std.specs.Prelude.{None, Some}
 
 -- a predicate of every element of a list
 pub data All {A : Type 0} (P : A → Type 0) : List A → Type 0 where

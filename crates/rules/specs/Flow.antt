@@ -1,14 +1,11 @@
 -- How the statements of a run follow one another: one control flow for every run, whatever its state S is.
-use Rattle.std.specs.Prelude.{ℕ, zero, suc, List, [], ◌∷◌, get_or}
+use Rattle.std.specs.Prelude.{ℕ, zero, suc, List, [], ◌∷◌, get_or, Err, Ok, true, false}
 use Rattle.std.proofs.Math.Option.{Option, none, some}
+use Rattle.rules.specs.Types.{Test, Stop, stop_number}
 use Rattle.rules.specs.Trees.{Place, Expression, Predicate, Statement, skip, assign, new, free, sequence, branch}
 use Rattle.rules.specs.Trees.{while, let_in, assert}
 use Rattle.rules.specs.Memory.{Change, changed, stopped, Made, made, unmade}
 use Rattle.rules.specs.Evaluation.{Variables, extend}
-use Rattle.rules.specs.Types.{Test}
-use Rattle.std.specs.Prelude.{Err, Ok}
-use Rattle.rules.specs.Types.{Stop, stop_number}
-use Rattle.std.specs.Prelude.{true, false}
 
 -- the path down a program to a statement: the child taken at each statement, A being 0
 abbrev pub TreePath : Type 0

@@ -1,10 +1,10 @@
 -- The bytes of both memories, and back.
 use Rattle.std.specs.Prelude.{ℕ, zero, suc, ◌+◌, ◌*◌, Bool, List, [], ◌∷◌, ◌++◌, eqb, ℤ, pos, get_or}
+use Rattle.rules.specs.Types.{Value, Block, Recorded, Cell}
 use Rattle.rules.specs.Sizes.{name_count, cell_count, blocks_length}
 use Rattle.rules.specs.Words.{digits, word_at, integer_at, integer_bytes, flat, tabulate}
 use Rattle.rules.specs.Memory.{Memory, one}
 use Rattle.rules.specs.Observation.{Observation}
-use Rattle.rules.specs.Types.{Value, Block, Recorded, Cell}
 
 -- "block records of 8 bytes (state ..; 0; first cell in two bytes; length in two; 0, 0)"
 abbrev pub block_record : ℕ → ℕ → ℕ → List ℕ

@@ -1,13 +1,12 @@
 -- The text of a listing: "one line a target record: number, kind, mark, A, B, C, literal; for a refused table one line,
 -- refusal number and record".
-use Rattle.std.specs.Prelude.{ℕ, zero, suc, ◌+◌, ◌/◌, ◌%◌, true, false, List, [], ◌∷◌, ◌++◌, ltb, ℤ, pos, negsuc}
+use Rattle.std.specs.Prelude.{ℕ, zero, suc, ◌+◌, ◌/◌, ◌%◌, true, false, List, [], ◌∷◌, ◌++◌, ltb, ℤ, pos, negsuc, Err}
+use Rattle.std.specs.Prelude.{Ok}
+use Rattle.rules.specs.Types.{Checked, rule_number}
 use Rattle.rules.specs.Records.{Record}
 use Rattle.rules.specs.Kinds.{source}
 use Rattle.rules.specs.Checker.{check}
 use Rattle.rules.specs.Translation.{translated_records}
-use Rattle.rules.specs.Types.{Checked}
-use Rattle.std.specs.Prelude.{Err, Ok}
-use Rattle.rules.specs.Types.{rule_number}
 
 -- "figures here are decimal": a number's digits in ASCII, at most k of them; 64 bits have at most 20
 unfoldable pub decimal_digits : ℕ → ℕ → List ℕ

@@ -1,10 +1,9 @@
 -- The execution memory: its blocks and cells, and what a statement does to them.
-use Rattle.std.specs.Prelude.{ℕ, zero, suc, ◌+◌, ◌-◌, Bool, true, false, cond, List, [], ◌∷◌, ◌++◌, map, ltb, ℤ, pos, negsuc, length, get_or, set, replicate}
+use Rattle.std.specs.Prelude.{ℕ, zero, suc, ◌+◌, ◌-◌, Bool, true, false, cond, List, [], ◌∷◌, ◌++◌, map, ltb, ℤ, pos}
+use Rattle.std.specs.Prelude.{negsuc, length, get_or, set, replicate, Err, None, Ok, Some}
+use Rattle.rules.specs.Types.{Pointer, Value, Evaluated, Found, Located, Search, Block, Recorded, Cell, Miss, Stop}
 use Rattle.rules.specs.Sizes.{name_count, cell_count}
 use Rattle.rules.specs.Checker.{lowest}
-use Rattle.rules.specs.Types.{Pointer, Value, Evaluated, Found, Located, Search, Block, Recorded, Cell}
-use Rattle.std.specs.Prelude.{Err, None, Ok, Some}
-use Rattle.rules.specs.Types.{Miss, Stop}
 
 -- a block of 42 is freeable, that of a let is fixed
 abbrev pub Use : Type 0
@@ -54,10 +53,10 @@ cell_of m i = get_or m.cells i Cell.Free
 
 -- "Valid: the block is live and the offset inside."
 abbrev pub located_in : Recorded → ℤ → Located
-located_in Recorded.Unused o = (Err Miss.Dead)
+located_in Recorded.Unused o = Err Miss.Dead
 located_in (Recorded.Live first n) (pos o) = cond (ltb o n) (Ok (first + o)) (Err Miss.Outside)
-located_in (Recorded.Live first n) (negsuc o) = (Err Miss.Outside)
-located_in Recorded.Dead o = (Err Miss.Dead)
+located_in (Recorded.Live first n) (negsuc o) = Err Miss.Outside
+located_in Recorded.Dead o = Err Miss.Dead
 
 unfoldable pub locate : Memory → Pointer → Located
 locate m p = located_in (recorded_of (block_of m p.name)) p.offset

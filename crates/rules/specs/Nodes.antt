@@ -1,5 +1,6 @@
 -- The tree that each record of a table is, by a left fold: node n is made of record n and of the nodes before it.
-use Rattle.std.specs.Prelude.{ℕ, zero, suc, Bool, true, false, cond, ◌&&◌, List, [], ◌∷◌, ◌++◌, map, ◌≡◌, ltb, leb, eqb, pos, nat_abs, get_or}
+use Rattle.std.specs.Prelude.{ℕ, zero, suc, Bool, true, false, cond, ◌&&◌, List, [], ◌∷◌, ◌++◌, map, ◌≡◌, ltb, leb}
+use Rattle.std.specs.Prelude.{eqb, pos, nat_abs, get_or, is_ok}
 use Rattle.std.proofs.Math.Option.{Option, none, some}
 use Rattle.rules.specs.Records.{Record, fields_of, record_count, kind_of, record_at, literal_of}
 use Rattle.rules.specs.Kinds.{Language, source, target, sort_number, Field, unnamed, child, number, Form, form_of}
@@ -13,7 +14,6 @@ use Rattle.rules.specs.Trees.{combined, Predicate, holds, compared, negated, bot
 use Rattle.rules.specs.Trees as tree
 use Rattle.rules.specs.TargetTrees.{TargetStatement}
 use Rattle.rules.specs.TargetTrees as target-tree
-use Rattle.std.specs.Prelude.{is_ok}
 
 -- Operators by their numbers. Kind 5 names no operator, so that its mark is 0 ("Fields not named are zero"), and 0 is
 -- the shift: the code runs kind 5 by its mark, as it runs kind 4. No accepted record has a number above 8.

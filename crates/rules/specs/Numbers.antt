@@ -1,11 +1,10 @@
 -- The operators on values.
-use Rattle.std.specs.Prelude.{ℕ, ◌+◌, ◌*◌, ◌/◌, ◌%◌, ◌^◌, ◌≤◌, Bool, true, false, not, cond, ◌&&◌, ◌≡◌, ltb, eqb, ℤ, pos, negsuc, neg_ℤ, nat_abs, ◌+ℤ◌, ◌-ℤ◌, ◌*ℤ◌}
+use Rattle.std.specs.Prelude.{ℕ, ◌+◌, ◌*◌, ◌/◌, ◌%◌, ◌^◌, ◌≤◌, Bool, true, false, not, cond, ◌&&◌, ◌≡◌, ltb, eqb, ℤ}
+use Rattle.std.specs.Prelude.{pos, negsuc, neg_ℤ, nat_abs, ◌+ℤ◌, ◌-ℤ◌, ◌*ℤ◌, Err, Ok}
 use Rattle.std.specs.Bool.{beq}
 use Rattle.std.specs.Int.Signed.{le_z}
+use Rattle.rules.specs.Types.{Pointer, Value, Evaluated, Test, Number, Stop}
 use Rattle.rules.specs.Trees.{Operator, add, subtract, multiply, divide, nearest, at_most, equal, shift}
-use Rattle.rules.specs.Types.{Pointer, Value, Evaluated, Test, Number}
-use Rattle.std.specs.Prelude.{Err, Ok}
-use Rattle.rules.specs.Types.{Stop}
 
 -- a signed 64-bit number: −2^63 .. 2^63 − 1
 abbrev pub in_range : ℤ → Bool

@@ -1,14 +1,13 @@
 -- The observation memory and its nine calls: store block, delete block, initialise, five queries, and whether a block is
 -- live.
-use Rattle.std.specs.Prelude.{ℕ, zero, suc, ◌+◌, Bool, true, false, not, ◌&&◌, List, [], ◌∷◌, map, ltb, leb, ℤ, pos, negsuc, get_or, set, replicate}
+use Rattle.std.specs.Prelude.{ℕ, zero, suc, ◌+◌, Bool, true, false, not, ◌&&◌, List, [], ◌∷◌, map, ltb, leb, ℤ, pos}
+use Rattle.std.specs.Prelude.{negsuc, get_or, set, replicate, Err, None, Ok, Some}
+use Rattle.rules.specs.Types.{Pointer, Value, Evaluated, Located, Search, Recorded, Miss, Stop}
 use Rattle.rules.specs.Sizes.{name_count, cell_count}
 use Rattle.rules.specs.Trees.{Query}
 use Rattle.rules.specs.Memory.{Memory, recorded_of, is_live, named, located_in, lowest_run, fill, on_integer, set_named}
 use Rattle.rules.specs.Memory.{on_pointer}
 use Rattle.rules.specs.Evaluation.{is_initialised, queried}
-use Rattle.rules.specs.Types.{Pointer, Value, Evaluated, Located, Search, Recorded}
-use Rattle.std.specs.Prelude.{Err, None, Ok, Some}
-use Rattle.rules.specs.Types.{Miss, Stop}
 
 -- block records by name from 1, marks from 0: "1 for initialised"
 pub record Observation : Type 0 where

@@ -1,10 +1,9 @@
 -- "At most 14 target records come from each source record": how many come from record n of a source table.
-use Rattle.std.specs.Prelude.{ℕ, zero, suc, ◌+◌, ◌*◌, cond, List, [], ◌∷◌, eqb}
+use Rattle.std.specs.Prelude.{ℕ, zero, suc, ◌+◌, ◌*◌, cond, List, [], ◌∷◌, eqb, None, Some}
 use Rattle.rules.specs.Records.{fields_of, record_count, kind_of, record_at}
 use Rattle.rules.specs.Kinds.{source, between}
 use Rattle.rules.specs.Checker.{total, parent_of}
 use Rattle.rules.specs.Nodes.{by_kind, ◌gives◌}
-use Rattle.std.specs.Prelude.{None, Some}
 
 -- "Parts listed in order nest as 44(first, 44(second, ..))": the records of a list, from those of its parts
 abbrev pub list_records : ℕ → List ℕ → ℕ

@@ -1,14 +1,12 @@
 -- "Demand 3 in full": "the source table run by these rules with one change: a 48 works its predicate out on the
 -- execution memory and goes on even at 0."
-use Rattle.std.specs.Prelude.{ℕ, List, [], ◌∷◌, ◌++◌}
+use Rattle.std.specs.Prelude.{ℕ, List, [], ◌∷◌, ◌++◌, Err, Ok, true, false}
+use Rattle.rules.specs.Types.{Test}
 use Rattle.rules.specs.Trees.{Statement}
 use Rattle.rules.specs.Memory.{Memory, Change, changed, stopped, change_in, made_in}
 use Rattle.rules.specs.Evaluation.{Variables, evaluate_predicate, condition}
 use Rattle.rules.specs.Flow.{Outcome, Ending, Meaning, run_by}
 use Rattle.rules.specs.Plain.{plain_meaning}
-use Rattle.rules.specs.Types.{Test}
-use Rattle.std.specs.Prelude.{Err, Ok}
-use Rattle.std.specs.Prelude.{true, false}
 
 -- "it is false then if its predicate gives 0, and not false if working the predicate out ends the run"
 pub data Verdict : Type 0 where

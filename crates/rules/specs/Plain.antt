@@ -1,14 +1,11 @@
 -- The plain run.
-use Rattle.std.specs.Prelude.{ℕ, zero, suc}
+use Rattle.std.specs.Prelude.{ℕ, zero, suc, Err, Ok, true, false}
+use Rattle.rules.specs.Types.{Test, Stop}
 use Rattle.rules.specs.Trees.{Statement}
 use Rattle.rules.specs.Memory.{Memory, Change, changed, stopped, fixed, make_block, end_block}
 use Rattle.rules.specs.Memory.{assigned, allocated, freed}
 use Rattle.rules.specs.Evaluation.{Variables, evaluate_source, find_source, evaluate_predicate, condition}
 use Rattle.rules.specs.Flow.{Outcome, Meaning, run_by}
-use Rattle.rules.specs.Types.{Test}
-use Rattle.std.specs.Prelude.{Err, Ok}
-use Rattle.rules.specs.Types.{Stop}
-use Rattle.std.specs.Prelude.{true, false}
 
 -- "33 assertion false"
 abbrev pub asserted : {S : Type 0} → S → Test → Change S

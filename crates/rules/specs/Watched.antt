@@ -1,6 +1,7 @@
 -- The watched run.
-use Rattle.std.specs.Prelude.{ℕ, suc, List, [], ◌∷◌, get_or, set, replicate}
+use Rattle.std.specs.Prelude.{ℕ, suc, List, [], ◌∷◌, get_or, set, replicate, Err, None, Ok, Some}
 use Rattle.std.proofs.Math.Option.{Option, none, some}
+use Rattle.rules.specs.Types.{Value, Evaluated, Found, Temporary}
 use Rattle.rules.specs.Sizes.{temporary_count}
 use Rattle.rules.specs.Trees.{Expression, Place}
 use Rattle.rules.specs.TargetTrees.{TargetStatement, skip, assign, new, free, sequence, branch, while, let_in}
@@ -15,8 +16,6 @@ use Rattle.rules.specs.Evaluation.{Variables, Holding, held, evaluate, find_plac
 use Rattle.rules.specs.Evaluation.{condition, extend}
 use Rattle.rules.specs.Observation.{Observation, Noted, noted, refused, store_block, delete_block, initialise}
 use Rattle.rules.specs.Observation.{live_record, query_observation}
-use Rattle.rules.specs.Types.{Value, Evaluated, Found, Temporary}
-use Rattle.std.specs.Prelude.{Err, None, Ok, Some}
 
 -- "64 temporaries t0–t63, empty at first"
 abbrev pub Temporaries : Type 0

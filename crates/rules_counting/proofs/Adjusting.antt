@@ -5,19 +5,18 @@ use native.Mathlib.Omega.{arith}
 use mathlib.Core.Path.{◌≡◌, refl, sym, ap, ◌∙◌}
 use mathlib.Core.List.{List, [], ◌∷◌, map}
 use lib.ListN.{length, length-map}
+use Rattle.std.specs.Prelude.{None, Some}
+use Rattle.rules.specs.Types.{Search}
+use Rattle.rules.specs.declared.{Pointer.Pointer, Value.Value, Block.Block, Recorded.Recorded}
 use Rattle.rules.specs.Sizes.{cell_count}
 use Rattle.rules.specs.Memory.{Memory, recorded_of, named, block_of, set_named, Change, stopped, locate, store_cell}
 use Rattle.rules.specs.Memory.{next_name, free_run, Use, block_for, with_block, make_at, make_block, end_block, count_free}
-use Rattle.rules.specs.declared.{Pointer.Pointer, Value.Value, Block.Block}
-use Rattle.rules.specs.Types.{Search}
-use Rattle.rules.specs.declared.{Recorded.Recorded}
 use Rattle.rules.proofs.Runs.Keeping.{AnyNumber, MadeKeeps, at-cell}
 use Rattle.rules.proofs.Memory.MemoryLaws.{map-set_named, named-map, named_in}
 use Rattle.rules.proofs.Memory.Invariant.{Invariant, changed_memory}
 use Rattle.rules.proofs.Memory.Totals.{length_of, live_length, total}
 use Rattle.rules.proofs.Memory.Room.{HasRoom, room}
 use Rattle.rules.proofs.Memory.BlockChanges.{onward-make, recorded-for, end-invariant, dead-is-not-live}
-use Rattle.std.specs.Prelude.{None, Some}
 
 -- the lengths of live blocks, after the block of one name was set
 live-set_named : (l : List Recorded) (k : ℕ) (x : Recorded) → 1 ≤ k → k ≤ length l

@@ -2,6 +2,9 @@
 use Prim.Native.Nat.{ℕ, zero, suc, ◌≤◌}
 use mathlib.Core.Path.{◌≡◌, refl, sym, ap}
 use lib.IntN.{ℤ, pos, negsuc}
+use Rattle.std.specs.Prelude.{Err, Ok}
+use Rattle.rules.specs.Types.{Evaluated, Found, Located}
+use Rattle.rules.specs.declared.{Pointer.Pointer, Value.Value, Block.Block, Recorded.Recorded, Cell.Cell, Miss.Miss}
 use Rattle.rules.specs.Trees.{Statement}
 use Rattle.rules.specs.TargetTrees.{TargetStatement}
 use Rattle.rules.specs.Memory.{Memory, recorded_of, block_of, Change, changed, stopped, change_in, set_cell, locate, at_cell}
@@ -12,17 +15,12 @@ use Rattle.rules.specs.Observation.{Noted, noted, refused}
 use Rattle.rules.specs.Flow.{ending}
 use Rattle.rules.specs.Plain.{plain_meaning, run}
 use Rattle.rules.specs.Watched.{WatchedState, with_memory, value_in, place_in, holding, taken, observed, watch}
-use Rattle.rules.specs.declared.{Pointer.Pointer, Value.Value}
-use Rattle.rules.specs.Types.{Evaluated, Found, Located}
-use Rattle.rules.specs.declared.{Block.Block, Recorded.Recorded, Cell.Cell}
 use Rattle.rules.proofs.Runs.Keeping.{AnyNumber, AnyValue, any-test, any-evaluated, ChangeKeeps, MadeKeeps}
 use Rattle.rules.proofs.Runs.Outcomes.{AnyBlock, staying, outcomes-state, change-in, made_in_lem, made_more, asserted-keeps}
 use Rattle.rules.proofs.Runs.SourceRuns.{MeaningKeeps, run-reaches}
 use Rattle.rules.proofs.Runs.TargetRuns.{WatchKeeps, watch-reaches, taken-keeps, operating, querying, negating}
 use Rattle.rules.proofs.Runs.TargetRuns.{storing, deleting, initialising}
 use Rattle.rules_counting.specs.Counting.{History, stored, block_made, block_ended}
-use Rattle.std.specs.Prelude.{Err, Ok}
-use Rattle.rules.specs.declared.{Miss.Miss}
 
 module _ (m₀ : Memory) where
   abbrev Keeps : Change Memory → Type 0

@@ -8,12 +8,13 @@ use mathlib.Core.Bool.{Bool, true, false, cond, true≢false}
 use mathlib.Core.List.{List}
 use lib.Dec.{ltb}
 use borrow.Author.Tests.{ltb-true, ltb-false, lt-ltb, le-ltb}
+use Rattle.std.specs.Prelude.{None, Some}
+use Rattle.rules.specs.Types.{Search}
+use Rattle.rules.specs.declared.{Block.Block, Recorded.Recorded}
 use Rattle.rules.specs.Sizes.{name_count}
 use Rattle.rules.specs.Checker.{lowest}
 use Rattle.rules.specs.Memory.{Memory, recorded_of, named, block_of, is_unused, next_name, free_run, Use, block_for, with_block}
 use Rattle.rules.specs.Memory.{without_cells, make_at, make_block, end_block}
-use Rattle.rules.specs.declared.{Block.Block, Recorded.Recorded}
-use Rattle.rules.specs.Types.{Search}
 use Rattle.rules.proofs.Lists.SearchLaws.{lowest-nothing, lowest-at}
 use Rattle.rules.proofs.Runs.Keeping.{AnyNumber, MadeKeeps}
 use Rattle.rules.proofs.Memory.MemoryLaws.{named-set_named-other}
@@ -21,7 +22,6 @@ use Rattle.rules.proofs.Memory.Invariant.{Invariant, becomes-given}
 use Rattle.rules.proofs.Memory.Room.{Room, HasRoom, room}
 use Rattle.rules.proofs.Memory.BlockChanges.{onward-make, make-given, end-given}
 use Rattle.rules_counting.specs.Counting.{name_from}
-use Rattle.std.specs.Prelude.{None, Some}
 
 pub name-past : (k : ℕ) → name_count < k → None ≡ name_from k
 name-past k h = sym (ap (λ (b : Bool). cond b None (Some k)) (lt-ltb name_count k h))

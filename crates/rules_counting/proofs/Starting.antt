@@ -6,9 +6,9 @@ use mathlib.Core.List.{List, map}
 use mathlib.Core.Path.{◌≡◌, refl}
 use lib.IntN.{ℤ}
 use lib.ListN.{length, replicate}
+use Rattle.rules.specs.declared.{Block.Block}
 use Rattle.rules.specs.Sizes.{name_count, cell_count, input_limit}
 use Rattle.rules.specs.Memory.{recorded_of, block_of, is_unused, next_name, count_free, start_memory}
-use Rattle.rules.specs.declared.{Block.Block}
 use Rattle.rules.proofs.Claim.Start.{start-invariant}
 use Rattle.rules.proofs.Memory.Totals.{live_length, total}
 use Rattle.rules_counting.specs.Counting.{name_from}

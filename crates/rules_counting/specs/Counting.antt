@@ -1,5 +1,7 @@
 -- 02 §3: "Free cells counted as they go."
-use Rattle.std.specs.Prelude.{ℕ, suc, ◌+◌, ◌-◌, cond, ◌≡◌, ltb}
+use Rattle.std.specs.Prelude.{ℕ, suc, ◌+◌, ◌-◌, cond, ◌≡◌, ltb, None, Ok, Some, true, false}
+use Rattle.rules.specs.Types.{Search}
+use Rattle.rules.specs.declared.{Pointer.Pointer, Value.Value, Recorded.Recorded}
 use Rattle.rules.specs.Sizes.{name_count}
 use Rattle.rules.specs.Trees.{Expression, Statement, sequence, branch, while, let_in}
 use Rattle.rules.specs.TargetTrees.{TargetStatement}
@@ -9,10 +11,6 @@ use Rattle.rules.specs.Memory.{count_free}
 use Rattle.rules.specs.Evaluation.{Variables, condition, extend}
 use Rattle.rules.specs.Flow.{finished, Meaning, run_by}
 use Rattle.rules.specs.Watched.{WatchedState, with_memory, value_in, holding, watch}
-use Rattle.rules.specs.declared.{Pointer.Pointer, Value.Value, Recorded.Recorded}
-use Rattle.rules.specs.Types.{Search}
-use Rattle.std.specs.Prelude.{None, Ok, Some}
-use Rattle.std.specs.Prelude.{true, false}
 
 -- how memory m has become another: by stores, new blocks and ended blocks, one after the other
 pub data History (m : Memory) : Memory → Type 0 where
@@ -43,14 +41,14 @@ pub data Starts {S : Type 0} (M : Meaning S) (b : Statement) (σ : Variables) (y
       → Starts M b σ y g (sequence s a c) ρ x f
   second : {s : ℕ} {a c : Statement} {ρ : Variables} {x x₁ : S} {f f₁ : ℕ} → run_by M a ρ x f ≡ finished x₁ f₁
       → Starts M b σ y g c ρ x₁ f₁ → Starts M b σ y g (sequence s a c) ρ x f
-  yes : {s : ℕ} {e : Expression ⊥} {a c : Statement} {ρ : Variables} {x : S} {f : ℕ} → M.decides e ρ x ≡ (Ok true)
+  yes : {s : ℕ} {e : Expression ⊥} {a c : Statement} {ρ : Variables} {x : S} {f : ℕ} → M.decides e ρ x ≡ Ok true
       → Starts M b σ y g a ρ x f → Starts M b σ y g (branch s e a c) ρ x f
-  no : {s : ℕ} {e : Expression ⊥} {a c : Statement} {ρ : Variables} {x : S} {f : ℕ} → M.decides e ρ x ≡ (Ok false)
+  no : {s : ℕ} {e : Expression ⊥} {a c : Statement} {ρ : Variables} {x : S} {f : ℕ} → M.decides e ρ x ≡ Ok false
       → Starts M b σ y g c ρ x f → Starts M b σ y g (branch s e a c) ρ x f
-  turn : {s : ℕ} {e : Expression ⊥} {a : Statement} {ρ : Variables} {x : S} {f : ℕ} → M.decides e ρ x ≡ (Ok true)
+  turn : {s : ℕ} {e : Expression ⊥} {a : Statement} {ρ : Variables} {x : S} {f : ℕ} → M.decides e ρ x ≡ Ok true
       → Starts M b σ y g a ρ x f → Starts M b σ y g (while s e a) ρ x (suc f)
   again : {s : ℕ} {e : Expression ⊥} {a : Statement} {ρ : Variables} {x x₁ : S} {f f₁ : ℕ}
-      → M.decides e ρ x ≡ (Ok true) → run_by M a ρ x f ≡ finished x₁ f₁
+      → M.decides e ρ x ≡ Ok true → run_by M a ρ x f ≡ finished x₁ f₁
       → Starts M b σ y g (while s e a) ρ x₁ f₁ → Starts M b σ y g (while s e a) ρ x (suc f)
   inside : {s z k : ℕ} {a : Statement} {ρ : Variables} {x x₁ : S} {f : ℕ} → M.makes x ≡ made k x₁
       → Starts M b σ y g a (extend ρ z k) x₁ f → Starts M b σ y g (let_in s z a) ρ x f
@@ -65,22 +63,22 @@ pub data TargetStarts (b : TargetStatement) (σ : Variables) (y : WatchedState) 
       → watch a ρ x f ≡ finished x₁ f₁ → TargetStarts b σ y g c ρ x₁ f₁
       → TargetStarts b σ y g (target.sequence s a c) ρ x f
   yes : {s : ℕ} {e : Expression ℕ} {a c : TargetStatement} {ρ : Variables} {x : WatchedState} {f : ℕ}
-      → condition (value_in e ρ x) ≡ (Ok true) → TargetStarts b σ y g a ρ x f
+      → condition (value_in e ρ x) ≡ Ok true → TargetStarts b σ y g a ρ x f
       → TargetStarts b σ y g (target.branch s e a c) ρ x f
   no : {s : ℕ} {e : Expression ℕ} {a c : TargetStatement} {ρ : Variables} {x : WatchedState} {f : ℕ}
-      → condition (value_in e ρ x) ≡ (Ok false) → TargetStarts b σ y g c ρ x f
+      → condition (value_in e ρ x) ≡ Ok false → TargetStarts b σ y g c ρ x f
       → TargetStarts b σ y g (target.branch s e a c) ρ x f
   yes_on : {s n : ℕ} {a c : TargetStatement} {ρ : Variables} {x : WatchedState} {f : ℕ}
-      → condition (holding x n) ≡ (Ok true) → TargetStarts b σ y g a ρ x f
+      → condition (holding x n) ≡ Ok true → TargetStarts b σ y g a ρ x f
       → TargetStarts b σ y g (target.branch_on s n a c) ρ x f
   no_on : {s n : ℕ} {a c : TargetStatement} {ρ : Variables} {x : WatchedState} {f : ℕ}
-      → condition (holding x n) ≡ (Ok false) → TargetStarts b σ y g c ρ x f
+      → condition (holding x n) ≡ Ok false → TargetStarts b σ y g c ρ x f
       → TargetStarts b σ y g (target.branch_on s n a c) ρ x f
   turn : {s : ℕ} {e : Expression ℕ} {a : TargetStatement} {ρ : Variables} {x : WatchedState} {f : ℕ}
-      → condition (value_in e ρ x) ≡ (Ok true) → TargetStarts b σ y g a ρ x f
+      → condition (value_in e ρ x) ≡ Ok true → TargetStarts b σ y g a ρ x f
       → TargetStarts b σ y g (target.while s e a) ρ x (suc f)
   again : {s : ℕ} {e : Expression ℕ} {a : TargetStatement} {ρ : Variables} {x x₁ : WatchedState} {f f₁ : ℕ}
-      → condition (value_in e ρ x) ≡ (Ok true) → watch a ρ x f ≡ finished x₁ f₁
+      → condition (value_in e ρ x) ≡ Ok true → watch a ρ x f ≡ finished x₁ f₁
       → TargetStarts b σ y g (target.while s e a) ρ x₁ f₁ → TargetStarts b σ y g (target.while s e a) ρ x (suc f)
   inside : {s z k : ℕ} {m : Memory} {a : TargetStatement} {ρ : Variables} {x : WatchedState} {f : ℕ}
       → make_block x.memory fixed 1 ≡ made k m → TargetStarts b σ y g a (extend ρ z k) (with_memory x m) f

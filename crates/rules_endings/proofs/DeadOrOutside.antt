@@ -6,6 +6,8 @@ use mathlib.Core.Bool.{false}
 use mathlib.Core.List.{List}
 use mathlib.Core.Option.{none}
 use mathlib.Core.Path.{◌≡◌}
+use Rattle.std.specs.Prelude.{Ok}
+use Rattle.rules.specs.declared.{Stop.Stop}
 use Rattle.rules.specs.Trees.{Statement, let_in}
 use Rattle.rules.specs.TargetTrees.{TargetStatement}
 use Rattle.rules.specs.TargetTrees as tree
@@ -42,8 +44,6 @@ use Rattle.rules_endings.proofs.StatementsTold.{changes-told, taken-told, observ
 use Rattle.rules_endings.proofs.StatementsTold.{operating-silent, querying-silent, negating-silent}
 use Rattle.rules_endings.proofs.StatementsTold.{storing-silent, deleting-silent, initialising-silent}
 use Rattle.rules_endings.proofs.StatementsTold.{deciding-silent, value-told}
-use Rattle.std.specs.Prelude.{Ok}
-use Rattle.rules.specs.declared.{Stop.Stop}
 
 -- what a plain run's ending tells at statement b
 abbrev pub PlainTold : Statement → Stop → ℕ → Variables → Memory → Type 0
@@ -88,7 +88,7 @@ plain-told = record {
 }
 
 -- every accepted source table
-pub plain-dead-or-outside : (t i : List ℕ) (f : ℕ) → check source t ≡ (Ok tt) → inputs_fault i ≡ false
+pub plain-dead-or-outside : (t i : List ℕ) (f : ℕ) → check source t ≡ Ok tt → inputs_fault i ≡ false
     → EndsAt parts PlainTold (source_program t) (plain_outcome t i f)
 plain-dead-or-outside t i f c e =
     ends-map parts PlainKept PlainTold (source_program t) (plain_outcome t i f)
@@ -174,7 +174,7 @@ watched-told = record {
 }
 
 -- every accepted target table, a hand-made one too
-pub watched-dead-or-outside : (t i : List ℕ) (f : ℕ) → check target t ≡ (Ok tt) → inputs_fault i ≡ false
+pub watched-dead-or-outside : (t i : List ℕ) (f : ℕ) → check target t ≡ Ok tt → inputs_fault i ≡ false
     → EndsAt target_parts WatchedTold (target_program t) (watched_outcome t i f)
 watched-dead-or-outside t i f c e =
     let x = (ending (watched_outcome t i f)).state in

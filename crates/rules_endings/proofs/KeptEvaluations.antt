@@ -4,6 +4,9 @@ use native.Mathlib.Omega.{arith}
 use mathlib.Core.Bool.{Bool, true, false, cond, ◌&&◌, false≢true}
 use mathlib.Core.Logic.{◌≢◌}
 use mathlib.Core.Path.{◌≡◌, refl, sym, ap, ◌∙◌}
+use Rattle.std.specs.Prelude.{Err, Ok}
+use Rattle.rules.specs.Types.{Evaluated, Found, Located}
+use Rattle.rules.specs.declared.{Pointer.Pointer, Value.Value, Block.Block, Cell.Cell, Miss.Miss, Stop.Stop}
 use Rattle.rules.specs.Trees.{Operator, add, subtract, multiply, divide, nearest, at_most, equal, shift}
 use Rattle.rules.specs.Trees.{Expression, literal, read, address, operation, shifted, Place, variable}
 use Rattle.rules.specs.Trees.{pointed, temporary}
@@ -18,12 +21,6 @@ use Rattle.rules.proofs.Memory.Invariant.{occupied, Invariant}
 use Rattle.rules.proofs.Memory.BlockChanges.{covered-once}
 use Rattle.rules.proofs.Memory.Pointing.{Leads, leads}
 use Rattle.rules.proofs.Memory.Room.{Room}
-use Rattle.rules.specs.declared.{Pointer.Pointer, Value.Value}
-use Rattle.rules.specs.Types.{Evaluated, Found, Located}
-use Rattle.rules.specs.declared.{Block.Block, Cell.Cell}
-use Rattle.std.specs.Prelude.{Err, Ok}
-use Rattle.rules.specs.declared.{Miss.Miss}
-use Rattle.rules.specs.declared.{Stop.Stop}
 
 -- a value that was given is given again
 abbrev pub SameValue : Evaluated → Evaluated → Type 0

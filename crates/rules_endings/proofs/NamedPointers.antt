@@ -5,6 +5,9 @@ use mathlib.Core.List.{List}
 use mathlib.Core.Path.{refl}
 use lib.Dec.{eqb}
 use lib.IntN.{ℤ}
+use Rattle.std.specs.Prelude.{None, Some}
+use Rattle.rules.specs.Types.{Search, Temporary}
+use Rattle.rules.specs.declared.{Value.Value, Cell.Cell, Stop.Stop}
 use Rattle.rules.specs.Memory.{Memory, block_of, cell_of, fixed, next_name, free_run, with_block, make_at, make_block}
 use Rattle.rules.specs.Memory.{start_memory}
 use Rattle.rules.specs.Evaluation.{Variables, extend}
@@ -18,10 +21,6 @@ use Rattle.rules.proofs.Memory.BlockChanges.{onward-make, make-given}
 use Rattle.rules.proofs.Memory.GivenNames.{GivenValue, CellsGiven, TemporariesGiven}
 use Rattle.rules.proofs.Memory.Room.{HasRoom, room}
 use Rattle.rules_endings.proofs.UsedLaws.{IsNamed, NamedValue, VariablesNamed}
-use Rattle.rules.specs.declared.{Value.Value, Cell.Cell}
-use Rattle.rules.specs.Types.{Search, Temporary}
-use Rattle.std.specs.Prelude.{None, Some}
-use Rattle.rules.specs.declared.{Stop.Stop}
 
 -- names that were given stay given
 pub names-stay : {m m₁ : Memory} (ρ : Variables) → Onward m m₁ → VariablesNamed ρ m → VariablesNamed ρ m₁

@@ -3,6 +3,9 @@ use Prim.Native.Nat.{ℕ, suc}
 use native.Mathlib.Omega.{arith}
 use mathlib.Core.Option.{none}
 use mathlib.Core.Path.{refl}
+use Rattle.std.specs.Prelude.{Err, Ok, true, false}
+use Rattle.rules.specs.Types.{Evaluated, Test}
+use Rattle.rules.specs.declared.{Stop.Stop}
 use Rattle.rules.specs.Trees.{Expression, Query, Operator}
 use Rattle.rules.specs.Memory.{Memory, Change, changed, stopped, change_in}
 use Rattle.rules.specs.Evaluation.{Variables}
@@ -24,10 +27,6 @@ use Rattle.rules_endings.specs.UsedPointers.{used_by, ToldApart}
 use Rattle.rules_endings.proofs.UsedLaws.{VariablesNamed, PointersNamed, other, Tells, operations, any_held}
 use Rattle.rules_endings.proofs.UsedLaws.{decided-by}
 use Rattle.rules_endings.proofs.NamedPointers.{names-stay, Started}
-use Rattle.rules.specs.Types.{Evaluated, Test}
-use Rattle.std.specs.Prelude.{Err, Ok}
-use Rattle.std.specs.Prelude.{true, false}
-use Rattle.rules.specs.declared.{Stop.Stop}
 
 -- a stop tells Q, and leaves the names as they were
 pub change-told : (ρ : Variables) (Q : Stop → Memory → Type 0) (m : Memory) (c : Change Memory) → Onward m (changed_memory c)

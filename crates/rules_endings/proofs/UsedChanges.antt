@@ -4,6 +4,9 @@ use native.Mathlib.Omega.{arith}
 use mathlib.Core.Path.{◌≡◌, refl}
 use mathlib.Core.Logic.{◌≢◌}
 use lib.IntN.{ℤ, pos, negsuc}
+use Rattle.std.specs.Prelude.{Err, None, Ok, Some}
+use Rattle.rules.specs.Types.{Evaluated, Found, Located, Search, stop_number}
+use Rattle.rules.specs.declared.{Pointer.Pointer, Value.Value, Block.Block, Cell.Cell, Stop.Stop}
 use Rattle.rules.specs.Trees.{Expression, Place}
 use Rattle.rules.specs.Memory.{Memory, block_of, locate, at_cell, changed, stopped, set_cell, store_cell, next_name}
 use Rattle.rules.specs.Memory.{free_run, freeable, with_block, make_at, assigned, store_new, new_of_size, allocated, free_of}
@@ -18,12 +21,6 @@ use Rattle.rules_endings.proofs.KeptEvaluations.{living-kept}
 use Rattle.rules_endings.proofs.UsedLaws.{IsNamed, PointersNamed, Whereabouts, at, dead, outside, whereabouts}
 use Rattle.rules_endings.proofs.UsedLaws.{other, used-dead, used-outside, Tells, Told, FoundTold}
 use Rattle.rules_endings.proofs.UsedLaws.{evaluate-told, find_place-told}
-use Rattle.rules.specs.declared.{Pointer.Pointer, Value.Value}
-use Rattle.rules.specs.Types.{Evaluated, Found, Located}
-use Rattle.rules.specs.declared.{Block.Block, Cell.Cell}
-use Rattle.rules.specs.Types.{Search, stop_number}
-use Rattle.std.specs.Prelude.{Err, None, Ok, Some}
-use Rattle.rules.specs.declared.{Stop.Stop}
 
 -- a store that stops tells of its pointer
 stored-told : (P : Stop → Memory → Type 0) (m : Memory) (p : Pointer) (v : Value)

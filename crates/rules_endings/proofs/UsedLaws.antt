@@ -8,6 +8,10 @@ use mathlib.Core.Path.{◌≡◌, refl, sym, ap, ◌∙◌}
 use lib.Dec.{ltb}
 use lib.IntN.{ℤ, pos, negsuc}
 use borrow.Author.Tests.{ltb-false}
+use Rattle.std.specs.Prelude.{Err, None, Ok, Some}
+use Rattle.rules.specs.Types.{Evaluated, Found, Test, Located, Temporary, stop_number}
+use Rattle.rules.specs.declared.{Pointer.Pointer, Value.Value, Block.Block, Recorded.Recorded, Cell.Cell, Miss.Miss}
+use Rattle.rules.specs.declared.{Stop.Stop}
 use Rattle.rules.specs.Trees.{Operator, shift, Query, Expression, literal, read, address, operation, shifted, Place}
 use Rattle.rules.specs.Trees.{variable, pointed, temporary, Term, value, asked, combined, Predicate, holds, compared}
 use Rattle.rules.specs.Trees.{negated, both, either}
@@ -24,13 +28,6 @@ use Rattle.rules.proofs.Runs.Operations.{operate-gives, query_memory-gives, test
 use Rattle.rules.proofs.Runs.Operations.{opposite-gives}
 use Rattle.rules_endings.specs.UsedPointers.{astray, in_turn, used_by, used_to, used_by_term, unless_decided}
 use Rattle.rules_endings.specs.UsedPointers.{used_by_predicate, IsDead, IsOutside, ToldApart}
-use Rattle.rules.specs.declared.{Pointer.Pointer, Value.Value}
-use Rattle.rules.specs.Types.{Evaluated, Found, Test}
-use Rattle.rules.specs.declared.{Block.Block, Recorded.Recorded, Cell.Cell}
-use Rattle.rules.specs.Types.{Located, Temporary, stop_number}
-use Rattle.std.specs.Prelude.{Err, None, Ok, Some}
-use Rattle.rules.specs.declared.{Miss.Miss}
-use Rattle.rules.specs.declared.{Stop.Stop}
 
 -- a name was given: its block is not unused
 abbrev pub IsNamed : Memory → ℕ → Type 0

@@ -2,6 +2,8 @@
 -- a run, worked out again from the statement of the ending, the variables' blocks and the state as then.
 use Rattle.std.specs.Prelude.{ℕ, ◌≤◌, ◌≡◌, ℤ, pos, negsuc}
 use Rattle.std.proofs.Math.Option.{Option, none, some}
+use Rattle.rules.specs.Types.{Evaluated, stop_number}
+use Rattle.rules.specs.declared.{Pointer.Pointer, Stop.Stop, Block.Block, Recorded.Recorded}
 use Rattle.rules.specs.Trees.{Expression, literal, read, address, operation, shifted, Place, variable, pointed}
 use Rattle.rules.specs.Trees.{temporary, Term, value, asked, combined, Predicate, holds, compared, negated, both}
 use Rattle.rules.specs.Trees.{either, Statement, skip, assign, new, free, sequence, branch, while, let_in, assert}
@@ -12,8 +14,6 @@ use Rattle.rules.specs.Memory.{Memory, recorded_of, block_of, locate, at_cell, o
 use Rattle.rules.specs.Evaluation.{Variables, Holding, no_temporaries, evaluate, find_place, evaluate_term}
 use Rattle.rules.specs.Evaluation.{evaluate_predicate, on_test}
 use Rattle.rules.specs.Watched.{WatchedState, temporary_of}
-use Rattle.rules.specs.declared.{Pointer.Pointer, Stop.Stop, Block.Block, Recorded.Recorded}
-use Rattle.rules.specs.Types.{Evaluated, stop_number}
 
 -- a read or a store with a pointer, where it leads to no cell
 abbrev pub astray : Memory → Pointer → Option Pointer

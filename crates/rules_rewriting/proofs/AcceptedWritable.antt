@@ -6,6 +6,7 @@ use mathlib.Core.List.{List}
 use mathlib.Core.Path.{◌≡◌, refl, subst}
 use borrow.Author.Tests.{leb-true}
 use lib.Dec.{leb, eqb}
+use Rattle.std.specs.Prelude.{Ok}
 use Rattle.rules.specs.Records.{record_count, kind_of, mark_of, child_a, child_b, child_c}
 use Rattle.rules.specs.Kinds.{source, Sort, expression, place, term, predicate, statement, sort_number, child}
 use Rattle.rules.specs.Kinds.{between}
@@ -26,7 +27,6 @@ use Rattle.rules.proofs.Acceptance.FormLaws.{FieldHolds, FormHolds, node_as}
 use Rattle.rules.proofs.Acceptance.Standing.{stands}
 use Rattle.rules.proofs.Acceptance.Readiness.{node-as}
 use Rattle.rules_rewriting.proofs.Writable.{WritableTerm, WritablePredicate, Writable}
-use Rattle.std.specs.Prelude.{Ok}
 
 -- a mark that names an operator of a term, or one of a predicate
 term-operator : (m : ℕ) → (between 1 5 m || eqb m 8) ≡ true
@@ -116,7 +116,7 @@ writable-below t (suc m) s n d e =
     (writable-arm t n (λ r x c. writable-below t m r x (omega arith)) w.kind
     (subst (FormHolds source t n) (found_at source (kind_of t n) w.form w.found) w.holds))
 
-pub accepted-writable : (t : List ℕ) → check source t ≡ (Ok tt) → Writable (source_program t)
+pub accepted-writable : (t : List ℕ) → check source t ≡ Ok tt → Writable (source_program t)
 accepted-writable t h =
     writable-below t (suc (record_count t)) statement (record_count t) (omega arith)
     (accepted-last source t (accepted-says source t h))

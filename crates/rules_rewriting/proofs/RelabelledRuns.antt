@@ -1,6 +1,8 @@
 -- A run of a program with other statement numbers is the program's run with these numbers, plain and watched.
 use Prim.Native.Nat.{ℕ, zero, suc}
 use mathlib.Core.Path.{◌≡◌, refl, sym, ap, ◌∙◌}
+use Rattle.std.specs.Prelude.{Err, Ok, true, false}
+use Rattle.rules.specs.Types.{Test}
 use Rattle.rules.specs.Trees.{Predicate, Statement}
 use Rattle.rules.specs.Trees as tree
 use Rattle.rules.specs.TargetTrees.{TargetStatement, skip, assign, new, free, sequence, branch, while, let_in}
@@ -17,9 +19,6 @@ use Rattle.rules.specs.Relabelling.{relabel, relabel_target, relabel_outcome}
 use Rattle.rules.proofs.Runs.TargetRuns.{assigning, allocating, freeing, operating, querying, negating, storing}
 use Rattle.rules.proofs.Runs.TargetRuns.{deleting, initialising, making, closing}
 use Rattle.rules_rewriting.proofs.Relabelled.{relabel-translate, numbered-only}
-use Rattle.rules.specs.Types.{Test}
-use Rattle.std.specs.Prelude.{Err, Ok}
-use Rattle.std.specs.Prelude.{true, false}
 
 module _ {S : Type 0} (g : ℕ → ℕ) where
   -- how two parts of a run come out, one the other relabelled

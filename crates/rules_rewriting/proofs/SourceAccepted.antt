@@ -4,6 +4,7 @@ use native.Mathlib.Omega.{arith}
 use mathlib.Core.Bool.{true, false, false≢true}
 use mathlib.Core.List.{List}
 use mathlib.Core.Path.{◌≡◌, ◌∙◌, subst}
+use Rattle.std.specs.Prelude.{Ok}
 use Rattle.rules.specs.Records.{table_bytes}
 use Rattle.rules.specs.Kinds.{source}
 use Rattle.rules.specs.Checker.{level_fault, check}
@@ -22,7 +23,6 @@ use Rattle.rules_rewriting.proofs.LevelsKept.{Levels, levels-kept}
 use Rattle.rules.proofs.Translation.TargetAccepted.{tree-keeps}
 use Rattle.rules_rewriting.proofs.Writable.{WritableTerm, WritablePredicate, Writable}
 use Rattle.rules_rewriting.proofs.SourceFitting.{statement-sort, statement-fits}
-use Rattle.std.specs.Prelude.{Ok}
 
 -- what is no term or predicate names nothing
 no-level : {A : Type 0} → false ≡ true → A
@@ -95,7 +95,7 @@ statement-levels (let_in s x b) ρ (d, hx, out, hb) w =
 statement-levels (assert s p) ρ (d, hp) w = (no-level, predicate-levels p ρ 0 hp w, tt, tt)
 
 pub source-accepted : (a : Statement) → SoundStatement a start_scope → Writable a → tree_size (source_tree a) ≤ 256
-    → check source (table_bytes (emit (source_tree a) 0)) ≡ (Ok tt)
+    → check source (table_bytes (emit (source_tree a) 0)) ≡ Ok tt
 source-accepted a h w s =
     let t : List ℕ = table_bytes (emit (source_tree a) 0) in
     let fitting : Fitting source (source_tree a) start_scope = statement-fits a start_scope h w in

@@ -8,6 +8,8 @@ use mathlib.Core.Path.{◌≡◌, refl, ◌∙◌, subst}
 use borrow.Author.Tests.{ltb-false, le-ltb, eqb-true, eqb-false, eq-eqb, ne_eqb, not-false}
 use lib.Dec.{eqb}
 use lib.ListN.{length}
+use Rattle.std.specs.Prelude.{None, Ok, Some}
+use Rattle.rules.specs.Types.{Search, Rule}
 use Rattle.rules.specs.Records.{record_count}
 use Rattle.rules.specs.Kinds.{Language, source, target, record_limit}
 use Rattle.rules.specs.Checker.{lowest, lowest_record, record_fault, shape_fault, scope_fault, level_fault, refuse_at}
@@ -17,12 +19,9 @@ use Rattle.rules.proofs.Lists.SearchLaws.{lowest-found}
 use Rattle.rules.proofs.Lists.SearchLaws as search-laws
 use Rattle.rules.proofs.Acceptance.ParentLaws.{Passed}
 use Rattle.rules.proofs.Acceptance.CheckLaws.{none-fails, each-passes, check-kept, accepted-keeps, accepted-last}
-use Rattle.rules.specs.Types.{Search}
 -- the lowest that passes is found, and only it; the same of none
 pub use Rattle.rules.proofs.Lists.SearchLaws.{NonePass, Lowest}
-use Rattle.std.specs.Prelude.{None, Ok, Some}
 use Rattle.rules.proofs.Acceptance.SaidLaws.{err-is-not-ok}
-use Rattle.rules.specs.Types.{Rule}
 
 pub lowest-at : (p : ℕ → Bool) (j k n : ℕ) → lowest p j k ≡ Some n → Lowest p j k n
 lowest-at p j k n e = subst (search-laws.Found p j k) e (lowest-found p j k)
@@ -54,15 +53,15 @@ pub record Accepted (l : Language) (t : List ℕ) : Type 0 where
   pub scopes : NoRecord t (scope_fault l t)
   pub levels : LevelsHold l t
 
-refused-nowhere : (rule : Rule) (s : Search) → refuse_at rule s ≡ (Ok tt) → s ≡ None
+refused-nowhere : (rule : Rule) (s : Search) → refuse_at rule s ≡ Ok tt → s ≡ None
 refused-nowhere rule (Some n) h = absurd (err-is-not-ok h)
 refused-nowhere rule None h = refl
 
-last-holds : (l : Language) (t : List ℕ) → last_rule l t ≡ (Ok tt) → LevelsHold l t
+last-holds : (l : Language) (t : List ℕ) → last_rule l t ≡ Ok tt → LevelsHold l t
 last-holds source t h = each-passes t (level_fault t) (refused-nowhere Rule.Level (lowest_record t (level_fault t)) h)
 last-holds target t h = tt
 
-holds-last : (l : Language) (t : List ℕ) → LevelsHold l t → last_rule l t ≡ (Ok tt)
+holds-last : (l : Language) (t : List ℕ) → LevelsHold l t → last_rule l t ≡ Ok tt
 holds-last source t h = rw (none-fails t (level_fault t) h)
 holds-last target t h = refl
 
@@ -76,7 +75,7 @@ not-empty-of n h =
 length-passes : (n : ℕ) → n % 16 ≡ 0 → 1 ≤ n / 16 → (eqb n 0 || not (eqb (n % 16) 0)) ≡ false
 length-passes n m p = rw (ne_eqb n 0 (λ e. omega arith), eq-eqb (n % 16) 0 m)
 
-pub accepted-says : (l : Language) (t : List ℕ) → check l t ≡ (Ok tt) → Accepted l t
+pub accepted-says : (l : Language) (t : List ℕ) → check l t ≡ Ok tt → Accepted l t
 accepted-says l t h =
     let k = accepted-keeps l t h in
     let s = not-empty-of (length t) k.length-kept in
@@ -94,7 +93,7 @@ accepted-says l t h =
 pub passed-of : (l : Language) (t : List ℕ) → Accepted l t → Passed l t
 passed-of l t a = record { records = a.record-rules; shape = a.shape }
 
-pub says-accepted : (l : Language) (t : List ℕ) → Accepted l t → check l t ≡ (Ok tt)
+pub says-accepted : (l : Language) (t : List ℕ) → Accepted l t → check l t ≡ Ok tt
 says-accepted l t a =
     check-kept l t (record {
       length-kept = length-passes (length t) a.whole a.not-empty;
@@ -104,5 +103,5 @@ says-accepted l t a =
     })
     ∙ holds-last l t a.levels
 
-pub accepted-exactly : (l : Language) (t : List ℕ) → (check l t ≡ (Ok tt)) ↔ Accepted l t
+pub accepted-exactly : (l : Language) (t : List ℕ) → (check l t ≡ Ok tt) ↔ Accepted l t
 accepted-exactly l t = (accepted-says l t, says-accepted l t)

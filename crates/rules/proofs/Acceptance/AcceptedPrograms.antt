@@ -4,6 +4,7 @@ use native.Mathlib.Nat.{le_refl}
 use mathlib.Core.List.{List, ◌++◌}
 use mathlib.Core.Path.{◌≡◌, sym, ap, ◌∙◌, subst}
 use lib.ListN.{length}
+use Rattle.std.specs.Prelude.{Ok}
 use Rattle.rules.specs.Records.{record_count}
 use Rattle.rules.specs.Kinds.{Language, source, target, Sort, statement, record_limit}
 use Rattle.rules.specs.Checker.{check}
@@ -19,7 +20,6 @@ use Rattle.rules.proofs.Acceptance.SoundSource.{source-arm}
 use Rattle.rules.proofs.Acceptance.SoundTargets.{target-arm}
 use Rattle.rules.proofs.Acceptance.Padding.{node-padded}
 use Rattle.rules.proofs.Runs.StatementArms.{SoundIn}
-use Rattle.std.specs.Prelude.{Ok}
 
 -- record n is a statement to run from the start: every variable that it meets is in scope, every temporary is below
 -- 64, and every number in its range
@@ -43,7 +43,7 @@ without-level : (l : Language) (x : NodeOf l) (v : ℕ) → SoundAs l statement 
 without-level source x v h = h
 without-level target x v h = h
 
-pub accepted-program : (l : Language) (t : List ℕ) → check l t ≡ (Ok tt) → AcceptedProgram l t
+pub accepted-program : (l : Language) (t : List ℕ) → check l t ≡ Ok tt → AcceptedProgram l t
 accepted-program l t h =
     let a = accepted-says l t h in
     record {
@@ -58,7 +58,7 @@ accepted-program l t h =
     }
 
 -- the same with bytes behind the table
-pub padded-program : (l : Language) (t z : List ℕ) → check l t ≡ (Ok tt) → Runs l (t ++ z) (record_count t)
+pub padded-program : (l : Language) (t z : List ℕ) → check l t ≡ Ok tt → Runs l (t ++ z) (record_count t)
 padded-program l t z h =
     let r = (accepted-program l t h).last in
     let e = node-padded t z l (record_count t) (le_refl (record_count t)) in

@@ -6,6 +6,7 @@ use mathlib.Core.List.{List}
 use mathlib.Core.Path.{◌≡◌, refl, sym, ap, ◌∙◌}
 use borrow.Author.Tests.{ltb-true, eqb-true, eq-eqb, not-false}
 use lib.Dec.{ltb, eqb}
+use Rattle.std.specs.Prelude.{Ok}
 use Rattle.rules.specs.Records.{record_count, kind_of, child_a, child_b, child_c, record_at}
 use Rattle.rules.specs.Kinds.{Language, Sort, sort_number, statement, Field, unnamed, child, number, field_of}
 use Rattle.rules.specs.Kinds.{form_of}
@@ -16,7 +17,6 @@ use Rattle.rules.proofs.Lists.BooleanLaws.{and_split, both_true, three-pass}
 use Rattle.rules.proofs.Acceptance.NodeLaws.{node-earlier}
 use Rattle.rules.proofs.Acceptance.FormLaws.{fields_split, Faultless, faultless, node-built}
 use Rattle.rules.proofs.Acceptance.Standing.{form-sort, Stands, stands}
-use Rattle.std.specs.Prelude.{Ok}
 
 abbrev pub Sorted : (l : Language) → List ℕ → ℕ → Type 0
 Sorted l t n = sort_of_node l (node_at l t n) ≡ sort_of l (kind_of t n)

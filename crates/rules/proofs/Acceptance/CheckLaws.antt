@@ -4,21 +4,18 @@ use native.Mathlib.Omega.{arith}
 use mathlib.Core.Path.{◌≡◌, refl, sym, ◌∙◌, subst}
 use mathlib.Core.Bool.{Bool, true, false, true≢false}
 use mathlib.Core.List.{List}
+use Rattle.std.specs.Prelude.{None, Ok, Some, is_err, Err, Result}
+use Rattle.rules.specs.Types.{Search, Checked, Rule, rule_number}
 use Rattle.rules.specs.Records.{record_count}
 use Rattle.rules.specs.Kinds.{Language}
 use Rattle.rules.specs.Checker.{length_fault, count_fault, record_fault, shape_fault, scope_fault}
 use Rattle.rules.specs.Checker.{lowest_record, refuse_if, refuse_by, refuse_at, ◌otherwise◌, last_rule, check}
 use Rattle.rules.specs.Answers.{refusals, checked_answer}
-use Rattle.rules.specs.Types.{Search, Checked}
 use Rattle.rules.proofs.Lists.Among.{Among, among-not}
 use Rattle.rules.proofs.Lists.SearchLaws.{lowest-nothing, Outcome, lowest-outcome}
 use Rattle.rules.proofs.Acceptance.ParentLaws.{Passed}
-use Rattle.std.specs.Prelude.{None, Ok, Some}
-use Rattle.std.specs.Prelude.{is_err}
 use Rattle.rules.proofs.Acceptance.SaidLaws.{err-is-not-ok, kept-no-err, no-err-kept}
 use Rattle.rules.specs.Checker.{refused_at}
-use Rattle.std.specs.Prelude.{Err, Result}
-use Rattle.rules.specs.Types.{Rule, rule_number}
 
 -- no record fails a test
 pub none-fails : (t : List ℕ) (p : ℕ → Bool) → ((n : ℕ) → 1 ≤ n → n ≤ record_count t → p n ≡ false)
@@ -70,7 +67,7 @@ record AllKept (p q : Bool) (s u v : Search) (r : Checked) : Type 0 where
   records-are : s ≡ None
   shapes-are : u ≡ None
   scopes-are : v ≡ None
-  last-is : r ≡ (Ok tt)
+  last-is : r ≡ Ok tt
 
 -- f refuses the record that its search finds
 found : (p q : Bool) (s : Search) (f : ℕ → Result Unit Rule) (u v : Search) (r : Checked)
@@ -94,7 +91,7 @@ found false false None f None None r g e = record {
   last-is = e;
 }
 
-accepted-found : (l : Language) (t : List ℕ) → check l t ≡ (Ok tt)
+accepted-found : (l : Language) (t : List ℕ) → check l t ≡ Ok tt
     → AllKept (length_fault t) (count_fault l t) (record_search l t) (lowest_record t (shape_fault l t))
     (lowest_record t (scope_fault l t)) (last_rule l t)
 accepted-found l t e =
@@ -103,7 +100,7 @@ accepted-found l t e =
     (λ n s. (subst (Outcome p 1 (record_count t)) s (lowest-outcome p 1 (record_count t))).2)
     (sym (check-in-order l t) ∙ e)
 
-pub accepted-keeps : (l : Language) (t : List ℕ) → check l t ≡ (Ok tt) → Keeps l t
+pub accepted-keeps : (l : Language) (t : List ℕ) → check l t ≡ Ok tt → Keeps l t
 accepted-keeps l t e =
     let h = accepted-found l t e in
     record {
@@ -117,7 +114,7 @@ accepted-keeps l t e =
       scope_kept = each-passes t (scope_fault l t) h.scopes-are;
     }
 
-pub accepted-last : (l : Language) (t : List ℕ) → check l t ≡ (Ok tt) → last_rule l t ≡ (Ok tt)
+pub accepted-last : (l : Language) (t : List ℕ) → check l t ≡ Ok tt → last_rule l t ≡ Ok tt
 accepted-last l t e = (accepted-found l t e).last-is
 
 -- a refusal has one of the numbers of refusals
@@ -146,9 +143,9 @@ check-numbered l t = go (check l t)
     go (Ok u) = tt
     go (Err r) = rule-numbered r.rule
 
-pub zero-accepts : (l : Language) (t : List ℕ) → (checked_answer (check l t)).number ≡ 0 → check l t ≡ (Ok tt)
+pub zero-accepts : (l : Language) (t : List ℕ) → (checked_answer (check l t)).number ≡ 0 → check l t ≡ Ok tt
 zero-accepts l t e = go (check l t) (check-numbered l t) e
   where
-    go : (c : Checked) → Numbered c → (checked_answer c).number ≡ 0 → c ≡ (Ok tt)
+    go : (c : Checked) → Numbered c → (checked_answer c).number ≡ 0 → c ≡ Ok tt
     go (Ok u) h e₁ = refl
     go (Err r) h e₁ = absurd (among-not refusals (rule_number r.rule) 0 refl h e₁)

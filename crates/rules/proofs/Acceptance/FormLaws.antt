@@ -10,6 +10,7 @@ use borrow.Author.Tests.{ltb-true, leb-true, lt-ltb, le-leb, eqb-true}
 use lib.Dec.{ltb, leb, eqb}
 use lib.IntN.{ℤ, pos, negsuc, nat_abs}
 use lib.Signed.{le_z}
+use Rattle.std.specs.Prelude.{Ok, is_ok}
 use Rattle.rules.specs.Records.{Record, fields_of, record_count, kind_of, mark_of, child_a, child_b, child_c, literal_of}
 use Rattle.rules.specs.Records.{record_at}
 use Rattle.rules.specs.Kinds.{Language, source, target, Sort, sort_number, expression, place, term, predicate}
@@ -20,7 +21,6 @@ use Rattle.rules.specs.Nodes.{NodeOf, build_node, sort_of_node, node_fits, nodes
 use Rattle.rules.proofs.Lists.BooleanLaws.{three-pass, five-pass}
 use Rattle.rules.proofs.Acceptance.KindViews.{and_split, every, found-passes, found-kind}
 use Rattle.rules.proofs.Acceptance.NodeLaws.{node_before, node-earlier, node-later, node_law, junk-sort}
-use Rattle.std.specs.Prelude.{Ok, is_ok}
 use Rattle.rules.proofs.Acceptance.SaidLaws.{faults, err-is-not-ok, kept-ok}
 
 -- what each field of record n is, by the form

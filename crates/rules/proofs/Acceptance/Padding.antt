@@ -10,15 +10,15 @@ use lib.Dec.{ltb, leb, eqb}
 use mir.Syntax.{w64}
 use mir.Val.{to_z}
 use lib.ListN.{length, take, get_or, length-append, get_or-append}
+use Rattle.std.specs.Prelude.{is_ok, Result}
+use Rattle.rules.specs.Types.{Rule}
 use Rattle.rules.specs.Words.{part, little, word_at}
 use Rattle.rules.specs.Records.{Record, record_count, start, kind_of}
 use Rattle.rules.specs.Records.{fields_of, record_at}
 use Rattle.rules.specs.Kinds.{Language, sort_number, Field, unnamed, child, number, Form, field_of, form_of}
 use Rattle.rules.specs.Checker.{fields_fit, sort_of, child_fits, children_fit, fault_of, record_fault}
 use Rattle.rules.specs.Nodes.{NodeOf, build_node, nodes_fit, guarded, node_in, make_node, with_next, nodes, node_at}
-use Rattle.rules.specs.Types.{Rule}
 use Rattle.rules.proofs.Acceptance.SaidLaws.{faults}
-use Rattle.std.specs.Prelude.{is_ok, Result}
 
 take-front : (n : ℕ) (t z : List ℕ) → n ≤ length t → take n (t ++ z) ≡ take n t
 take-front zero t z h = refl

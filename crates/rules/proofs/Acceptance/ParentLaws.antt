@@ -8,16 +8,15 @@ use mathlib.Core.List.{List}
 use mathlib.Core.Option.{Option, none, some}
 use lib.Dec.{ltb, eqb}
 use borrow.Author.Tests.{ltb-true, ltb-false, lt-ltb, le-ltb, eq-eqb, eqb-true, ne_eqb, not-false}
+use Rattle.std.specs.Prelude.{None, Some, Ok}
+use Rattle.rules.specs.Types.{Search}
 use Rattle.rules.specs.Records.{Record, record_count, kind_of, child_a, child_b, child_c, record_at}
 use Rattle.rules.specs.Kinds.{Language, Sort, sort_number, Field, unnamed, child, number, Form, field_of, form_of}
 use Rattle.rules.specs.Checker.{field_fits, literal_fits, fields_fit, sort_of, child_fits, children_fit, fault_of}
 use Rattle.rules.specs.Checker.{record_fault, times_in, times_of, times_child_of, times_child, shape_fault, parent_of}
-use Rattle.rules.specs.Types.{Search}
 pub use Rattle.rules.proofs.Lists.BooleanLaws.{three-pass, five-pass}
 use Rattle.rules.proofs.Lists.BooleanLaws.{and_split}
 use Rattle.rules.proofs.Lists.SearchLaws.{lowest-nothing, lowest-at, Outcome, lowest-outcome}
-use Rattle.std.specs.Prelude.{None, Some}
-use Rattle.std.specs.Prelude.{Ok}
 use Rattle.rules.proofs.Acceptance.SaidLaws.{faults, err-is-not-ok}
 
 -- a table that keeps 3, 4, 5 and 6

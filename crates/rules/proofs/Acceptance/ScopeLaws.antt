@@ -5,16 +5,16 @@ use mathlib.Core.Path.{◌≡◌, refl, sym, ap, ◌∙◌}
 use mathlib.Core.Bool.{Bool, true, false, cond, ◌||◌}
 use mathlib.Core.List.{List}
 use lib.Dec.{eqb, eqb-suc-zero}
+use Rattle.std.specs.Prelude.{None, Some}
+use Rattle.rules.specs.Types.{Search}
 use Rattle.rules.specs.Records.{fields_of, record_count, kind_of, record_at}
 use Rattle.rules.specs.Kinds.{Language, source}
 use Rattle.rules.specs.Checker.{parent_of, is_let_of, in_scope, level_below, position_in, level_of}
 use Rattle.rules.specs.Origins.{copies_in, copies_of}
-use Rattle.rules.specs.Types.{Search}
 use Rattle.rules.proofs.Lists.BooleanLaws.{eqb_swap}
 use Rattle.rules.proofs.Acceptance.Sound.{Scope, start_scope, adding}
 use Rattle.rules.proofs.Acceptance.ParentLaws.{Passed, IsParent, parent_is, parent_above, parent-of-child}
 use Rattle.rules.proofs.Acceptance.ParentLaws.{last-parent}
-use Rattle.std.specs.Prelude.{None, Some}
 
 -- what record n has, d records up at most: top where none is above, and up n m of what its parent m has
 abbrev pub from_parent : {A : Type 0} → A → (ℕ → A) → Search → A

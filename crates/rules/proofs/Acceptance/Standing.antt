@@ -7,6 +7,7 @@ use mathlib.Core.Option.{some}
 use mathlib.Core.Path.{◌≡◌, refl, sym, ap, ◌∙◌, subst}
 use borrow.Author.Tests.{ltb-true, leb-true, eqb-true}
 use lib.Dec.{ltb, leb, eqb}
+use Rattle.std.specs.Prelude.{is_ok}
 use Rattle.rules.specs.Records.{record_count, kind_of}
 use Rattle.rules.specs.Kinds.{Language, source, target, Sort, sort_number, expression, place, term, predicate}
 use Rattle.rules.specs.Kinds.{statement, Form, forms, form_of}
@@ -18,7 +19,6 @@ use Rattle.rules.proofs.Acceptance.NodeLaws.{node_law, junk-sort}
 use Rattle.rules.proofs.Acceptance.FormLaws.{some-sort, faultless, record_as, FormHolds, nodes_under, node_under}
 use Rattle.rules.proofs.Acceptance.FormLaws.{in_table}
 use Rattle.rules.proofs.Acceptance.FormLaws.{node-built}
-use Rattle.std.specs.Prelude.{is_ok}
 use Rattle.rules.proofs.Acceptance.SaidLaws.{ok-kept}
 
 not-guarded : (l : Language) (b : Bool) (x : NodeOf l) → 1 ≤ sort_of_node l (guarded l b x) → b ≡ true

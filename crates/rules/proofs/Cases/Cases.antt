@@ -6,6 +6,8 @@ use mathlib.Core.List.{List, [], ◌∷◌, ◌++◌, map}
 use mathlib.Core.Path.{◌≡◌, refl, ap, ◌∙◌}
 use lib.IntN.{pos}
 use lib.ListN.{get_or-replicate}
+use Rattle.std.specs.Prelude.{Ok, Some}
+use Rattle.rules.specs.Types.{Value, Cell}
 use Rattle.rules.specs.Sizes.{cell_count}
 use Rattle.rules.specs.Words.{little, digits, part, word_at, flat}
 use Rattle.rules.specs.Records.{Record, table_bytes}
@@ -40,11 +42,9 @@ use Rattle.rules.proofs.Translation.SizeBound.{size-bound}
 use Rattle.rules.proofs.Translation.TranslatedTables.{translated_size, translation-accepted, translation-program}
 use Rattle.rules.proofs.Lists.SearchLaws.{lowest-here, lowest-next}
 use Rattle.rules.proofs.Memory.MemoryLaws.{fill-above, all_free-all, all_free-taken}
-use Rattle.rules.specs.Types.{Value, Cell}
-use Rattle.std.specs.Prelude.{Ok, Some}
 
 -- A translation is accepted, and read back as the translated tree: it need not be emitted.
-stops-are : (rs : List Record) → check source (table_bytes rs) ≡ (Ok tt) → endings rs ≡ stops rs
+stops-are : (rs : List Record) → check source (table_bytes rs) ≡ Ok tt → endings rs ≡ stops rs
 unfolding little digits word_at stops errors.plainly errors.watchedly
 stops-are rs c =
     let t : List ℕ = table_bytes rs in
@@ -58,7 +58,7 @@ stops-are rs c =
     (translation-program t sound small)
 
 -- no bytes of a cell are worked out for a block's record
-block-is : (rs : List Record) (k : ℕ) → check source (table_bytes rs) ≡ (Ok tt)
+block-is : (rs : List Record) (k : ℕ) → check source (table_bytes rs) ≡ Ok tt
     → block_after rs k ≡ part 8 (memory_image (plainly rs).state) (block_place (k - 1))
 unfolding block_after
 block-is rs k c = ap (λ (r : PlainRun). part 8 r.memory (block_place (k - 1))) (plain-is rs c)

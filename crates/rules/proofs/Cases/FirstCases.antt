@@ -5,6 +5,7 @@ use mathlib.Core.List.{List, ◌++◌, map}
 use mathlib.Core.Path.{◌≡◌, refl, ap}
 use lib.IntN.{ℤ, pos}
 use lib.ListN.{replicate, length-replicate}
+use Rattle.std.specs.Prelude.{Ok}
 use Rattle.rules.specs.Sizes.{memory_length, observation_length}
 use Rattle.rules.specs.Words.{little, digits, word_at, flat}
 use Rattle.rules.specs.Records.{Record, table_bytes}
@@ -28,7 +29,6 @@ use Rattle.rules.specs.Listing.{decimal_digits, record_lines, listing}
 use Rattle.rules.specs.Cases.{inputs, minus, plain, watched, stop, ending, endings, p1, listing_on_paper}
 use Rattle.rules.specs.Cases.{division, assertion, variable_cell, divided, quotient, no_quotient}
 use Rattle.rules.proofs.Claim.UnrefusedRuns.{plain_runs, watched-runs}
-use Rattle.std.specs.Prelude.{Ok}
 
 -- "P1: source .. gives" these lines
 pub listing-of-P1 : listing (table_bytes p1) ≡ listing_on_paper
@@ -45,26 +45,26 @@ abbrev pub watchedly : List Record → Ending WatchedState
 watchedly rs = flow.ending (watched_outcome (translation (table_bytes rs)) inputs 0)
 
 -- A run of an accepted table is its outcome: the lent memories are of the right length.
-pub plain-is : (rs : List Record) → check source (table_bytes rs) ≡ (Ok tt)
+pub plain-is : (rs : List Record) → check source (table_bytes rs) ≡ Ok tt
     → plain rs ≡ plain_ended (plainly rs)
 unfolding plain digits
 plain-is rs c =
     plain_runs (table_bytes rs) inputs 0 (replicate memory_length 0) c refl (length-replicate {A = ℕ} memory_length 0)
 
-pub watched-is : (rs : List Record) → check target (translation (table_bytes rs)) ≡ (Ok tt)
+pub watched-is : (rs : List Record) → check target (translation (table_bytes rs)) ≡ Ok tt
     → watched rs ≡ watched_ended (watchedly rs)
 unfolding watched digits
 watched-is rs c =
     watched-runs (translation (table_bytes rs)) inputs 0 (replicate memory_length 0) (replicate observation_length 0) c
     refl (length-replicate {A = ℕ} memory_length 0) (length-replicate {A = ℕ} observation_length 0)
 
-pub ending-is : (rs : List Record) → check source (table_bytes rs) ≡ (Ok tt)
+pub ending-is : (rs : List Record) → check source (table_bytes rs) ≡ Ok tt
     → ending rs ≡ stop (plain_ended (plainly rs)).answer
 unfolding ending
 ending-is rs c = ap (λ (r : PlainRun). stop r.answer) (plain-is rs c)
 
-pub endings-are : (rs : List Record) → check source (table_bytes rs) ≡ (Ok tt)
-    → check target (translation (table_bytes rs)) ≡ (Ok tt)
+pub endings-are : (rs : List Record) → check source (table_bytes rs) ≡ Ok tt
+    → check target (translation (table_bytes rs)) ≡ Ok tt
     → endings rs ≡ stop (plain_ended (plainly rs)).answer ++ stop (watched_ended (watchedly rs)).answer
 unfolding endings
 endings-are rs c d = λ i. ending-is rs c i ++ stop (watched-is rs d i).answer
@@ -81,10 +81,10 @@ shown o x y z =
 
 abbrev Accepted : ℕ → ℤ → ℤ → ℤ → Type 0
 Accepted o x y z =
-    (check source (table_bytes (division o x y)) ≡ (Ok tt))
-    × (check target (translation (table_bytes (division o x y))) ≡ (Ok tt))
-    × (check source (table_bytes (assertion o x y z)) ≡ (Ok tt))
-    × (check target (translation (table_bytes (assertion o x y z))) ≡ (Ok tt))
+    (check source (table_bytes (division o x y)) ≡ Ok tt)
+    × (check target (translation (table_bytes (division o x y))) ≡ Ok tt)
+    × (check source (table_bytes (assertion o x y z)) ≡ Ok tt)
+    × (check target (translation (table_bytes (assertion o x y z))) ≡ Ok tt)
 
 shown-is : (o : ℕ) (x y z : ℤ) → Accepted o x y z → divided o x y z ≡ shown o x y z
 unfolding divided

@@ -4,6 +4,7 @@ use native.Mathlib.Omega.{arith}
 use mathlib.Core.Bool.{false}
 use mathlib.Core.List.{List}
 use mathlib.Core.Path.{◌≡◌, sym, ap, ◌∙◌}
+use Rattle.std.specs.Prelude.{Ok}
 use Rattle.rules.specs.Sizes.{source_limit}
 use Rattle.rules.specs.Records.{record_count}
 use Rattle.rules.specs.Kinds.{source}
@@ -29,14 +30,13 @@ use Rattle.rules.proofs.Translation.TranslatedTables.{translation-program}
 use Rattle.rules.proofs.Layouts.ReachableRoundTrip.{plain-round-trip}
 use Rattle.rules.proofs.Claim.Inputs.{inputs-few, inputs-some}
 use Rattle.rules.proofs.Claim.WholeRun.{Same, watched_from, runs_same, up-to-first-false}
-use Rattle.std.specs.Prelude.{Ok}
 
 -- the translation's run is that of the translated tree
 watched-from : (t i : List ℕ) (f : ℕ) → target_program (translation t) ≡ translate (source_program t)
     → watched_outcome (translation t) i f ≡ watched_from (translate (source_program t)) (inputs_of i) f
 watched-from t i f e = ap (λ (a : TargetStatement). watched_from a (inputs_of i) f) e
 
-module _ (t i : List ℕ) (f : ℕ) (c : check source t ≡ (Ok tt)) (e : inputs_fault i ≡ false) where
+module _ (t i : List ℕ) (f : ℕ) (c : check source t ≡ Ok tt) (e : inputs_fault i ≡ false) where
   few : record_count t ≤ source_limit
   few = (accepted-program source t c).not-too-many
 

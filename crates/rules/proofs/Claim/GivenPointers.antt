@@ -6,6 +6,8 @@ use mathlib.Core.Bool.{true, false, false≢true}
 use mathlib.Core.List.{List, [], ◌∷◌, map}
 use lib.IntN.{ℤ, pos}
 use lib.ListN.{length}
+use Rattle.std.specs.Prelude.{None, Ok}
+use Rattle.rules.specs.Types.{Value, Cell}
 use Rattle.rules.specs.Sizes.{cell_count, temporary_count, input_limit}
 use Rattle.rules.specs.Kinds.{source, target}
 use Rattle.rules.specs.Checker.{check, inputs_fault}
@@ -30,8 +32,6 @@ use Rattle.rules.proofs.Memory.GivenNames.{IsGiven, GivenValue, CellsGiven, Temp
 use Rattle.rules.proofs.Claim.Start.{start-invariant}
 use Rattle.rules.proofs.Claim.Inputs.{inputs-few, inputs-some}
 use Rattle.rules.proofs.Claim.WholeRun.{runs_same}
-use Rattle.rules.specs.Types.{Value, Cell}
-use Rattle.std.specs.Prelude.{None, Ok}
 
 start-given : (is : List ℤ) → length is ≤ input_limit
     → PointersGiven start_scope start_variables (start_memory is) start_temporaries
@@ -69,13 +69,13 @@ from_start a is f h le =
     (g.cells, g.temporaries)
 
 -- every accepted target table, a hand-made one too
-pub watched-given : (t i : List ℕ) (f : ℕ) → check target t ≡ (Ok tt) → inputs_fault i ≡ false
+pub watched-given : (t i : List ℕ) (f : ℕ) → check target t ≡ Ok tt → inputs_fault i ≡ false
     → AllGiven (ending (watched_outcome t i f)).state
 watched-given t i f c e =
     from_start (target_program t) (inputs_of i) f (accepted-program target t c).last.sound (inputs-few i e)
 
 -- every accepted source table: its plain run leaves the memory of its translation's watched run
-pub plain-given : (t i : List ℕ) (f : ℕ) → check source t ≡ (Ok tt) → inputs_fault i ≡ false
+pub plain-given : (t i : List ℕ) (f : ℕ) → check source t ≡ Ok tt → inputs_fault i ≡ false
     → CellsGiven (ending (plain_outcome t i f)).state
 plain-given t i f c e =
     let sound = (accepted-program source t c).last.sound in

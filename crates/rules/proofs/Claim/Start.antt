@@ -6,13 +6,13 @@ use mathlib.Core.Bool.{Bool, true, false, true≢false}
 use mathlib.Core.List.{List, [], ◌∷◌, ◌++◌, map}
 use lib.IntN.{ℤ}
 use lib.ListN.{length, get_or, replicate, length-append, length-map, length-replicate}
+use Rattle.rules.specs.Types.{Value, Block, Recorded, Cell}
 use Rattle.rules.specs.Sizes.{name_count, cell_count, input_limit}
 use Rattle.rules.specs.Memory.{recorded_of, block_of, cell_of, is_unused, one, start_memory}
 use Rattle.rules.specs.Observation.{covers}
 use Rattle.rules.proofs.Memory.MemoryLaws.{Covering, inside, below, above, covering, covers-inside, coverage}
 use Rattle.rules.proofs.Memory.Invariant.{occupied, records_of, Rising, Owned, Invariant}
 use Rattle.rules.proofs.Memory.BlockChanges.{live-parts, dead-is-not-live}
-use Rattle.rules.specs.Types.{Value, Block, Recorded, Cell}
 
 abbrev pub input_cells : List ℤ → ℕ → List Cell
 input_cells is r = map (λ z. Cell.Holds 2 (Value.Integer z)) is ++ replicate r Cell.Free

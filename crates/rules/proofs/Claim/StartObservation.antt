@@ -7,6 +7,8 @@ use mathlib.Core.List.{List, [], ◌∷◌, ◌++◌, map}
 use lib.IntN.{ℤ}
 use lib.ListN.{length, set, replicate}
 use borrow.Author.Tests.{lt-ltb}
+use Rattle.std.specs.Prelude.{Err, Ok, Some}
+use Rattle.rules.specs.Types.{Block, Recorded, Cell, Miss}
 use Rattle.rules.specs.Sizes.{name_count, cell_count, input_limit}
 use Rattle.rules.specs.Checker.{lowest}
 use Rattle.rules.specs.Memory.{recorded_of, all_free, lowest_run, fill, start_memory}
@@ -15,9 +17,6 @@ use Rattle.rules.specs.Observation.{Observation, covers, covered, mark_run, stor
 use Rattle.rules.specs.Observation.{mark_cell, mark_all, empty_observation, start_observation, mirror}
 use Rattle.rules.proofs.Memory.MemoryLaws.{Covering, inside, below, above, covering}
 use Rattle.rules.proofs.Claim.Start.{input_cells}
-use Rattle.rules.specs.Types.{Block, Recorded, Cell}
-use Rattle.std.specs.Prelude.{Err, Ok, Some}
-use Rattle.rules.specs.Types.{Miss}
 
 -- block 1 recorded and marked
 abbrev first : Observation

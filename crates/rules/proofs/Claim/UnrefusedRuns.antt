@@ -8,6 +8,8 @@ use native.Mathlib.Omega.{arith}
 use borrow.Author.Tests.{eq-eqb, ne_eqb}
 use lib.Dec.{eqb}
 use lib.ListN.{length}
+use Rattle.std.specs.Prelude.{Ok, Err}
+use Rattle.rules.specs.Types.{Checked, Refusal, Rule, rule_number}
 use Rattle.rules.specs.Sizes.{memory_length, observation_length}
 use Rattle.rules.specs.Kinds.{source, target}
 use Rattle.rules.specs.Checker.{refuse_if, ◌otherwise◌, check, inputs_fault, memory_fault, observation_fault}
@@ -15,12 +17,8 @@ use Rattle.rules.specs.Flow.{ending}
 use Rattle.rules.specs.Answers.{refusals, PlainRun, WatchedRun, plain_outcome, plain_refused, plain_ended, plain_as}
 use Rattle.rules.specs.Answers.{plain_by, run_plain, watched_outcome, watched_refused, watched_ended, watched_as}
 use Rattle.rules.specs.Answers.{watched_by, run_watched}
-use Rattle.rules.specs.Types.{Checked}
 use Rattle.rules.proofs.Lists.Among.{Among}
 use Rattle.rules.proofs.Acceptance.CheckLaws.{Numbered, check-numbered}
-use Rattle.std.specs.Prelude.{Ok}
-use Rattle.std.specs.Prelude.{Err}
-use Rattle.rules.specs.Types.{Refusal, Rule, rule_number}
 
 -- a buffer of the right length is not refused
 right-length : (l : List ℕ) (n : ℕ) → length l ≡ n → not (eqb (length l) n) ≡ false
@@ -41,13 +39,13 @@ old-images-refused memory observation e h = (
 )
 
 -- a run that is not refused
-pub plain_runs : (t i : List ℕ) (f : ℕ) (memory : List ℕ) → check source t ≡ (Ok tt) → inputs_fault i ≡ false
+pub plain_runs : (t i : List ℕ) (f : ℕ) (memory : List ℕ) → check source t ≡ Ok tt → inputs_fault i ≡ false
     → length memory ≡ memory_length → run_plain t i f memory ≡ plain_ended (ending (plain_outcome t i f))
 plain_runs t i f memory c e h =
     ap (λ x. plain_by x t i f memory) c
     ∙ (λ k. plain_as (refuse_if Rule.Inputs (e k) otherwise refuse_if Rule.Memory (right-length memory memory_length h k)) t i f memory)
 
-pub watched-runs : (t i : List ℕ) (f : ℕ) (memory observation : List ℕ) → check target t ≡ (Ok tt)
+pub watched-runs : (t i : List ℕ) (f : ℕ) (memory observation : List ℕ) → check target t ≡ Ok tt
     → inputs_fault i ≡ false → length memory ≡ memory_length → length observation ≡ observation_length
     → run_watched t i f memory observation ≡ watched_ended (ending (watched_outcome t i f))
 watched-runs t i f memory observation c e h k =

@@ -7,6 +7,8 @@ use mathlib.Core.Logic.{◌≢◌}
 use mathlib.Core.List.{List}
 use lib.IntN.{ℤ}
 use lib.ListN.{length, length-replicate}
+use Rattle.std.specs.Prelude.{None}
+use Rattle.rules.specs.Types.{stop_number, Temporary}
 use Rattle.rules.specs.Sizes.{input_limit}
 use Rattle.rules.specs.Trees.{Statement}
 use Rattle.rules.specs.TargetTrees.{TargetStatement}
@@ -27,9 +29,6 @@ use Rattle.rules.proofs.Simulation.Simulation.{simulates}
 use Rattle.rules.proofs.Claim.Start.{start-invariant}
 use Rattle.rules.proofs.Claim.StartObservation.{start-mirrors}
 use Rattle.rules.proofs.Memory.Orderly.{Orderly, plain-orderly, watched-orderly}
-use Rattle.std.specs.Prelude.{None}
-use Rattle.rules.specs.Types.{stop_number}
-use Rattle.rules.specs.Types.{Temporary}
 
 -- a plain and a watched run come out alike
 pub record Same (p : Ending Memory) (w : Ending WatchedState) : Type 0 where

@@ -8,6 +8,8 @@ use lib.Dec.{ltb}
 use lib.IntN.{ℤ, pos, negsuc}
 use borrow.Author.Tests.{ltb-true}
 use lib.ListN.{length, set, replicate, length-append, length-map, length-replicate, length-set}
+use Rattle.std.specs.Prelude.{Err, Ok, Some}
+use Rattle.rules.specs.Types.{Pointer, Value, Located, Block, Recorded, Cell, Miss}
 use Rattle.rules.specs.Sizes.{name_count, cell_count, input_limit}
 use Rattle.rules.specs.Numbers.{in_range}
 use Rattle.rules.specs.Memory.{Memory, recorded_of, block_of, locate, located_in, set_cell}
@@ -21,9 +23,6 @@ use Rattle.rules.proofs.Lists.Lists.{all_map, length-fill, length-set_named}
 use Rattle.rules.specs.Fits.{FitsName, FitsPlaces, FitsBlock, FitsRecorded, FitsCell, FitsMemory, All, also}
 use Rattle.rules.specs.Fits.{FitsObservation, InsideRecorded, InsideBlock, InsideMemory}
 use Rattle.rules.specs.Fits.{InsideObservation}
-use Rattle.rules.specs.Types.{Pointer, Value, Located, Block, Recorded, Cell}
-use Rattle.std.specs.Prelude.{Err, Ok, Some}
-use Rattle.rules.specs.Types.{Miss}
 
 -- ---- what a search finds is in range
 pub next_name-fits : (m : Memory) (k : ℕ) → next_name m ≡ Some k → FitsName k

@@ -5,6 +5,8 @@ use mathlib.Core.Bool.{Bool, true}
 use mathlib.Core.Path.{◌≡◌, refl}
 use lib.IntN.{ℤ}
 use borrow.Author.Tests.{lt-ltb}
+use Rattle.std.specs.Prelude.{Err, None, Some}
+use Rattle.rules.specs.Types.{Pointer, Value, Evaluated, Found, Recorded, Cell, Temporary}
 use Rattle.rules.specs.Trees.{Operator, Query, valid, initialised, base, offset, block_length, Expression}
 use Rattle.rules.specs.Trees.{Place}
 use Rattle.rules.specs.Numbers.{in_range, truth_value, Liveness}
@@ -19,8 +21,6 @@ use Rattle.rules.proofs.Runs.EvaluatedValues.{CellHas, address_of-has, evaluate-
 use Rattle.rules.proofs.Lists.Lists.{all_get_d, all_named}
 use Rattle.rules.specs.Fits.{FitsName, FitsPointer, FitsValue, FitsRecorded, FitsCell, FitsTemporary}
 use Rattle.rules.specs.Fits.{FitsMemory, FitsObservation}
-use Rattle.rules.specs.Types.{Pointer, Value, Evaluated, Found, Recorded, Cell, Temporary}
-use Rattle.std.specs.Prelude.{Err, None, Some}
 
 abbrev pub FitsEvaluated : Evaluated → Type 0
 FitsEvaluated e = Gives FitsValue AnyNumber e

@@ -6,6 +6,7 @@ use mathlib.Core.Path.{◌≡◌, ap, ◌∙◌}
 use mathlib.Core.Bool.{Bool}
 use mathlib.Core.List.{List, ◌++◌}
 use lib.ListN.{length, set}
+use Rattle.rules.specs.Types.{Block, Recorded, Cell}
 use Rattle.rules.specs.Sizes.{name_count}
 use Rattle.rules.specs.Words.{put, flat}
 use Rattle.rules.specs.Memory.{Memory, set_cell}
@@ -15,7 +16,6 @@ use Rattle.rules.specs.Layout.{block_place, cell_place, mark_place}
 use Rattle.rules.proofs.Lists.Rows.{put-left, put_right, length-flat, flat-put}
 use Rattle.rules.proofs.Layouts.LayoutLaws.{length-block_bytes, length-recorded_bytes, length-cell_bytes}
 use Rattle.rules.proofs.Layouts.LayoutLaws.{length-mark_bytes}
-use Rattle.rules.specs.Types.{Block, Recorded, Cell}
 
 -- rows of width v and then rows of width w: a put of one of the first, and of one of the others
 module _ {A B : Type 0} (f : A → List ℕ) (v : ℕ) (f-wide : (x : A) → length (f x) ≡ v)

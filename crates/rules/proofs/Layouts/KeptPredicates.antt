@@ -5,6 +5,8 @@ use native.Mathlib.Omega.{arith}
 use mathlib.Core.Bool.{false}
 use mathlib.Core.Path.{◌≡◌}
 use lib.ListN.{length-replicate}
+use Rattle.std.specs.Prelude.{Some}
+use Rattle.rules.specs.Types.{Recorded, Cell}
 use Rattle.rules.specs.Sizes.{name_count, cell_count}
 use Rattle.rules.specs.Memory.{Memory, set_cell, cell_of, is_free, next_name, free_run, Use, with_block, make_block}
 use Rattle.rules.specs.Memory.{end_block}
@@ -19,8 +21,6 @@ use Rattle.rules.proofs.Lists.RunLaws.{run-bound}
 use Rattle.rules.proofs.Layouts.FitsLaws.{next_name-fits, set_cell-inside}
 use Rattle.rules.proofs.Layouts.FitsLaws.{with_block-inside, end_block-inside}
 use Rattle.rules.proofs.Layouts.FitsLaws.{with_marks-inside, marked-fits}
-use Rattle.rules.specs.Types.{Recorded, Cell}
-use Rattle.std.specs.Prelude.{Some}
 
 pub record MemoryInvariant (J : Memory → Type 0) : Type 0 where
   pub fitting : (m : Memory) → J m → FitsMemory m

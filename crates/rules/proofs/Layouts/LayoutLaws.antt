@@ -9,6 +9,7 @@ use lib.IntN.{ℤ, pos}
 use lib.ListN.{length, get_or, length-append}
 use mir.Syntax.{w64}
 use mir.Val.{of_z}
+use Rattle.rules.specs.Types.{Value, Block, Recorded, Cell}
 use Rattle.rules.specs.Sizes.{name_count, cell_count, memory_length, observation_length, blocks_length}
 use Rattle.rules.specs.Words.{digits, word_at, integer_at, flat}
 use Rattle.rules.specs.Memory.{Memory, one}
@@ -23,7 +24,6 @@ use Rattle.rules.proofs.Lists.WordLaws.{bytes-digits}
 use Rattle.rules.proofs.Lists.Rows.{tabulate-list, length-flat, row-byte, row_word}
 use Rattle.rules.proofs.Lists.Lists.{all_get_d}
 use Rattle.rules.specs.Fits.{FitsBlock, FitsRecorded, FitsCell, FitsMemory, FitsObservation, All, none, also}
-use Rattle.rules.specs.Types.{Value, Block, Recorded, Cell}
 
 -- ---- one record
 length-record : (s first n : ℕ) → length (block_record s first n) ≡ 8

@@ -7,6 +7,8 @@ use mathlib.Core.Bool.{false}
 use mathlib.Core.List.{List, [], ◌∷◌}
 use lib.ListN.{length, get_or}
 use lib.Seq.{take_all}
+use Rattle.std.specs.Prelude.{Ok}
+use Rattle.rules.specs.Types.{Recorded}
 use Rattle.rules.specs.Sizes.{name_count, cell_count, memory_length, observation_length}
 use Rattle.rules.specs.Words.{part, word_at, flat}
 use Rattle.rules.specs.Kinds.{target}
@@ -24,8 +26,6 @@ use Rattle.rules.proofs.Layouts.LayoutLaws.{image-mark-byte, image-mark, observa
 use Rattle.rules.proofs.Claim.UnrefusedRuns.{watched-runs}
 use Rattle.rules.proofs.Memory.ObservationOrder.{OrderlyObservation}
 use Rattle.rules.proofs.Memory.ObservedRuns.{observed-in-order}
-use Rattle.rules.specs.Types.{Recorded}
-use Rattle.std.specs.Prelude.{Ok}
 
 pub record OrderlyBytes (l : List ℕ) : Type 0 where
   -- what the bytes stand for is in order, and they are its bytes and no others
@@ -106,7 +106,7 @@ image-in-order o y = record {
     names k d = omega (arith, y.record-count)
 
 -- for every accepted target table, where nothing is refused
-pub watched-bytes-in-order : (t i : List ℕ) (f : ℕ) (memory observation : List ℕ) → check target t ≡ (Ok tt)
+pub watched-bytes-in-order : (t i : List ℕ) (f : ℕ) (memory observation : List ℕ) → check target t ≡ Ok tt
     → inputs_fault i ≡ false → length memory ≡ memory_length → length observation ≡ observation_length
     → OrderlyBytes (run_watched t i f memory observation).observation
 watched-bytes-in-order t i f memory observation c e h k =

@@ -5,6 +5,8 @@ use mathlib.Core.Bool.{Bool, true, false, cond}
 use mathlib.Core.Path.{refl}
 use lib.Dec.{eqb}
 use lib.IntN.{pos}
+use Rattle.std.specs.Prelude.{Err, None, Some}
+use Rattle.rules.specs.Types.{Value, Evaluated, Cell}
 use Rattle.rules.specs.Sizes.{temporary_count}
 use Rattle.rules.specs.Trees.{Statement, Expression, Place}
 use Rattle.rules.specs.Trees as tree
@@ -37,8 +39,6 @@ use Rattle.rules.specs.Fits.{FitsName, FitsPointer, FitsValue, FitsTemporary, Al
 use Rattle.rules.proofs.Layouts.KeptPredicates.{MemoryInvariant, ObservationInvariant, MadeWith, make_block-keeps}
 use Rattle.rules.proofs.Layouts.FittingValues.{operated-fits, query_observation-fits, opposite-fits, FitsEvaluated}
 use Rattle.rules.proofs.Layouts.FittingValues.{held_fits, address_of-fits, evaluate-fits, find_place-fits}
-use Rattle.rules.specs.Types.{Value, Evaluated, Cell}
-use Rattle.std.specs.Prelude.{Err, None, Some}
 
 pub extend_fits : (ρ : Variables) (x k : ℕ) → VariablesFit ρ → FitsName k → VariablesFit (extend ρ x k)
 extend_fits ρ x k h l y = pick (eqb y x)

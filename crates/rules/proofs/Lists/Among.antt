@@ -6,8 +6,8 @@ use mathlib.Core.Logic.{◌≢◌}
 use mathlib.Core.Path.{◌≡◌, refl, sym, ap, ◌∙◌}
 use borrow.Author.Tests.{eqb-true}
 use lib.Dec.{eqb}
-use Rattle.rules.specs.Answers.{is_in}
 use Rattle.rules.specs.Types.{Stop, stop_number}
+use Rattle.rules.specs.Answers.{is_in}
 use Rattle.rules.proofs.Lists.BooleanLaws.{and_split}
 
 abbrev pub Among : List ℕ → ℕ → Type 0

@@ -8,11 +8,11 @@ use mathlib.Core.Logic.{⊎_elim, ◌≢◌, ◌⊎◌, inl, inr}
 use mathlib.Core.Bool.{Bool, true, false, cond}
 use lib.Dec.{eqb, ltb}
 use borrow.Author.Tests.{eqb-true, ltb-true, ltb-false}
+use Rattle.std.specs.Prelude.{None, Some}
+use Rattle.rules.specs.Types.{Search}
 use Rattle.rules.specs.Sizes.{cell_count}
 use Rattle.rules.specs.Checker.{lowest}
 use Rattle.rules.specs.Memory.{all_free, lowest_run}
-use Rattle.rules.specs.Types.{Search}
-use Rattle.std.specs.Prelude.{None, Some}
 
 lt-or-le : (a b : ℕ) → (a < b) ⊎ (b ≤ a)
 lt-or-le a b = pick (dec_lt a b)

@@ -4,9 +4,9 @@ use native.Mathlib.Omega.{arith}
 use native.Mathlib.Decide.{dec_lt}
 use mathlib.Core.Path.{◌≡◌, refl, ap, ◌∙◌}
 use mathlib.Core.Bool.{Bool, true, false}
-use Rattle.rules.specs.Checker.{lowest}
-use Rattle.rules.specs.Types.{Search}
 use Rattle.std.specs.Prelude.{None, Some}
+use Rattle.rules.specs.Types.{Search}
+use Rattle.rules.specs.Checker.{lowest}
 
 -- one step
 pub lowest-here : (p : ℕ → Bool) (j k : ℕ) → p j ≡ true → lowest p j (suc k) ≡ Some j

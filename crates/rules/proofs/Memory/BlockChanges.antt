@@ -8,6 +8,7 @@ use mathlib.Core.Bool.{Bool, true, false, true≢false}
 use mathlib.Core.List.{List, [], ◌∷◌, map}
 use lib.ListN.{length, get_or, set, length-set, length-map}
 use lib.Seq.{get_or-set_same, get_or-set_other}
+use Rattle.rules.specs.Types.{Pointer, Value, Block, Recorded, Cell}
 use Rattle.rules.specs.Sizes.{cell_count}
 use Rattle.rules.specs.Memory.{Memory, recorded_of, named, block_of, cell_of, stopped, set_cell, store_cell, set_named}
 use Rattle.rules.specs.Memory.{is_free, is_unused, Use, fixed, freeable, block_for, with_block, without_cells}
@@ -25,7 +26,6 @@ use Rattle.rules.proofs.Memory.Invariant.{Onward, onward-itself, changed_memory}
 use Rattle.rules.proofs.Memory.Room.{Room}
 use Rattle.rules.proofs.Memory.Pointing.{at-pointed}
 use Rattle.rules.proofs.Memory.Owners.{given-set_named, rising-set_named, owned-set_named, owned-set}
-use Rattle.rules.specs.Types.{Pointer, Value, Block, Recorded, Cell}
 
 occupied-in : (l : List Cell) (i : ℕ) → 1 ≤ occupied (get_or l i Cell.Free)
     → (i < length l) × (occupied (get_or l i Cell.Free) ≡ 1)

@@ -4,11 +4,11 @@ use native.Mathlib.Omega.{arith}
 use mathlib.Core.Path.{◌≡◌, refl, sym}
 use mathlib.Core.Bool.{Bool, true, false, true≢false}
 use mathlib.Core.List.{List}
+use Rattle.rules.specs.Types.{Recorded}
 use Rattle.rules.specs.Sizes.{cell_count}
 use Rattle.rules.specs.Memory.{recorded_of, named}
 use Rattle.rules.specs.Observation.{covers}
 use Rattle.rules.specs.Layout.{block_from, recorded_from}
-use Rattle.rules.specs.Types.{Recorded}
 use Rattle.rules.proofs.Lists.RunLaws.{Held}
 use Rattle.rules.proofs.Memory.MemoryLaws.{Covering, inside, below, above, covering, covers-inside, coverage}
 use Rattle.rules.proofs.Memory.MemoryLaws.{coverage-named}

@@ -3,6 +3,8 @@ use Prim.Native.Nat.{ℕ, zero, suc}
 use mathlib.Core.Path.{◌≡◌, refl}
 use mathlib.Core.Bool.{false}
 use lib.IntN.{ℤ, pos, negsuc}
+use Rattle.std.specs.Prelude.{Err, None, Ok, Some}
+use Rattle.rules.specs.Types.{Pointer, Value, Evaluated, Found, Search, Block}
 use Rattle.rules.specs.Memory.{Memory, block_of, Change, changed, stopped, is_unused, next_name, free_run, Use}
 use Rattle.rules.specs.Memory.{freeable, Made, made, unmade, make_at, make_block, assigned, store_new, new_of_size}
 use Rattle.rules.specs.Memory.{allocated, free_of, freed}
@@ -10,8 +12,6 @@ use Rattle.rules.proofs.Runs.Keeping.{AnyNumber, ChangeKeeps, MadeKeeps}
 use Rattle.rules.proofs.Memory.Invariant.{Invariant, Onward, onward-itself, onward_then, changed_memory}
 use Rattle.rules.proofs.Memory.Room.{HasRoom, room}
 use Rattle.rules.proofs.Memory.BlockChanges.{onward-cell, onward-make, make-given, onward-free}
-use Rattle.rules.specs.Types.{Pointer, Value, Evaluated, Found, Search, Block}
-use Rattle.std.specs.Prelude.{Err, None, Ok, Some}
 
 pub change-kept : (m : Memory) (c : Change Memory) → Onward m (changed_memory c) → ChangeKeeps (Onward m) AnyNumber c
 change-kept m (changed m₁) h = h

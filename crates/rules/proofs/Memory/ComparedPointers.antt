@@ -7,16 +7,14 @@ use mathlib.Core.Path.{◌≡◌, refl, sym, ap}
 use borrow.Author.Tests.{eqb-true}
 use lib.Dec.{eqb, ltb}
 use lib.IntN.{ℤ, pos, negsuc}
+use Rattle.std.specs.Prelude.{Err, Ok}
+use Rattle.rules.specs.Types.{Pointer, Value, Recorded, Miss, Stop}
 use Rattle.rules.specs.Nodes.{operator_of}
 use Rattle.rules.specs.Numbers.{Liveness, same_integer, same_pointer, truth, truth_value, on_pointers, operate}
 use Rattle.rules.specs.Numbers.{on_pointer_and_integer}
 use Rattle.rules.specs.Memory.{Memory, recorded_of, is_live, block_of, live_block, located_in, locate}
 use Rattle.rules.specs.Observation.{Observation, record_of, live_record, locate_mark}
 use Rattle.rules.proofs.Lists.BooleanLaws.{and_split}
-use Rattle.rules.specs.Types.{Pointer, Value, Recorded}
-use Rattle.std.specs.Prelude.{Err, Ok}
-use Rattle.rules.specs.Types.{Miss}
-use Rattle.rules.specs.Types.{Stop}
 
 -- 02 §4: "Operator 7 with a pointer into a dead block on either side ends 47"
 pub operator-7-ends-47 : (live : Liveness) (p q : Pointer) → (live p.name ≡ false) ⊎ (live q.name ≡ false)
@@ -65,7 +63,7 @@ live-not-dead : (b : Recorded) (o : ℤ) → is_live b ≡ true → located_in b
 live-not-dead Recorded.Unused o h e = absurd (false≢true h)
 live-not-dead (Recorded.Live first n) (pos o) h e = go (ltb o n) e
   where
-    go : (b : Bool) → cond b (Ok (first + o)) (Err Miss.Outside) ≡ (Err Miss.Dead) → ⊥
+    go : (b : Bool) → cond b (Ok (first + o)) (Err Miss.Outside) ≡ Err Miss.Dead → ⊥
     go true e = let z : ◌≡◌ {A = ℕ} 0 1 = cc in omega arith
     go false e = let z : ◌≡◌ {A = ℕ} 0 1 = cc in omega arith
 live-not-dead (Recorded.Live first n) (negsuc o) h e = let z : ◌≡◌ {A = ℕ} 0 1 = cc in omega arith

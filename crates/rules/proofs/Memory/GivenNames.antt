@@ -3,6 +3,8 @@ use Prim.Native.Nat.{ℕ, suc, ◌≤◌}
 use mathlib.Core.Path.{◌≡◌}
 use mathlib.Core.Bool.{Bool, true, false}
 use lib.IntN.{ℤ}
+use Rattle.std.specs.Prelude.{None, Some}
+use Rattle.rules.specs.Types.{Pointer, Value, Evaluated, Found, Search, Recorded, Cell, Temporary}
 use Rattle.rules.specs.Sizes.{name_count}
 use Rattle.rules.specs.Trees.{Query, valid, initialised, base, offset, block_length}
 use Rattle.rules.specs.Numbers.{in_range}
@@ -21,8 +23,6 @@ use Rattle.rules.proofs.Memory.Room.{HasRoom, room}
 use Rattle.rules.proofs.Memory.BlockChanges.{onward-make, make-given, end-given}
 use Rattle.rules.proofs.Memory.Changes.{change-kept, onward-assigned, onward-allocated, onward-freed}
 use Rattle.rules.proofs.Runs.EvaluatedValues.{CellHas, TemporaryHas, EvaluatedHas, FoundHas}
-use Rattle.rules.specs.Types.{Pointer, Value, Evaluated, Found, Search, Recorded, Cell, Temporary}
-use Rattle.std.specs.Prelude.{None, Some}
 
 -- a name that was given
 abbrev pub IsGiven : Memory → ℕ → Type 0

@@ -6,11 +6,11 @@ use mathlib.Core.Logic.{◌⊎◌, inl, inr}
 use mathlib.Core.Bool.{true, false, true≢false}
 use mathlib.Core.List.{List, map}
 use lib.ListN.{length}
+use Rattle.rules.specs.Types.{Block, Recorded, Cell}
 use Rattle.rules.specs.Sizes.{name_count, cell_count}
 use Rattle.rules.specs.Memory.{Memory, recorded_of, named, block_of, cell_of, Change, changed, stopped, is_unused}
 use Rattle.rules.specs.Observation.{covers}
 use Rattle.rules.proofs.Memory.MemoryLaws.{coverage}
-use Rattle.rules.specs.Types.{Block, Recorded, Cell}
 
 abbrev pub occupied : Cell → ℕ
 occupied Cell.Free = 0

@@ -9,12 +9,13 @@ use mathlib.Core.List.{List}
 use lib.Dec.{eqb}
 use borrow.Author.Tests.{ne_eqb}
 use lib.ListN.{length, get_or, replicate}
+use Rattle.std.specs.Prelude.{Err, Ok, Some}
+use Rattle.rules.specs.Types.{Value, Evaluated, Recorded}
 use Rattle.rules.specs.Sizes.{name_count, cell_count}
 use Rattle.rules.specs.Memory.{named, lowest_run, fill, set_named}
 use Rattle.rules.specs.Observation.{Observation, record_of, covers, covered, mark_run, with_marks, empty_observation}
 use Rattle.rules.specs.Observation.{initialise, kept, pointer_to, mark_all}
 use Rattle.rules.specs.Watched.{called_on}
-use Rattle.rules.specs.Types.{Value, Evaluated, Recorded}
 use Rattle.rules.specs.declared.MarkOwners.{MarkOwners}
 use Rattle.rules.proofs.Lists.Rows.{get_d-zero}
 use Rattle.rules.proofs.Lists.RunLaws.{NoneBelow, lowest_taken, lowest_given, none-taken, none-given, taken-within}
@@ -31,7 +32,6 @@ use Rattle.rules.proofs.Memory.ObservationKept.{kept-keeps}
 use Rattle.rules.proofs.Runs.Keeping.{AnyNumber}
 use Rattle.rules.proofs.Runs.TargetRuns.{NotedKeeps}
 use Rattle.rules.proofs.Runs.Calls.{initialise-keeps}
-use Rattle.std.specs.Prelude.{Err, Ok, Some}
 
 -- mark i lies in no live block where its owner is 0, and in the live block of its owner's name where it is not
 abbrev pub OwnedBy : List Recorded → ℕ → ℕ → Type 0

@@ -10,9 +10,9 @@ use lib.Dec.{leb, ltb}
 use lib.ListN.{length, get_or, set, get_or-map}
 use lib.Seq.{get_or-set_same, get_or-set_other}
 use borrow.Author.Tests.{leb-true, leb-false, ltb-true, ltb-false}
+use Rattle.rules.specs.Types.{Recorded}
 use Rattle.rules.specs.Memory.{named, fill, all_free, one, set_named}
 use Rattle.rules.specs.Observation.{covers, covered}
-use Rattle.rules.specs.Types.{Recorded}
 
 module _ {A B : Type 0} (g : A → B) where
   pub map-set : (l : List A) (i : ℕ) (x : A) → map g (set l i x) ≡ set (map g l) i (g x)

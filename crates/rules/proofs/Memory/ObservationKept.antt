@@ -2,6 +2,7 @@
 -- whatever its ending; and it holds at a run's start.
 use Prim.Native.Nat.{ℕ, zero, suc, ◌≤◌}
 use lib.IntN.{pos}
+use Rattle.rules.specs.Types.{Value, Evaluated}
 use Rattle.rules.specs.TargetTrees.{TargetStatement}
 use Rattle.rules.specs.Memory.{Memory, Change, change_in, fixed, make_block, assigned, allocated, freed}
 use Rattle.rules.specs.Evaluation.{Variables, address_of, condition}
@@ -17,7 +18,6 @@ use Rattle.rules.proofs.Runs.TargetRuns.{NotedKeeps, WatchKeeps, watch-reaches, 
 use Rattle.rules.proofs.Runs.TargetRuns.{operating, querying, negating, storing, deleting, initialising}
 use Rattle.rules.proofs.Runs.Calls.{CallsKeep, store_block-keeps, initialise-keeps, store-called, delete-called}
 use Rattle.rules.proofs.Runs.Calls.{initialise-called}
-use Rattle.rules.specs.Types.{Value, Evaluated}
 
 -- nothing is asked of the execution memory and the temporaries
 abbrev Observing : (Observation → Type 0) → WatchedState → Type 0

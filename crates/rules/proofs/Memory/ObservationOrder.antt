@@ -11,6 +11,8 @@ use lib.IntN.{ℤ, pos, negsuc}
 use lib.ListN.{length, set, replicate, length-set, length-replicate}
 use lib.Seq.{get_or-set_other}
 use borrow.Author.Tests.{ltb-true}
+use Rattle.std.specs.Prelude.{Err, None, Ok, Some}
+use Rattle.rules.specs.Types.{Pointer, Value, Located, Search, Recorded, Miss}
 use Rattle.rules.specs.Sizes.{name_count, cell_count}
 use Rattle.rules.specs.Memory.{located_in, lowest_run, one, fill, set_named}
 use Rattle.rules.specs.Observation.{Observation, record_of, covers, covered, mark_run, noted, with_marks, is_marked}
@@ -30,9 +32,6 @@ use Rattle.rules.proofs.Memory.BlockChanges.{live-parts, dead-is-not-live}
 use Rattle.rules.proofs.Runs.Keeping.{AnyNumber}
 use Rattle.rules.proofs.Runs.TargetRuns.{NotedKeeps}
 use Rattle.rules.proofs.Runs.Calls.{CallsKeep}
-use Rattle.rules.specs.Types.{Pointer, Value, Located, Search, Recorded}
-use Rattle.std.specs.Prelude.{Err, None, Ok, Some}
-use Rattle.rules.specs.Types.{Miss}
 
 pub record OrderlyObservation (o : Observation) : Type 0 where
   -- 02 §5: "Each memory has 4,095 block records"

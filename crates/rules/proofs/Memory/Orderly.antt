@@ -6,6 +6,7 @@ use native.Mathlib.Decide.{ℕ_discrete, dec_lt}
 use mathlib.Core.Path.{◌≡◌, refl, sym, ap, ◌∙◌}
 use mathlib.Core.Logic.{◌≢◌}
 use mathlib.Core.Bool.{Bool, true, false, true≢false}
+use Rattle.rules.specs.Types.{Block, Recorded, Cell}
 use Rattle.rules.specs.Sizes.{name_count, cell_count}
 use Rattle.rules.specs.Trees.{Statement}
 use Rattle.rules.specs.TargetTrees.{TargetStatement}
@@ -25,7 +26,6 @@ use Rattle.rules.proofs.Memory.Changes.{onward-made}
 use Rattle.rules.proofs.Memory.PlainKept.{plain-onward}
 use Rattle.rules.proofs.Memory.WatchedKept.{watched-onward}
 use Rattle.rules.proofs.Memory.Totals.{live_length, count_occupied, total, total-occupied}
-use Rattle.rules.specs.Types.{Block, Recorded, Cell}
 
 -- no cell lies in two live blocks
 two-covers : (m : Memory) → Invariant m → (j k i : ℕ) → j ≢ k → covers (recorded_of (block_of m j)) i ≡ true

@@ -8,11 +8,11 @@ use mathlib.Core.Bool.{true, false, true≢false}
 use mathlib.Core.List.{List}
 use lib.ListN.{length, get_or, set}
 use lib.Seq.{get_or-set_same, get_or-set_other}
+use Rattle.rules.specs.Types.{Block, Cell}
 use Rattle.rules.specs.Memory.{recorded_of, named, is_unused, set_named}
 use Rattle.rules.specs.Observation.{covers}
 use Rattle.rules.proofs.Memory.MemoryLaws.{named-set_named, named-set_named-other}
 use Rattle.rules.proofs.Memory.Invariant.{Rising, Owned}
-use Rattle.rules.specs.Types.{Block, Cell}
 
 -- the block of name k becomes x, which is not unused
 module _ (l : List Block) (k : ℕ) (x : Block) (used : is_unused x ≡ false) where

@@ -1,6 +1,7 @@
 -- A plain run keeps the memory's invariant, however it comes out.
 use Prim.Native.Nat.{ℕ, ◌≤◌}
 use mathlib.Core.Path.{◌≡◌}
+use Rattle.rules.specs.Types.{Block}
 use Rattle.rules.specs.Trees.{Statement}
 use Rattle.rules.specs.Memory.{Memory, block_of, fixed, make_block, assigned, allocated, freed}
 use Rattle.rules.specs.Evaluation.{Variables, evaluate_source, find_source, evaluate_predicate, condition}
@@ -13,7 +14,6 @@ use Rattle.rules.proofs.Memory.Invariant.{Invariant, Onward, onward-itself, onwa
 use Rattle.rules.proofs.Memory.BlockChanges.{onward-end}
 use Rattle.rules.proofs.Memory.Changes.{change-kept, Given, onward-assigned, onward-made, onward-allocated}
 use Rattle.rules.proofs.Memory.Changes.{onward-freed}
-use Rattle.rules.specs.Types.{Block}
 
 -- a block that is made had an unused name
 abbrev pub WasUnused : Memory → ℕ → Type 0

@@ -6,15 +6,13 @@ use mathlib.Core.Bool.{Bool, true, false, cond}
 use lib.Dec.{ltb}
 use lib.IntN.{ℤ, pos, negsuc}
 use borrow.Author.Tests.{ltb-true}
+use Rattle.std.specs.Prelude.{Err, Ok}
+use Rattle.rules.specs.Types.{Pointer, Located, Recorded, Miss, Stop}
 use Rattle.rules.specs.Sizes.{cell_count}
 use Rattle.rules.specs.Memory.{Memory, recorded_of, block_of, located_in, locate, at_cell}
 use Rattle.rules.specs.Observation.{covers}
 use Rattle.rules.proofs.Memory.MemoryLaws.{covers-inside}
 use Rattle.rules.proofs.Memory.Invariant.{Invariant}
-use Rattle.rules.specs.Types.{Pointer, Located, Recorded}
-use Rattle.std.specs.Prelude.{Err, Ok}
-use Rattle.rules.specs.Types.{Miss}
-use Rattle.rules.specs.Types.{Stop}
 
 -- block k covers the cell, which is one of the 1,024
 abbrev pub Leads : Memory → ℕ → Located → Type 0

@@ -3,12 +3,12 @@ use Prim.Native.Nat.{ℕ, suc, ◌+◌, ◌-◌, ◌≤◌, ◌<◌}
 use native.Mathlib.Omega.{arith}
 use mathlib.Core.Path.{◌≡◌, refl, sym}
 use mathlib.Core.Bool.{true, false, true≢false}
+use Rattle.std.specs.Prelude.{None, Some}
+use Rattle.rules.specs.Types.{Search, Block}
 use Rattle.rules.specs.Sizes.{name_count, cell_count}
 use Rattle.rules.specs.Memory.{Memory, block_of, cell_of, all_free, lowest_run, is_free, free_run, is_unused, next_name}
 use Rattle.rules.proofs.Lists.SearchLaws.{Found, lowest-found}
 use Rattle.rules.proofs.Memory.MemoryLaws.{all_free-at}
-use Rattle.rules.specs.Types.{Search, Block}
-use Rattle.std.specs.Prelude.{None, Some}
 
 -- a name, the lowest that is unused, and cells for a new block
 pub record Room (m : Memory) (n k first : ℕ) : Type 0 where

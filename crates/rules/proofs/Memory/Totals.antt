@@ -5,12 +5,12 @@ use mathlib.Core.Path.{◌≡◌, refl, sym, ◌∙◌}
 use mathlib.Core.Bool.{Bool}
 use mathlib.Core.List.{List, [], ◌∷◌}
 use lib.ListN.{length, get_or}
+use Rattle.rules.specs.Types.{Block, Recorded, Cell}
 use Rattle.rules.specs.Sizes.{cell_count}
 use Rattle.rules.specs.Memory.{Memory, recorded_of, one, count_free}
 use Rattle.rules.specs.Observation.{covers}
 use Rattle.rules.proofs.Memory.MemoryLaws.{named-map, Covering, inside, below, above, covering, coverage}
 use Rattle.rules.proofs.Memory.Invariant.{occupied, records_of, Invariant}
-use Rattle.rules.specs.Types.{Block, Recorded, Cell}
 
 -- the sum of the lengths of live blocks
 abbrev pub length_of : Recorded → ℕ

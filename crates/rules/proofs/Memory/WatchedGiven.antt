@@ -4,6 +4,8 @@ use mathlib.Core.Path.{◌≡◌, refl, sym, ap, ◌∙◌, subst}
 use mathlib.Core.Bool.{Bool, true, false, cond, true≢false}
 use lib.Dec.{eqb}
 use borrow.Author.Tests.{eqb-true}
+use Rattle.std.specs.Prelude.{Err, None, Some}
+use Rattle.rules.specs.Types.{Evaluated, Cell}
 use Rattle.rules.specs.Trees.{Query, Expression, Place}
 use Rattle.rules.specs.TargetTrees.{TargetStatement, skip, assign, new, free, sequence, branch, while, let_in}
 use Rattle.rules.specs.TargetTrees.{take_address, take_value, take_operation, take_query, take_not, branch_on}
@@ -37,8 +39,6 @@ use Rattle.rules.proofs.Memory.GivenNames.{temporaries-stay, MadeGiven, make_blo
 use Rattle.rules.proofs.Memory.GivenNames.{assigned-given, allocated-given, freed-given, numbers-given}
 use Rattle.rules.proofs.Memory.GivenNames.{moves-given}
 use Rattle.rules.proofs.Memory.GivenNames.{opposite-given, queried-given}
-use Rattle.rules.specs.Types.{Evaluated, Cell}
-use Rattle.std.specs.Prelude.{Err, None, Some}
 
 -- the variables in scope have blocks whose names were given
 abbrev pub VariablesGiven : Scope → Variables → Memory → Type 0

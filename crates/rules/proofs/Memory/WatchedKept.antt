@@ -1,5 +1,6 @@
 -- A watched run of any target statement, a hand-made one too, keeps the execution memory's invariant.
 use Prim.Native.Nat.{ℕ, ◌≤◌}
+use Rattle.rules.specs.Types.{Evaluated}
 use Rattle.rules.specs.TargetTrees.{TargetStatement}
 use Rattle.rules.specs.Memory.{Memory, Change, change_in, fixed, make_block, assigned, allocated, freed}
 use Rattle.rules.specs.Evaluation.{Variables, address_of, condition}
@@ -15,7 +16,6 @@ use Rattle.rules.proofs.Memory.BlockChanges.{onward-end}
 use Rattle.rules.proofs.Memory.Changes.{change-kept, Given, onward-assigned, onward-made, onward-allocated}
 use Rattle.rules.proofs.Memory.Changes.{onward-freed}
 use Rattle.rules.proofs.Memory.PlainKept.{WasUnused}
-use Rattle.rules.specs.Types.{Evaluated}
 
 -- of the execution memory alone
 abbrev Sound : WatchedState → Type 0

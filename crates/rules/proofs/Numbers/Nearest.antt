@@ -8,12 +8,12 @@ use mathlib.Core.Logic.{◌⊎◌, inl, inr, ⊎_elim}
 use borrow.Author.Tests.{eqb-true, eqb-false, ltb-true, ltb-false}
 use lib.Dec.{ltb, eqb}
 use lib.IntN.{ℤ, pos, negsuc, nat_abs, ◌-ℤ◌, ◌*ℤ◌}
+use Rattle.rules.specs.Types.{Value}
 use Rattle.rules.specs.Nodes.{operator_of}
 use Rattle.rules.specs.Numbers.{is_negative, signed, signs_differ, to_nearest, quotient_of, IsNearest, Liveness}
 use Rattle.rules.specs.Numbers.{ranged, numbered, on_integers, operate}
 use Rattle.rules.proofs.Numbers.Signs.{signed-itself, magnitude-signed, product-signed, quotient-times}
 use Rattle.rules.proofs.Numbers.Signs.{distance, alike-apart, unlike-apart, divided-is, magnitude-positive}
-use Rattle.rules.specs.Types.{Value}
 
 -- the rule of magnitudes
 record Near (x d n : ℕ) : Type 0 where

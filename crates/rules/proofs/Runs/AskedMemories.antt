@@ -4,6 +4,8 @@ use mathlib.Core.Bool.{false}
 use mathlib.Core.List.{[]}
 use mathlib.Core.Logic.{◌⊎◌, inl, inr}
 use mathlib.Core.Path.{◌≡◌, refl, ap}
+use Rattle.std.specs.Prelude.{Err, Ok}
+use Rattle.rules.specs.Types.{Pointer, Value, Evaluated, Recorded, Stop}
 use Rattle.rules.specs.Nodes.{operator_of}
 use Rattle.rules.specs.Trees.{Operator, Expression}
 use Rattle.rules.specs.TargetTrees.{take_operation}
@@ -13,9 +15,6 @@ use Rattle.rules.specs.Observation.{Observation, record_of, live_record}
 use Rattle.rules.specs.Flow.{ended, ending, after}
 use Rattle.rules.specs.Watched.{Temporaries, held_in, watching, value_in, taken, watch}
 use Rattle.rules.proofs.Memory.ComparedPointers.{operator-7-ends-47}
-use Rattle.rules.specs.Types.{Pointer, Value, Evaluated, Recorded}
-use Rattle.std.specs.Prelude.{Err, Ok}
-use Rattle.rules.specs.Types.{Stop}
 
 -- 02 §4: "an expression, there too, asks the execution memory": what it gives does not depend on the observation memory
 pub expressions-ask-the-execution-memory : (e : Expression ℕ) (ρ : Variables) (m : Memory) (o o₁ : Observation)

@@ -4,6 +4,8 @@ use mathlib.Core.Bool.{true}
 use mathlib.Core.Path.{◌≡◌, refl}
 use lib.IntN.{ℤ, pos, negsuc}
 use lib.ListN.{set}
+use Rattle.std.specs.Prelude.{Err, None, Ok, Some}
+use Rattle.rules.specs.Types.{Pointer, Value, Evaluated, Located, Search, Recorded, Miss, Stop}
 use Rattle.rules.specs.Memory.{on_value}
 use Rattle.rules.specs.Observation.{Observation, Noted, refused, record_of, mark_run, with_marks, store_at}
 use Rattle.rules.specs.Observation.{store_sized, store_block, delete_at, delete_from, delete_block, locate_mark}
@@ -11,10 +13,6 @@ use Rattle.rules.specs.Observation.{mark_at, initialise}
 use Rattle.rules.specs.Watched.{called_on, called_on_two}
 use Rattle.rules.proofs.Runs.Keeping.{AnyValue, Gives, on_value_lem, on-integer, on-pointer}
 use Rattle.rules.proofs.Runs.TargetRuns.{NotedKeeps}
-use Rattle.rules.specs.Types.{Pointer, Value, Evaluated, Located, Search, Recorded}
-use Rattle.std.specs.Prelude.{Err, None, Ok, Some}
-use Rattle.rules.specs.Types.{Miss}
-use Rattle.rules.specs.Types.{Stop}
 
 -- O is kept by the three calls that change the observation memory: a block is stored under an unused name in the lowest
 -- run of free marks, a live block is deleted, a mark of a live block is set

@@ -2,6 +2,8 @@
 use Prim.Native.Nat.{ℕ, suc}
 use mathlib.Core.List.{List}
 use mathlib.Core.Path.{refl}
+use Rattle.std.specs.Prelude.{Err, Ok, true, false}
+use Rattle.rules.specs.Types.{Evaluated, Found, Test, Stop, stop_number}
 use Rattle.rules.specs.Memory.{Memory, Use, freeable, make_block, next_name, free_run, assigned, allocated, freed}
 use Rattle.rules.specs.Evaluation.{condition}
 use Rattle.rules.specs.Answers.{evaluation_endings, temporary_endings, plain_endings, watched_endings}
@@ -9,11 +11,6 @@ use Rattle.rules.proofs.Lists.Among.{StopsAmong, among-more}
 use Rattle.rules.proofs.Runs.Keeping.{AnyValue, AnyPlace, AnyState, AnyMade, Gives, TestStops, ChangeKeeps}
 use Rattle.rules.proofs.Runs.Keeping.{MadeKeeps, assigned-keeps, make_at-keeps, allocated_keeps, freed-keeps}
 use Rattle.rules.proofs.Runs.EvaluationEndings.{EvaluatedAmong, FoundAmong, condition-among}
-use Rattle.rules.specs.Types.{Evaluated, Found, Test}
-use Rattle.std.specs.Prelude.{Err, Ok}
-use Rattle.std.specs.Prelude.{true, false}
-use Rattle.rules.specs.Types.{Stop}
-use Rattle.rules.specs.Types.{stop_number}
 
 -- the numbers that evaluating stops with, and those that a run ends with
 pub record Numbers (stopping ending : List ℕ) : Type 0 where

@@ -1,10 +1,10 @@
 -- What evaluating a source expression gives: a value that is defined, or a stop.
+use Rattle.rules.specs.Types.{Value, Evaluated}
 use Rattle.rules.specs.Trees.{Expression}
 use Rattle.rules.specs.Memory.{Memory}
 use Rattle.rules.specs.Evaluation.{Variables, no_temporaries, evaluate_source}
 use Rattle.rules.specs.Answers.{evaluation_endings}
 use Rattle.rules.proofs.Runs.EvaluationEndings.{EvaluatedAmong, evaluate-among}
-use Rattle.rules.specs.Types.{Value, Evaluated}
 
 abbrev pub Defined : Value → Type 0
 Defined Value.Undefined = ⊥

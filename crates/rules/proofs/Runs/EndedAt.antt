@@ -4,6 +4,8 @@ use mathlib.Core.List.{List}
 use mathlib.Core.Option.{Option, none, some}
 use mathlib.Core.Path.{◌≡◌, refl, sym, subst}
 use lib.ListN.{get_or}
+use Rattle.std.specs.Prelude.{Err, Ok, true, false}
+use Rattle.rules.specs.Types.{Test, Stop}
 use Rattle.rules.specs.Trees.{Place, Expression, Predicate, Operator, Query, Statement, skip, assign, new, free}
 use Rattle.rules.specs.Trees.{sequence, branch, while, let_in, assert}
 use Rattle.rules.specs.TargetTrees.{TargetStatement}
@@ -17,10 +19,6 @@ use Rattle.rules.specs.Watched.{target_parts, WatchedState, value_in, place_in, 
 use Rattle.rules.proofs.Runs.Keeping.{TestStops, MadeKeeps}
 use Rattle.rules.proofs.Runs.TargetRuns.{assigning, allocating, freeing, operating, querying, negating, storing}
 use Rattle.rules.proofs.Runs.TargetRuns.{deleting, initialising, making, closing}
-use Rattle.rules.specs.Types.{Test}
-use Rattle.std.specs.Prelude.{Err, Ok}
-use Rattle.std.specs.Prelude.{true, false}
-use Rattle.rules.specs.Types.{Stop}
 
 -- P of the statement that there is
 abbrev pub There : {A : Type 0} → (A → Type 0) → Option A → Type 0

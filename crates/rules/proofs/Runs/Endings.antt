@@ -3,6 +3,8 @@ use Prim.Native.Nat.{ℕ, suc}
 use mathlib.Core.List.{List}
 use mathlib.Core.Bool.{false}
 use mathlib.Core.Path.{◌≡◌, refl}
+use Rattle.std.specs.Prelude.{Err, None, Some}
+use Rattle.rules.specs.Types.{Value, Evaluated, Temporary, stop_number}
 use Rattle.rules.specs.Trees.{Statement, Expression, Place}
 use Rattle.rules.specs.Trees as tree
 use Rattle.rules.specs.TargetTrees.{TargetStatement}
@@ -29,9 +31,6 @@ use Rattle.rules.proofs.Runs.SourceRuns.{MeaningKeeps, run-reaches}
 use Rattle.rules.proofs.Runs.TargetRuns.{NotedKeeps, WatchKeeps, watch-reaches, taken-keeps, observed-keeps}
 use Rattle.rules.proofs.Runs.TargetRuns.{operating, querying, negating, storing, deleting, initialising, asked_in}
 use Rattle.rules.proofs.Runs.Calls.{store-called, delete-called, initialise-called}
-use Rattle.rules.specs.Types.{Value, Evaluated, Temporary}
-use Rattle.std.specs.Prelude.{Err, None, Some}
-use Rattle.rules.specs.Types.{stop_number}
 
 -- what a run may end with
 abbrev pub EndsAmong : {S : Type 0} → List ℕ → Outcome S → Type 0

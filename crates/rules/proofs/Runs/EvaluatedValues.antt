@@ -4,6 +4,8 @@ use Prim.Native.Nat.{ℕ}
 use mathlib.Core.Bool.{true}
 use mathlib.Core.Path.{◌≡◌}
 use lib.IntN.{ℤ, pos}
+use Rattle.std.specs.Prelude.{Err, None, Ok, Some}
+use Rattle.rules.specs.Types.{Pointer, Value, Evaluated, Found, Cell, Temporary}
 use Rattle.rules.specs.Trees.{Operator, shift, Expression, literal, read, address, operation, shifted, Place}
 use Rattle.rules.specs.Trees.{variable, pointed, temporary}
 use Rattle.rules.specs.Numbers.{in_range}
@@ -12,8 +14,6 @@ use Rattle.rules.specs.Evaluation.{Variables, Holding, held, pointed_by, address
 use Rattle.rules.proofs.Acceptance.Sound.{Scope, SoundExpression, SoundPlace}
 use Rattle.rules.proofs.Runs.Operations.{operated-gives}
 use Rattle.rules.proofs.Runs.Keeping.{AnyNumber, Gives, Finds, on_value_lem, on-place, on-pointer, at-cell}
-use Rattle.rules.specs.Types.{Pointer, Value, Evaluated, Found, Cell, Temporary}
-use Rattle.std.specs.Prelude.{Err, None, Ok, Some}
 
 -- G of the value that a cell or a temporary holds
 abbrev pub CellHas : (Value → Type 0) → Cell → Type 0

@@ -4,6 +4,8 @@ use mathlib.Core.Bool.{Bool}
 use mathlib.Core.List.{List}
 use mathlib.Core.Path.{refl}
 use lib.IntN.{ℤ}
+use Rattle.std.specs.Prelude.{Err, Ok}
+use Rattle.rules.specs.Types.{Pointer, Value, Evaluated, Found, Recorded, Cell, Stop, stop_number}
 use Rattle.rules.specs.Trees.{Operator, shift, Query, Expression}
 use Rattle.rules.specs.Trees.{literal, read, address, operation, shifted, Place, variable, pointed, temporary}
 use Rattle.rules.specs.Trees.{Term, value, asked, combined, Predicate, holds, compared, negated, both, either}
@@ -19,10 +21,6 @@ use Rattle.rules.proofs.Runs.Operations.{queried-gives, query_memory-gives}
 use Rattle.rules.proofs.Runs.Keeping.{AnyPlace, Gives, Finds, TestStops, on_value_lem, on-place}
 use Rattle.rules.proofs.Runs.Keeping.{on-pointer}
 use Rattle.rules.proofs.Runs.Keeping.{on-test, at-cell}
-use Rattle.rules.specs.Types.{Pointer, Value, Evaluated, Found, Recorded, Cell}
-use Rattle.std.specs.Prelude.{Err, Ok}
-use Rattle.rules.specs.Types.{Stop}
-use Rattle.rules.specs.Types.{stop_number}
 
 -- G of the value; the numbers of stops
 abbrev pub EvaluatedAmong : (Value → Type 0) → List ℕ → Evaluated → Type 0

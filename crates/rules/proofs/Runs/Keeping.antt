@@ -2,6 +2,8 @@
 use Prim.Native.Nat.{ℕ, zero, suc}
 use mathlib.Core.Path.{◌≡◌, refl}
 use lib.IntN.{ℤ, pos, negsuc}
+use Rattle.std.specs.Prelude.{Err, None, Ok, Some, true, false}
+use Rattle.rules.specs.Types.{Pointer, Value, Evaluated, Found, Test, Located, Search, Block, Cell, Miss, Stop}
 use Rattle.rules.specs.Memory.{Memory, Change, changed, stopped, Use, freeable, Made, made, unmade, make_at}
 use Rattle.rules.specs.Memory.{make_block, with_block, end_block, block_of, set_cell, locate, at_cell, store_cell}
 use Rattle.rules.specs.Memory.{store_new, new_of_size, free_of, free_at, assigned, allocated, freed, on_value}
@@ -9,11 +11,6 @@ use Rattle.rules.specs.Memory.{on_place, on_integer, on_pointer}
 use Rattle.rules.specs.Evaluation.{on_test}
 use Rattle.rules.specs.Answers.{plain_endings}
 use Rattle.rules.proofs.Lists.Among.{StopsAmong}
-use Rattle.rules.specs.Types.{Pointer, Value, Evaluated, Found, Test, Located, Search, Block, Cell}
-use Rattle.std.specs.Prelude.{Err, None, Ok, Some}
-use Rattle.rules.specs.Types.{Miss}
-use Rattle.std.specs.Prelude.{true, false}
-use Rattle.rules.specs.Types.{Stop}
 
 -- nothing asked
 abbrev pub AnyNumber : Stop → Type 0

@@ -5,6 +5,8 @@ use mathlib.Core.Path.{◌≡◌, refl}
 use lib.Dec.{eqb}
 use lib.IntN.{ℤ, pos, nat_abs, ◌+ℤ◌, ◌-ℤ◌, ◌*ℤ◌}
 use lib.Signed.{le_z}
+use Rattle.std.specs.Prelude.{Err, Ok}
+use Rattle.rules.specs.Types.{Pointer, Value, Evaluated, Number, Recorded, Stop}
 use Rattle.rules.specs.Trees.{Query, valid, initialised, base, offset, block_length}
 use Rattle.rules.specs.Trees.{Operator, add, subtract, multiply, divide, nearest, at_most, equal, shift}
 use Rattle.rules.specs.Numbers.{in_range, ranged, quotient_of, toward_zero, to_nearest, divided}
@@ -16,9 +18,6 @@ use Rattle.rules.specs.Evaluation.{queried, query_memory}
 use Rattle.rules.specs.Answers.{operation_endings}
 use Rattle.rules.proofs.Lists.Among.{StopsAmong}
 use Rattle.rules.proofs.Runs.Keeping.{AnyValue, Gives, TestStops, on_value_lem, on-pointer, on-test}
-use Rattle.rules.specs.Types.{Pointer, Value, Evaluated, Number, Recorded}
-use Rattle.std.specs.Prelude.{Err, Ok}
-use Rattle.rules.specs.Types.{Stop}
 
 -- a number that was worked out is in range
 abbrev FitsNumber : Number → Type 0

@@ -2,15 +2,13 @@
 use Prim.Native.Nat.{ℕ, zero, suc, ◌≤◌}
 use native.Mathlib.Omega.{arith}
 use mathlib.Core.Path.{◌≡◌, refl, ap}
+use Rattle.std.specs.Prelude.{Err, Ok, true, false}
+use Rattle.rules.specs.Types.{Test, Stop}
 use Rattle.rules.specs.Memory.{Memory, Change, changed, stopped, change_in, Made, made, unmade, made_in}
 use Rattle.rules.specs.Evaluation.{Variables}
 use Rattle.rules.specs.Flow.{Outcome, finished, ended, ending, into, next, after, decide, turns, in_let}
 use Rattle.rules.specs.Plain.{asserted}
 use Rattle.rules.proofs.Runs.Keeping.{TestStops, AnyState, ChangeKeeps, MadeKeeps}
-use Rattle.rules.specs.Types.{Test}
-use Rattle.std.specs.Prelude.{Err, Ok}
-use Rattle.std.specs.Prelude.{true, false}
-use Rattle.rules.specs.Types.{Stop}
 
 -- I of state and fuel where a run is finished, and where it is ended, with E of the ending's number
 abbrev pub Outcomes : {S : Type 0} → (S → ℕ → Type 0) → (Stop → Type 0) → Outcome S → Type 0

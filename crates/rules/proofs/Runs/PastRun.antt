@@ -3,6 +3,8 @@ use Prim.Native.Nat.{ℕ, zero, suc, ◌≤◌}
 use native.Mathlib.Omega.{arith}
 use mathlib.Core.Path.{◌≡◌, refl, ◌∙◌}
 use mathlib.Core.List.{List, [], ◌∷◌, ◌++◌}
+use Rattle.std.specs.Prelude.{Err, Ok, true, false}
+use Rattle.rules.specs.Types.{Test, Stop}
 use Rattle.rules.specs.Trees.{Statement, skip, assign, new, free, sequence, branch, while, let_in, assert}
 use Rattle.rules.specs.Memory.{Memory, Change, changed, stopped, change_in, fixed, Made, made, unmade, made_in}
 use Rattle.rules.specs.Memory.{make_block, end_block, assigned, allocated, freed}
@@ -16,10 +18,6 @@ use Rattle.rules.proofs.Runs.Keeping.{AnyNumber, AnyState, any-change, any-made,
 use Rattle.rules.proofs.Runs.Outcomes.{AnyBlock, Onwards, Reaches, reach-turns, reach-into, outcomes-state}
 use Rattle.rules.proofs.Runs.Outcomes.{change-in, made_in_lem}
 use Rattle.rules.proofs.Runs.SourceRuns.{MeaningKeeps, run-reaches}
-use Rattle.rules.specs.Types.{Test}
-use Rattle.std.specs.Prelude.{Err, Ok}
-use Rattle.std.specs.Prelude.{true, false}
-use Rattle.rules.specs.Types.{Stop}
 
 -- of the assertions reached one is false, whose ending is e; or none is
 abbrev Decided : List Reached → Ending Memory → Type 0

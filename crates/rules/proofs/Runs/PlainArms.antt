@@ -3,6 +3,7 @@ use Prim.Native.Nat.{ℕ, suc}
 use mathlib.Core.List.{List, []}
 use mathlib.Core.Logic.{◌≢◌}
 use mathlib.Core.Path.{◌≡◌, refl, sym, ap, ◌∙◌}
+use Rattle.rules.specs.Types.{Stop}
 use Rattle.rules.specs.Records.{kind_of, mark_of, child_a, child_b, child_c}
 use Rattle.rules.specs.Kinds.{source, Sort, predicate, statement}
 use Rattle.rules.specs.Trees.{Statement}
@@ -19,7 +20,6 @@ use Rattle.rules.proofs.Acceptance.FormLaws.{FormHolds, node_as}
 use Rattle.rules.proofs.Acceptance.Standing.{stands}
 use Rattle.rules.proofs.Runs.Turns.{while-zero, while-suc}
 use Rattle.rules.proofs.Runs.StatementArms.{ChildOfSort, statement-form}
-use Rattle.rules.specs.Types.{Stop}
 
 -- a child of record n
 abbrev pub Under : Sort → List ℕ → ℕ → ℕ → Type 0

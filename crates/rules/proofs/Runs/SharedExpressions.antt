@@ -8,6 +8,7 @@ use mathlib.Core.Path.{◌≡◌, refl, sym, ap, ap₂, ◌∙◌}
 use borrow.Author.Tests.{lt-ltb, le-leb, eq-eqb}
 use lib.Dec.{ltb, eqb}
 use lib.IntN.{ℤ}
+use Rattle.std.specs.Prelude.{Ok}
 use Rattle.rules.specs.Records.{record_count, kind_of, mark_of, child_a, child_b, child_c, literal_of, record_at}
 use Rattle.rules.specs.Kinds.{Language, source, target, Sort, sort_number, expression, place, term, predicate}
 use Rattle.rules.specs.Kinds.{statement, Field, unnamed, child, number, Literal, zero_literal, any_literal}
@@ -31,7 +32,6 @@ use Rattle.rules.proofs.Acceptance.FormLaws.{FieldHolds, LiteralHolds, FormHolds
 use Rattle.rules.proofs.Acceptance.FormLaws.{node-built}
 use Rattle.rules.proofs.Acceptance.Standing.{stands, stands_at}
 use Rattle.rules.proofs.Simulation.PredicateSimulation.{embed-is, embed_place-is}
-use Rattle.std.specs.Prelude.{Ok}
 use Rattle.rules.proofs.Acceptance.SaidLaws.{faults}
 
 and-join : (a b : Bool) → a ≡ true → b ≡ true → (a && b) ≡ true

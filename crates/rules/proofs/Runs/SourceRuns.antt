@@ -1,5 +1,6 @@
 -- What every statement without statements in it keeps, every run of a source program keeps, whatever its state is.
 use Prim.Native.Nat.{ℕ}
+use Rattle.rules.specs.Types.{Stop}
 use Rattle.rules.specs.Trees.{Place, Expression, Predicate, Statement, skip, assign, new, free, sequence, branch}
 use Rattle.rules.specs.Trees.{while, let_in, assert}
 use Rattle.rules.specs.Evaluation.{Variables, extend}
@@ -7,7 +8,6 @@ use Rattle.rules.specs.Flow.{into, Meaning, run_by}
 use Rattle.rules.proofs.Runs.Keeping.{TestStops, ChangeKeeps, MadeKeeps}
 use Rattle.rules.proofs.Runs.Outcomes.{Onwards, Reaches, reach-itself, reach-into, reach-next, reach-after}
 use Rattle.rules.proofs.Runs.Outcomes.{reach-decide, reach-turns, reach-let}
-use Rattle.rules.specs.Types.{Stop}
 
 pub record MeaningKeeps {S : Type 0} (M : Meaning S) (P : S → Type 0) (R : S → S → Type 0) (G : S → ℕ → Type 0)
     (E : Stop → Type 0) : Type 0 where

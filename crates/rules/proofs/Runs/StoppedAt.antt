@@ -1,6 +1,8 @@
 -- The path that an ended outcome tells leads to the statement whose number it tells, in every run.
 use Prim.Native.Nat.{ℕ}
 use mathlib.Core.Path.{◌≡◌, refl}
+use Rattle.std.specs.Prelude.{Err, Ok, true, false}
+use Rattle.rules.specs.Types.{Test, Stop}
 use Rattle.rules.specs.Trees.{Statement, skip, assign, new, free, sequence, branch, while, let_in, assert}
 use Rattle.rules.specs.TargetTrees.{TargetStatement}
 use Rattle.rules.specs.TargetTrees as target
@@ -13,10 +15,6 @@ use Rattle.rules.proofs.Runs.Keeping.{AnyState, TestStops, MadeKeeps}
 use Rattle.rules.proofs.Runs.TargetRuns.{assigning, allocating, freeing, operating, querying, negating, storing}
 use Rattle.rules.proofs.Runs.TargetRuns.{deleting, initialising, making}
 use Rattle.rules.proofs.Runs.EndedAt.{ChangeStops, EndsAt, SourceEnds, run-ends-at, TargetEnds, watch-ends-at}
-use Rattle.rules.specs.Types.{Test}
-use Rattle.std.specs.Prelude.{Err, Ok}
-use Rattle.std.specs.Prelude.{true, false}
-use Rattle.rules.specs.Types.{Stop}
 
 -- the number of a statement
 abbrev pub number_of : Statement → ℕ

@@ -1,12 +1,14 @@
 -- The variables' blocks that an ended outcome tells are those that the run started with, but where a let on the path to
 -- its statement has given a variable another, in every run.
 use Prim.Native.Nat.{ℕ, zero, suc}
-use mathlib.Core.Bool.{Bool, false, cond, ◌||◌}
+use mathlib.Core.Bool.{Bool, true, false, cond, ◌||◌}
 use mathlib.Core.List.{List, [], ◌∷◌}
 use mathlib.Core.Option.{Option, none, some}
 use mathlib.Core.Path.{◌≡◌, refl, sym, ap, ◌∙◌}
 use lib.Dec.{eqb}
 use lib.ListN.{get_or}
+use Rattle.std.specs.Prelude.{Err, Ok}
+use Rattle.rules.specs.Types.{Test}
 use Rattle.rules.specs.Trees.{Statement, skip, assign, new, free, sequence, branch, while, let_in, assert}
 use Rattle.rules.specs.TargetTrees.{TargetStatement}
 use Rattle.rules.specs.TargetTrees as target
@@ -16,12 +18,9 @@ use Rattle.rules.specs.Flow.{TreePath, parts, Outcome, finished, ended, into, ne
 use Rattle.rules.specs.Flow.{Meaning, run_by}
 use Rattle.rules.specs.Plain.{asserted}
 use Rattle.rules.specs.Watched.{target_parts, WatchedState, value_in, place_in, holding, taken, observed, watch}
-use Rattle.rules.specs.Types.{Test}
 use Rattle.rules.proofs.Lists.BooleanLaws.{neither}
 use Rattle.rules.proofs.Runs.TargetRuns.{assigning, allocating, freeing, operating, querying, negating, storing}
 use Rattle.rules.proofs.Runs.TargetRuns.{deleting, initialising, making, closing}
-use Rattle.std.specs.Prelude.{Err, Ok}
-use Rattle.std.specs.Prelude.{true}
 
 -- A are the statements of a language, of which some bind a variable
 module _ {A : Type 0} (children : A → List (Option A)) (binds : A → ℕ → Bool) where

@@ -2,6 +2,7 @@
 use Prim.Native.Nat.{ℕ, suc}
 use mathlib.Core.List.{List, []}
 use mathlib.Core.Path.{◌≡◌, sym, ap, ◌∙◌}
+use Rattle.rules.specs.Types.{Stop}
 use Rattle.rules.specs.Records.{kind_of, mark_of, child_a, child_b, child_c}
 use Rattle.rules.specs.Kinds.{target, statement}
 use Rattle.rules.specs.TargetTrees.{TargetStatement}
@@ -17,7 +18,6 @@ use Rattle.rules.proofs.Runs.TargetRuns.{assigning, allocating, freeing, operati
 use Rattle.rules.proofs.Runs.TargetRuns.{deleting, initialising, making, closing}
 use Rattle.rules.proofs.Runs.Turns.{watched-while-zero, watched-while-suc}
 use Rattle.rules.proofs.Runs.StatementArms.{statement-form}
-use Rattle.rules.specs.Types.{Stop}
 
 module _ (t : List ℕ) (n : ℕ) (h : HasSort target statement t n) where
   module _ (ρ : Variables) (x : WatchedState) (f : ℕ) where

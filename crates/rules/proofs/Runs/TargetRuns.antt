@@ -1,6 +1,8 @@
 -- What every target statement without statements in it keeps, every watched run keeps.
 use Prim.Native.Nat.{ℕ, suc}
 use lib.ListN.{set}
+use Rattle.std.specs.Prelude.{Err, Ok, Some}
+use Rattle.rules.specs.Types.{Value, Evaluated, Stop}
 use Rattle.rules.specs.Trees.{Expression, Place, Operator, Query}
 use Rattle.rules.specs.TargetTrees.{TargetStatement, skip, assign, new, free, sequence, branch, while, let_in}
 use Rattle.rules.specs.TargetTrees.{take_address, take_value, take_operation, take_query, take_not, branch_on}
@@ -20,9 +22,6 @@ use Rattle.rules.specs.Watched.{called_on, called_on_two, watch}
 use Rattle.rules.proofs.Runs.Keeping.{Gives, TestStops, ChangeKeeps, MadeKeeps}
 use Rattle.rules.proofs.Runs.Outcomes.{Onwards, Reaches, reach-itself, reach-into, reach-next, reach-after}
 use Rattle.rules.proofs.Runs.Outcomes.{reach-decide, reach-turns, reach-let, asserted-keeps}
-use Rattle.rules.specs.Types.{Value, Evaluated}
-use Rattle.std.specs.Prelude.{Err, Ok, Some}
-use Rattle.rules.specs.Types.{Stop}
 
 -- O of the observation memory after a call, E of the number of a refusal
 abbrev pub NotedKeeps : (Observation → Type 0) → (Stop → Type 0) → Noted → Type 0

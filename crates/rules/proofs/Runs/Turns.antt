@@ -3,6 +3,7 @@ use Prim.Native.Nat.{ℕ, zero, suc, ◌≤◌}
 use native.Mathlib.Omega.{arith}
 use mathlib.Core.List.{[]}
 use mathlib.Core.Path.{◌≡◌, refl, ap}
+use Rattle.rules.specs.Types.{Test, Stop}
 use Rattle.rules.specs.Trees.{Statement, Expression}
 use Rattle.rules.specs.Trees as tree
 use Rattle.rules.specs.TargetTrees.{TargetStatement}
@@ -11,8 +12,6 @@ use Rattle.rules.specs.Evaluation.{Variables, condition}
 use Rattle.rules.specs.Flow.{Outcome, finished, ended, ending, into, next, decide, turns, Meaning, run_by}
 use Rattle.rules.specs.Watched.{WatchedState, value_in, watch}
 use Rattle.rules.proofs.Runs.Fuel.{run-fuel, watch-fuel}
-use Rattle.rules.specs.Types.{Test}
-use Rattle.rules.specs.Types.{Stop}
 
 into-fuel : {S : Type 0} (n f : ℕ) (o : Outcome S) → (ending o).fuel ≤ f → (ending (into n o)).fuel ≤ f
 into-fuel n f (finished x g) h = h

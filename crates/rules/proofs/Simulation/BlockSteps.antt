@@ -4,6 +4,8 @@ use native.Mathlib.Omega.{arith}
 use mathlib.Core.Path.{◌≡◌, refl, ap, ◌∙◌}
 use lib.IntN.{pos, negsuc}
 use lib.Seq.{get_or-set_same}
+use Rattle.std.specs.Prelude.{Err, None, Ok, Some}
+use Rattle.rules.specs.Types.{Pointer, Value, Evaluated, Found, Located, Search, Block, Cell, Miss}
 use Rattle.rules.specs.Memory.{Memory, recorded_of, block_of, locate, read_cell, set_cell, next_name, free_run, fixed}
 use Rattle.rules.specs.Memory.{freeable, with_block, made_in, make_at, end_block, on_place, store_new, allocated}
 use Rattle.rules.specs.Evaluation.{Variables, pointed_by, address_of}
@@ -23,9 +25,6 @@ use Rattle.rules.proofs.Simulation.StatementSteps.{Watching, Running, Agree, bot
 use Rattle.rules.proofs.Simulation.StatementSteps.{agree-within}
 use Rattle.rules.proofs.Simulation.StatementSteps.{stored}
 use Rattle.rules.proofs.Simulation.StatementSteps.{changing}
-use Rattle.rules.specs.Types.{Pointer, Value, Evaluated, Found, Located, Search, Block, Cell}
-use Rattle.std.specs.Prelude.{Err, None, Ok, Some}
-use Rattle.rules.specs.Types.{Miss}
 
 -- a new block: made, its pointer stored and read back, the block recorded, the pointer's cell marked
 abbrev record_after : ℕ → Variables → Watching

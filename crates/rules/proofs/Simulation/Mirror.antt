@@ -6,6 +6,8 @@ use mathlib.Core.Bool.{Bool, true, false, not}
 use mathlib.Core.List.{map}
 use lib.IntN.{pos}
 use lib.ListN.{set, get_or-map}
+use Rattle.std.specs.Prelude.{Ok, Some}
+use Rattle.rules.specs.Types.{Pointer, Value, Block, Recorded, Cell}
 use Rattle.rules.specs.Trees.{Query}
 use Rattle.rules.specs.Memory.{Memory, recorded_of, block_of, cell_of, locate, located_in, set_cell, set_named, is_live}
 use Rattle.rules.specs.Memory.{lowest_run, is_free, free_run, fill, Use, block_for, with_block, without_cells}
@@ -20,8 +22,6 @@ use Rattle.rules.proofs.Memory.MemoryLaws.{covered-is}
 use Rattle.rules.proofs.Memory.Invariant.{occupied, records_of, Invariant}
 use Rattle.rules.proofs.Memory.BlockChanges.{recorded-for}
 use Rattle.rules.proofs.Runs.DefinedValues.{Defined}
-use Rattle.rules.specs.Types.{Pointer, Value, Block, Recorded, Cell}
-use Rattle.std.specs.Prelude.{Ok, Some}
 
 module _ (m : Memory) where
   pub mirror-record : (k : ℕ) → record_of (mirror m) k ≡ recorded_of (block_of m k)

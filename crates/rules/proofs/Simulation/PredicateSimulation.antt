@@ -5,6 +5,8 @@ use mathlib.Core.Path.{◌≡◌, refl, ap, ◌∙◌, sym}
 use mathlib.Core.Logic.{◌≢◌}
 use lib.ListN.{length, set, length-set}
 use lib.Seq.{get_or-set_same, get_or-set_other}
+use Rattle.std.specs.Prelude.{Err, None, Ok, Some, true, false}
+use Rattle.rules.specs.Types.{Value, Evaluated, Test, Stop}
 use Rattle.rules.specs.Sizes.{temporary_count}
 use Rattle.rules.specs.Trees.{Operator, shift, Query, Expression, literal, read, address, operation, shifted}
 use Rattle.rules.specs.Trees.{Place, variable, pointed, temporary, Term, value, asked, combined, Predicate}
@@ -22,10 +24,6 @@ use Rattle.rules.specs.Translation.{embed, embed_place, translate_term, translat
 use Rattle.rules.proofs.Acceptance.Sound.{Scope, SoundTerm, SoundPredicate}
 use Rattle.rules.proofs.Runs.TargetRuns.{operating, querying, negating}
 use Rattle.rules.proofs.Simulation.Mirror.{mirror-query, mirror-live}
-use Rattle.rules.specs.Types.{Value, Evaluated, Test}
-use Rattle.std.specs.Prelude.{Err, None, Ok, Some}
-use Rattle.std.specs.Prelude.{true, false}
-use Rattle.rules.specs.Types.{Stop}
 
 -- a source expression gives the same in the target, whatever the temporaries hold
 mutual

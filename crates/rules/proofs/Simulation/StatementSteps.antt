@@ -4,6 +4,8 @@ use native.Mathlib.Omega.{arith}
 use mathlib.Core.Path.{◌≡◌, refl, ap}
 use mathlib.Core.Logic.{◌≢◌}
 use lib.IntN.{ℤ, pos, negsuc}
+use Rattle.std.specs.Prelude.{Err, Ok, Some, true, false}
+use Rattle.rules.specs.Types.{Pointer, Value, Evaluated, Found, Test, Located, Block, Cell, Miss, Stop, stop_number}
 use Rattle.rules.specs.Numbers.{tested}
 use Rattle.rules.specs.Memory.{Memory, recorded_of, block_of, locate, at_cell, set_cell, Change, changed, stopped}
 use Rattle.rules.specs.Memory.{change_in, assigned, free_of, freed}
@@ -18,11 +20,6 @@ use Rattle.rules.proofs.Memory.Invariant.{Invariant}
 use Rattle.rules.proofs.Runs.DefinedValues.{Defined, FairEvaluated}
 use Rattle.rules.proofs.Simulation.Mirror.{mirror-initialise, mirror-delete}
 use Rattle.rules.proofs.Simulation.PredicateSimulation.{Full, put, full_put, put_same, Gives, gives, stops}
-use Rattle.rules.specs.Types.{Pointer, Value, Evaluated, Found, Test, Located, Block, Cell}
-use Rattle.std.specs.Prelude.{Err, Ok, Some}
-use Rattle.rules.specs.Types.{Miss}
-use Rattle.std.specs.Prelude.{true, false}
-use Rattle.rules.specs.Types.{Stop, stop_number}
 
 -- a watched run from a state and fuel, and a plain one
 abbrev pub Watching : Type 0

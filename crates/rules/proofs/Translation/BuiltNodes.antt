@@ -4,12 +4,12 @@ use mathlib.Core.Path.{◌≡◌, ◌∙◌, subst}
 use mathlib.Core.Bool.{Bool, true}
 use mathlib.Core.List.{List, [], ◌∷◌}
 use borrow.Author.Tests.{lt-ltb, le-leb}
+use Rattle.std.specs.Prelude.{Ok}
 use Rattle.rules.specs.Records.{Record, record_count, record_at}
 use Rattle.rules.specs.Kinds.{Language, form_of}
 use Rattle.rules.specs.Checker.{record_fault}
 use Rattle.rules.specs.Nodes.{NodeOf, build_node, nodes_fit, guarded, node_from, node_in, make_node, nodes, node_at}
 use Rattle.rules.proofs.Lists.BooleanLaws.{both_true}
-use Rattle.std.specs.Prelude.{Ok}
 use Rattle.rules.proofs.Acceptance.SaidLaws.{kept-ok}
 
 -- the nodes that record r, numbered n, has for children, of the sorts that its form asks for

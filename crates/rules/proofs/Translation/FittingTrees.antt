@@ -8,6 +8,7 @@ use mathlib.Core.Option.{some}
 use lib.Dec.{eqb}
 use lib.IntN.{ℤ}
 use borrow.Author.Tests.{lt-ltb, eq-eqb}
+use Rattle.std.specs.Prelude.{Ok}
 use Rattle.rules.specs.Records.{Record, kind_of, record_at}
 use Rattle.rules.specs.Kinds.{Language, source, target, Sort, expression, place, term, predicate, statement}
 use Rattle.rules.specs.Kinds.{sort_number, Field, unnamed, child, number, Form, field_of, form_of, look_up}
@@ -18,7 +19,6 @@ use Rattle.rules.specs.Emission as tree
 use Rattle.rules.proofs.Lists.BooleanLaws.{both_true}
 use Rattle.rules.proofs.Acceptance.Sound.{Scope}
 use Rattle.rules.proofs.Translation.EmissionLaws.{Holds, own_record, field-root, Step, everywhere}
-use Rattle.std.specs.Prelude.{Ok}
 
 abbrev pub root_kind : RecordTree → ℕ
 root_kind tree.none = 0

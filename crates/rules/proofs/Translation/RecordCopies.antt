@@ -9,12 +9,13 @@ use mathlib.Core.List.{List}
 use mathlib.Core.Path.{◌≡◌, refl, sym, ap, ◌∙◌}
 use borrow.Author.Tests.{leb-true, eqb-true, eq-eqb, ne_eqb}
 use lib.Dec.{leb, eqb}
+use Rattle.std.specs.Prelude.{None, Some}
+use Rattle.rules.specs.Types.{Search}
 use Rattle.rules.specs.Records.{record_count, kind_of, child_a, child_b, child_c}
 use Rattle.rules.specs.Kinds.{source, sort_number, Field, unnamed, child, number, Form, field_of, forms}
 use Rattle.rules.specs.Checker.{times_in, times_child_of}
 use Rattle.rules.specs.Nodes.{node_sort, node_at}
 use Rattle.rules.specs.Origins.{own_records, copies_of_child, copies_in, copies_of, target_records, sum}
-use Rattle.rules.specs.Types.{Search}
 use Rattle.rules.proofs.Lists.BooleanLaws.{three-pass}
 use Rattle.rules.proofs.Acceptance.KindViews.{every, found-passes, found-kind}
 use Rattle.rules.proofs.Acceptance.ParentLaws.{IsParent, times-by-fields, same, times-least, parent_above}
@@ -27,7 +28,6 @@ use Rattle.rules.proofs.Acceptance.Standing.{form-sort}
 use Rattle.rules.proofs.Acceptance.AcceptedTrees.{accepted-record, accepted-last}
 use Rattle.rules.proofs.Translation.RecordSizes.{has_no_number, children-only}
 use Rattle.rules.proofs.Translation.Counting.{sum-equal, sum-none, sum-pick}
-use Rattle.std.specs.Prelude.{None, Some}
 
 -- how often j is a child, by the numbers in the fields
 times-field : (t : List ℕ) (n : ℕ) (f : Field) (x j : ℕ) → has_no_number f ≡ true → FieldHolds source t n f x → 1 ≤ j

@@ -5,6 +5,7 @@ use mathlib.Core.Path.{◌≡◌, refl, sym, ap, ◌∙◌}
 use mathlib.Core.Bool.{true}
 use mathlib.Core.List.{List, [], ◌∷◌}
 use lib.IntN.{ℤ}
+use Rattle.std.specs.Prelude.{Ok}
 use Rattle.rules.specs.Records.{record_count, record_at, table_bytes}
 use Rattle.rules.specs.Kinds.{Language, form_of}
 use Rattle.rules.specs.Checker.{record_fault}
@@ -16,7 +17,6 @@ use Rattle.rules.proofs.Translation.FittingTrees.{Fitting, Held, records-fit}
 use Rattle.rules.proofs.Translation.EmittedBytes.{emitted, emitted-count}
 use Rattle.rules.proofs.Acceptance.NodeLaws.{node-earlier, node-zero}
 use Rattle.rules.proofs.Translation.BuiltNodes.{built}
-use Rattle.std.specs.Prelude.{Ok}
 
 -- the node of a tree's root
 abbrev pub IsNode : (l : Language) → List ℕ → RecordTree → ℕ → NodeOf l → Type 0

@@ -7,6 +7,7 @@ use mathlib.Core.List.{List, [], ◌∷◌}
 use mathlib.Core.Path.{◌≡◌, refl, sym, ap, ◌∙◌}
 use lib.Dec.{eqb}
 use lib.IntN.{pos}
+use Rattle.std.specs.Prelude.{Ok}
 use Rattle.rules.specs.Words.{little, digits, word_at, flat}
 use Rattle.rules.specs.Records.{record_count, kind_of, child_a, child_b, child_c, table_bytes}
 use Rattle.rules.specs.Kinds.{source, statement, look_up, form_of}
@@ -24,7 +25,6 @@ use Rattle.rules.proofs.Translation.Counting.{sum-equal, sum-plus, sum-child, su
 use Rattle.rules.specs.RecordTrees.{tree_at}
 use Rattle.rules.proofs.Translation.RecordSizes.{none-at, tree-as, size-law}
 use Rattle.rules.proofs.Translation.RecordCopies.{copies-in-all, copies-handed, last-in-none, at-most-14}
-use Rattle.std.specs.Prelude.{Ok}
 
 -- the size of what record n is translated to
 abbrev size_of : List ℕ → ℕ → ℕ
@@ -74,7 +74,7 @@ module _ (t : List ℕ) (a : Accepted source t) where
       (copies-handed t a) (last-in-none t a) a.not-empty in
       omega (arith, whole, ap (λ (c : ℕ). c * size_of t N) (copies-last t (passed-of source t a)), last-size)
 
-pub size-bound : (t : List ℕ) → check source t ≡ (Ok tt)
+pub size-bound : (t : List ℕ) → check source t ≡ Ok tt
     → tree_size (statement_tree (translate (source_program t))) ≤ 14 * record_count t
 size-bound t h =
     let a = accepted-says source t h in
@@ -88,7 +88,7 @@ size-bound t h =
 abbrev pub skip_in_let : List ℕ
 skip_in_let = table_bytes (of 40 0 0 ∷ of_all 47 1 1 0 0 (pos 0) ∷ [])
 
-pub let-reaches-14 : (check source skip_in_let ≡ (Ok tt)) × (target_records skip_in_let 2 ≡ 14)
+pub let-reaches-14 : (check source skip_in_let ≡ Ok tt) × (target_records skip_in_let 2 ≡ 14)
 unfolding little digits word_at flat look_up form_of lowest record_fault times_child_of times_child shape_fault parent_of in_scope
     scope_fault level_of level_fault check copies_of
 let-reaches-14 = (refl, refl)

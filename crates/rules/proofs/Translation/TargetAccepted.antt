@@ -7,6 +7,7 @@ use mathlib.Core.List.{List}
 use lib.Dec.{eqb}
 use lib.ListN.{length}
 use borrow.Author.Tests.{eq-eqb, ne_eqb, le-ltb}
+use Rattle.std.specs.Prelude.{Ok}
 use Rattle.rules.specs.Records.{Record, record_count, table_bytes}
 use Rattle.rules.specs.Kinds.{Language, source, target, statement, sort_number, record_limit}
 use Rattle.rules.specs.Checker.{sort_of, length_fault, check}
@@ -22,7 +23,6 @@ use Rattle.rules.proofs.Acceptance.ParentLaws.{Passed}
 use Rattle.rules.proofs.Translation.ShapeLaws.{passed}
 use Rattle.rules.proofs.Translation.ScopeKept.{scope_kept}
 use Rattle.rules.proofs.Acceptance.CheckLaws.{Keeps, check-kept}
-use Rattle.std.specs.Prelude.{Ok}
 
 -- 1: whole records, and at least one
 pub whole-records : (rs : List Record) → 0 < length rs → length_fault (table_bytes rs) ≡ false
@@ -64,5 +64,5 @@ pub keeps-rules : (w : TargetStatement) → SoundTarget w start_scope → tree_s
 keeps-rules w h s = tree-keeps target (statement_tree w) (statement-fits w start_scope h) (statement-sort w) s
 
 pub target-accepted : (w : TargetStatement) → SoundTarget w start_scope → tree_size (statement_tree w) ≤ 4096
-    → check target (table_bytes (emit (statement_tree w) 0)) ≡ (Ok tt)
+    → check target (table_bytes (emit (statement_tree w) 0)) ≡ Ok tt
 target-accepted w h s = check-kept target (table_bytes (emit (statement_tree w) 0)) (keeps-rules w h s)

@@ -2,6 +2,7 @@
 use Prim.Native.Nat.{ℕ, ◌≤◌}
 use mathlib.Core.Path.{◌≡◌}
 use mathlib.Core.List.{List}
+use Rattle.std.specs.Prelude.{Ok}
 use Rattle.rules.specs.Records.{record_count}
 use Rattle.rules.specs.Kinds.{target}
 use Rattle.rules.specs.Checker.{check}
@@ -15,7 +16,6 @@ use Rattle.rules.proofs.Translation.TargetFitting.{statement-fits}
 use Rattle.rules.proofs.Translation.EmittedBytes.{emitted-count, emitted-bytes}
 use Rattle.rules.proofs.Translation.ReadBack.{program-back}
 use Rattle.rules.proofs.Translation.TargetAccepted.{target-accepted}
-use Rattle.std.specs.Prelude.{Ok}
 
 abbrev pub translated_size : List ℕ → ℕ
 translated_size t = tree_size (statement_tree (translate (source_program t)))
@@ -25,7 +25,7 @@ unfolding translated_records
 translation-count t = emitted-count (statement_tree (translate (source_program t)))
 
 module _ (t : List ℕ) (sound : SoundStatement (source_program t) start_scope) (small : translated_size t ≤ 4096) where
-  pub translation-accepted : check target (translation t) ≡ (Ok tt)
+  pub translation-accepted : check target (translation t) ≡ Ok tt
   unfolding translated_records
   translation-accepted =
       target-accepted (translate (source_program t)) (sound-translation (source_program t) start_scope sound) small
