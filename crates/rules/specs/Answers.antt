@@ -116,7 +116,8 @@ plain_as (Ok u) t i f memory = plain_ended (ending (plain_outcome t i f))
 -- 9 and 21, in this order, where the checker refuses nothing
 abbrev pub plain_by : Checked → List ℕ → List ℕ → ℕ → List ℕ → PlainRun
 plain_by c t i f memory =
-    plain_as (c otherwise refuse_if Rule.Inputs (inputs_fault i) otherwise refuse_if Rule.Memory (memory_fault memory)) t i f memory
+    plain_as (c otherwise refuse_if Rule.Inputs (inputs_fault i)
+    otherwise refuse_if Rule.Memory (memory_fault memory)) t i f memory
 
 abbrev pub run_plain : List ℕ → List ℕ → ℕ → List ℕ → PlainRun
 run_plain t i f memory = plain_by (check source t) t i f memory

@@ -1,5 +1,5 @@
--- The types that code and definitions share, as src/lib.rt declares them. Other crates name those of the `pub use` lines
--- by their own modules, as `declared.Stop.Stop`.
+-- The types that code and definitions share, as src/lib.rt declares them. Other crates name those of the `pub use`
+-- lines by their own modules, as `declared.Stop.Stop`.
 use Rattle.std.specs.Prelude.{ℕ, Bool, ℤ, Option, Result}
 pub use Rattle.rules.specs.declared.Pointer.{Pointer}
 pub use Rattle.rules.specs.declared.Value.{Value}

@@ -2,53 +2,14 @@
 
 #![tactic(auto)]
 
-ghost use Rattle.std.specs.Prelude.{◌≡◌, Ok, Err};
-ghost use Rattle.rules.specs.Types.{stop_number, rule_number, missed};
-ghost use Rattle.rules.specs.Nodes.{operator_of, query_of};
-ghost use Rattle.rules.specs.Numbers.{truth};
-ghost use Rattle.rules.specs.Memory.{on_integer, on_pointer};
+mod conversions;
+mod sizes;
 
-// The numbers of `specs/Sizes.antt`, by the same names.
-pub const NAME_COUNT: usize = 4095;
-
-pub const CELL_COUNT: usize = 1024;
-
-pub const TEMPORARY_COUNT: usize = 64;
-
-pub const SOURCE_LIMIT: usize = 256;
-
-pub const TARGET_LIMIT: usize = 4096;
-
-pub const INPUT_LIMIT: usize = 256;
-
-pub const BLOCKS_LENGTH: usize = NAME_COUNT * 8;
-
-pub const MEMORY_LENGTH: usize = BLOCKS_LENGTH + CELL_COUNT * 16;
-
-pub const OBSERVATION_LENGTH: usize = BLOCKS_LENGTH + CELL_COUNT;
-
-// The highest name.
-pub const LAST_NAME: u16 = NAME_COUNT as u16;
-
-// The bytes of both memories.
-pub type ExecutionMemory = [u8; MEMORY_LENGTH];
-
-pub type ObservationMemory = [u8; OBSERVATION_LENGTH];
-
-// Room for the longest table.
-pub const TABLE_LENGTH: usize = TARGET_LIMIT * 16;
-
-pub type Table = [u8; TABLE_LENGTH];
-
-// The temporaries, each in 16 bytes.
-pub const TEMPORARIES_LENGTH: usize = TEMPORARY_COUNT * 16;
-
-pub type Temporaries = [u8; TEMPORARIES_LENGTH];
-
-// The block of each variable, "0–63".
-pub const VARIABLE_COUNT: usize = 64;
-
-pub type Variables = [u16; VARIABLE_COUNT];
+pub use sizes::{
+    BLOCKS_LENGTH, CELL_COUNT, ExecutionMemory, INPUT_LIMIT, LAST_NAME, MEMORY_LENGTH, NAME_COUNT,
+    OBSERVATION_LENGTH, ObservationMemory, SOURCE_LIMIT, TABLE_LENGTH, TARGET_LIMIT,
+    TEMPORARIES_LENGTH, TEMPORARY_COUNT, Table, Temporaries, VARIABLE_COUNT, Variables,
+};
 
 // What a run counts as it goes: the free cells; a cell below which none is free; and the next name, one past the last
 // where all names are given. The order keeps the two that a new block adjusts alike apart, so that the compiler does not
@@ -103,24 +64,6 @@ pub enum Operator {
     Shift,
 }
 
-// The operator of a number that a table has; a shift's record has none.
-impl From<u8> for Operator {
-    ghost from_gives = { λ number operator. operator ≡ operator_of number };
-
-    fn from(number: u8) -> Operator {
-        match number {
-            1 => Operator::Add,
-            2 => Operator::Subtract,
-            3 => Operator::Multiply,
-            4 => Operator::Divide,
-            5 => Operator::Nearest,
-            6 => Operator::AtMost,
-            7 => Operator::Equal,
-            _ => Operator::Shift,
-        }
-    }
-}
-
 // "1 valid, 2 initialised, 3 base address, 4 offset, 5 length".
 #[derive(Clone, Copy, Debug, PartialEq, Eq)]
 pub enum Query {
@@ -129,21 +72,6 @@ pub enum Query {
     Base,
     Offset,
     BlockLength,
-}
-
-// The query of a number that a table has.
-impl From<u8> for Query {
-    ghost from_gives = { λ number query. query ≡ query_of number };
-
-    fn from(number: u8) -> Query {
-        match number {
-            1 => Query::Valid,
-            2 => Query::Initialised,
-            3 => Query::Base,
-            4 => Query::Offset,
-            _ => Query::BlockLength,
-        }
-    }
 }
 
 // A block of 42 is freeable, that of a let is fixed.
@@ -179,43 +107,6 @@ pub enum Value {
     Pointer(Pointer),
 }
 
-// "Operators 6 and 7 and queries 1 and 2 give 1 or 0."
-impl From<bool> for Value {
-    ghost from_gives = { λ holds value. value ≡ truth holds };
-
-    fn from(holds: bool) -> Value {
-        Value::Integer(i64::from(holds))
-    }
-}
-
-// "40 wrong sort of value" where it is no integer.
-impl TryFrom<Value> for i64 {
-    type Error = Stop;
-
-    ghost try_from_gives = { λ value integer. integer ≡ on_integer value Err Ok };
-
-    fn try_from(value: Value) -> Result<i64, Stop> {
-        match value {
-            Value::Integer(z) => Ok(z),
-            Value::Undefined | Value::Pointer(_) => Err(Stop::WrongSort),
-        }
-    }
-}
-
-// "40 wrong sort of value" where it is no pointer.
-impl TryFrom<Value> for Pointer {
-    type Error = Stop;
-
-    ghost try_from_gives = { λ value pointer. pointer ≡ on_pointer value Err Ok };
-
-    fn try_from(value: Value) -> Result<Pointer, Stop> {
-        match value {
-            Value::Pointer(p) => Ok(p),
-            Value::Undefined | Value::Integer(_) => Err(Stop::WrongSort),
-        }
-    }
-}
-
 // Why a run stops, by the number of its ending: "30 no run of free cells long enough. 31 all names given. 32 fuel is 0 at
 // a while test. 33 assertion false. 40 wrong sort of value. 41 undefined cell read. 42 cell in a dead block. 43 overflow.
 // 44 zero divisor. 45 size below 1. 46 free of a pointer to anything but the first cell of a live freeable block. 47 base,
@@ -240,14 +131,6 @@ pub enum Stop {
     OutsideBlock = 50,
 }
 
-impl From<Stop> for u32 {
-    ghost from_gives = { λ stop number. number ≡ stop_number stop };
-
-    fn from(stop: Stop) -> u32 {
-        stop as u32
-    }
-}
-
 // What evaluating gives, if it does not stop.
 pub type Evaluated = Result<Value, Stop>;
 
@@ -262,17 +145,6 @@ pub type Test = Result<bool, Stop>;
 pub enum Miss {
     Dead,
     Outside,
-}
-
-impl From<Miss> for Stop {
-    ghost from_gives = { λ miss stop. stop ≡ missed miss };
-
-    fn from(miss: Miss) -> Stop {
-        match miss {
-            Miss::Dead => Stop::DeadBlock,
-            Miss::Outside => Stop::OutsideBlock,
-        }
-    }
 }
 
 // Where a pointer leads: a cell.
@@ -321,14 +193,6 @@ pub enum Rule {
     Output = 20,
     Memory = 21,
     Observation = 22,
-}
-
-impl From<Rule> for u32 {
-    ghost from_gives = { λ rule number. number ≡ rule_number rule };
-
-    fn from(rule: Rule) -> u32 {
-        rule as u32
-    }
 }
 
 // The rule that is broken and the record that breaks it, 0 where it is none.

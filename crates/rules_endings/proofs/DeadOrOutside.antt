@@ -81,9 +81,11 @@ plain-told = record {
   turns-on = λ s e b ρ m j.
       test-told (Tells no_temporaries ρ m (used_by e no_temporaries ρ m)) (condition (evaluate_source e ρ m)) j.1
       (decided-by no_temporaries ρ m e);
-  out-of-fuel = λ s e b ρ m j. (j.1, λ n. other m (used_by e no_temporaries ρ m) Stop.NoFuel (omega arith) (omega arith));
+  out-of-fuel = λ s e b ρ m j.
+      (j.1, λ n. other m (used_by e no_temporaries ρ m) Stop.NoFuel (omega arith) (omega arith));
   makes = λ s z b ρ m j.
-      let-started (λ c. PlainKept (let_in s z b) c s ρ m) ρ z m j (j.1, λ n. other m none Stop.NamesGiven (omega arith) (omega arith))
+      let-started (λ c. PlainKept (let_in s z b) c s ρ m) ρ z m j
+      (j.1, λ n. other m none Stop.NamesGiven (omega arith) (omega arith))
       (j.1, λ n. other m none Stop.NoRun (omega arith) (omega arith));
 }
 

@@ -34,8 +34,8 @@ pub started-on : {m m₁ : Memory} (ρ : Variables) → Onward m m₁ → Starte
 started-on ρ h j = (h.invariant, names-stay ρ h j.1)
 
 -- a let's block, or the number where there is none
-pub let-started : (C : Stop → Type 0) (ρ : Variables) (z : ℕ) (m : Memory) → Started ρ m → C Stop.NamesGiven → C Stop.NoRun
-    → MadeKeeps (λ k m₁. Started (extend ρ z k) m₁) C (make_block m fixed 1)
+pub let-started : (C : Stop → Type 0) (ρ : Variables) (z : ℕ) (m : Memory) → Started ρ m → C Stop.NamesGiven
+    → C Stop.NoRun → MadeKeeps (λ k m₁. Started (extend ρ z k) m₁) C (make_block m fixed 1)
 let-started C ρ z m j no_name no_cells = go (next_name m) (free_run m 1) (room m 1)
   where
     extended : (k : ℕ) (m₁ : Memory) → VariablesNamed ρ m₁ → IsNamed m₁ k → VariablesNamed (extend ρ z k) m₁

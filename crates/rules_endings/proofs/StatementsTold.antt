@@ -29,8 +29,9 @@ use Rattle.rules_endings.proofs.UsedLaws.{decided-by}
 use Rattle.rules_endings.proofs.NamedPointers.{names-stay, Started}
 
 -- a stop tells Q, and leaves the names as they were
-pub change-told : (ρ : Variables) (Q : Stop → Memory → Type 0) (m : Memory) (c : Change Memory) → Onward m (changed_memory c)
-    → VariablesNamed ρ m → ChangeStops Q c → ChangeStops (λ k x. VariablesNamed ρ x × Q k x) c
+pub change-told : (ρ : Variables) (Q : Stop → Memory → Type 0) (m : Memory) (c : Change Memory)
+    → Onward m (changed_memory c) → VariablesNamed ρ m → ChangeStops Q c
+    → ChangeStops (λ k x. VariablesNamed ρ x × Q k x) c
 change-told ρ Q m (changed x) o v h = tt
 change-told ρ Q m (stopped k x) o v h = (names-stay ρ o v, h)
 
@@ -39,8 +40,8 @@ test-told C (Ok true) v h = tt
 test-told C (Ok false) v h = tt
 test-told C (Err c) v h = (v, h)
 
-pub asserted-told : {S : Type 0} (P : Stop → S → Type 0) (x : S) (t : Test) → P Stop.FalseAssertion x → TestStops (λ c. P c x) t
-    → ChangeStops P (asserted x t)
+pub asserted-told : {S : Type 0} (P : Stop → S → Type 0) (x : S) (t : Test) → P Stop.FalseAssertion x
+    → TestStops (λ c. P c x) t → ChangeStops P (asserted x t)
 asserted-told P x (Ok true) f h = tt
 asserted-told P x (Ok false) f h = f
 asserted-told P x (Err c) f h = h
@@ -63,12 +64,13 @@ pub taken-told : (P : Stop → WatchedState → Type 0) (x : WatchedState) (n : 
 taken-told P x n (Ok v) h = tt
 taken-told P x n (Err c) h = h
 
-pub observed-told : (P : Stop → WatchedState → Type 0) (x : WatchedState) (r : Noted) → NotedKeeps AnyState (λ c. P c x) r
-    → ChangeStops P (observed x r)
+pub observed-told : (P : Stop → WatchedState → Type 0) (x : WatchedState) (r : Noted)
+    → NotedKeeps AnyState (λ c. P c x) r → ChangeStops P (observed x r)
 observed-told P x (noted o) h = tt
 observed-told P x (refused c) h = h
 
-pub given-told : {A : Type 0} (C : Stop → Type 0) (e : Evaluated) → A → Gives AnyValue C e → Gives AnyValue (λ c. A × C c) e
+pub given-told : {A : Type 0} (C : Stop → Type 0) (e : Evaluated) → A → Gives AnyValue C e
+    → Gives AnyValue (λ c. A × C c) e
 given-told C (Ok v) a h = tt
 given-told C (Err c) a h = (a, h)
 

@@ -131,7 +131,8 @@ no-fault l t n (some f) h = go (fields_fit f (record_at t n)) (children_fit l t 
     go true false d e r = absurd (err-is-not-ok r)
     go false q d e r = absurd (err-is-not-ok r)
 
-pub faultless : (l : Language) (t : List ℕ) (n : ℕ) → record_fault l t n ≡ Ok tt → Faultless l t n (form_of l (kind_of t n))
+pub faultless : (l : Language) (t : List ℕ) (n : ℕ) → record_fault l t n ≡ Ok tt
+    → Faultless l t n (form_of l (kind_of t n))
 unfolding record_fault
 faultless l t n h = no-fault l t n (form_of l (kind_of t n)) h
 
@@ -226,9 +227,9 @@ abbrev pub in_table : (l : Language) → List ℕ → ℕ → Option Form → Bo
 in_table l t n o = ltb 0 n && leb n (record_count t) && is_ok (record_fault l t n) && nodes_under l t n o
 
 -- where record n is in the table, without fault, and its children's nodes fit, its node is no junk
-pub node-built : (l : Language) (t : List ℕ) (n : ℕ) (f : Form) → 1 ≤ n → n ≤ record_count t → record_fault l t n ≡ Ok tt
-    → form_of l (kind_of t n) ≡ some f → fields_fit f (record_at t n) ≡ true → nodes_under l t n (some f) ≡ true
-    → FormHolds l t n f
+pub node-built : (l : Language) (t : List ℕ) (n : ℕ) (f : Form) → 1 ≤ n → n ≤ record_count t
+    → record_fault l t n ≡ Ok tt → form_of l (kind_of t n) ≡ some f → fields_fit f (record_at t n) ≡ true
+    → nodes_under l t n (some f) ≡ true → FormHolds l t n f
 node-built l t n f p q r o h w =
     let g : in_table l t n (form_of l (kind_of t n)) ≡ true =
     rw (lt-ltb 0 n p, le-leb n (record_count t) q, kept-ok r, o) w in

@@ -69,7 +69,8 @@ module _ (l : Language) (t : List ℕ) (m : ℕ) where
       go (no u) (yes v) a b d = b v
       go (no u) (no v) a b d = d (omega arith)
 
-  in-record : (o : Option Form) (c : ℕ) → fault_of l t m o ≡ Ok tt → 0 < times_of o (record_at t m) c → (0 < c) × (c < m)
+  in-record : (o : Option Form) (c : ℕ) → fault_of l t m o ≡ Ok tt → 0 < times_of o (record_at t m) c
+      → (0 < c) × (c < m)
   in-record none c e h = absurd (err-is-not-ok e)
   in-record (some f) c e h =
       let both : (fields_fit f (record_at t m) ≡ true) × (children_fit l t m f (record_at t m) ≡ true) = fits-of _ _ e in

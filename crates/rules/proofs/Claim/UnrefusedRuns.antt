@@ -43,7 +43,8 @@ pub plain_runs : (t i : List ℕ) (f : ℕ) (memory : List ℕ) → check source
     → length memory ≡ memory_length → run_plain t i f memory ≡ plain_ended (ending (plain_outcome t i f))
 plain_runs t i f memory c e h =
     ap (λ x. plain_by x t i f memory) c
-    ∙ (λ k. plain_as (refuse_if Rule.Inputs (e k) otherwise refuse_if Rule.Memory (right-length memory memory_length h k)) t i f memory)
+    ∙ (λ k. plain_as (refuse_if Rule.Inputs (e k)
+    otherwise refuse_if Rule.Memory (right-length memory memory_length h k)) t i f memory)
 
 pub watched-runs : (t i : List ℕ) (f : ℕ) (memory observation : List ℕ) → check target t ≡ Ok tt
     → inputs_fault i ≡ false → length memory ≡ memory_length → length observation ≡ observation_length
@@ -84,7 +85,8 @@ watched-answered t i f memory observation = by-check (check target t) (check-num
   where
     by_tests : (p q r : Bool)
         → WatchedAnswered t i f memory observation
-        (watched_as (refuse_if Rule.Inputs p otherwise refuse_if Rule.Memory q otherwise refuse_if Rule.Observation r) t i f memory observation)
+        (watched_as (refuse_if Rule.Inputs p otherwise refuse_if Rule.Memory q otherwise refuse_if Rule.Observation r)
+        t i f memory observation)
     by_tests true q r = refused (record { rule = Rule.Inputs; «record» = 0 }) refl
     by_tests false true r = refused (record { rule = Rule.Memory; «record» = 0 }) refl
     by_tests false false true = refused (record { rule = Rule.Observation; «record» = 0 }) refl

@@ -50,9 +50,12 @@ same_of (both-finish e l) c = record {
 same_of (both_end {c = n} h) c = record {
   same_answer = refl;
   same_memory = refl;
-  unrefused = (among_none plain_endings refusals (stop_number n) refl c, among_none plain_endings refusals (stop_number n) refl c);
+  unrefused = let u = among_none plain_endings refusals (stop_number n) refl c in (u, u);
   mirrors = h;
-  no-contradiction = (among-not plain_endings (stop_number n) 48 refl c, among-not plain_endings (stop_number n) 49 refl c);
+  no-contradiction = (
+    among-not plain_endings (stop_number n) 48 refl c,
+    among-not plain_endings (stop_number n) 49 refl c,
+  );
 }
 
 -- the runs of a source tree, and a target tree's

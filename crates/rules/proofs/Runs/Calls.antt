@@ -25,7 +25,8 @@ pub record CallsKeep (O : Observation → Type 0) : Type 0 where
       → O (record { blocks = o.blocks; marks = set o.marks i true })
 
 -- O of the observation memory, E of the number of a refusal
-module _ (O : Observation → Type 0) (E : Stop → Type 0) (wrong : E Stop.WrongSort) (misused : E Stop.Contradiction) where
+module _ (O : Observation → Type 0) (E : Stop → Type 0) (wrong : E Stop.WrongSort)
+    (misused : E Stop.Contradiction) where
   pub store_block-keeps : (o : Observation) (v w : Value)
       → ((k n first : ℕ) → record_of o k ≡ Recorded.Unused → mark_run o (suc n) ≡ Some first
       → O (with_marks o k (Recorded.Live first (suc n)) first (suc n)))

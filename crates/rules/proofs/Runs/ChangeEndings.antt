@@ -43,7 +43,8 @@ module _ {stopping ending : List ℕ} (w : Numbers stopping ending) where
   ends-evaluated (Ok v) h = tt
   ends-evaluated (Err c) h = w.widen c h
 
-  pub ends-condition : (e : Evaluated) → EvaluatedAmong AnyValue stopping e → TestStops (StopsAmong ending) (condition e)
+  pub ends-condition : (e : Evaluated) → EvaluatedAmong AnyValue stopping e
+      → TestStops (StopsAmong ending) (condition e)
   ends-condition e h =
       ends-test (condition e) (condition-among AnyValue (λ z. tt) (λ p. tt) stopping w.enough e h)
 

@@ -67,7 +67,8 @@ module _ {A S : Type 0} (children : A → List (Option A)) (K : A → Stop → �
     ends-decide s ρ (Err c) x f o p k h g = k
 
     ends-turns : (J : S → Type 0) (s : ℕ) (ρ : Variables) (holds : S → Test) (n : ℕ) (b : A) (body : S → ℕ → Outcome S)
-        → IsChild n b → ((x : S) → J x → TestStops (λ c. K a c s ρ x) (holds x)) → ((x : S) → J x → K a Stop.NoFuel s ρ x)
+        → IsChild n b → ((x : S) → J x → TestStops (λ c. K a c s ρ x) (holds x))
+        → ((x : S) → J x → K a Stop.NoFuel s ρ x)
         → ((x : S) (f : ℕ) → J x → EndsAt b (body x f) × J (ending (body x f)).state)
         → (g : ℕ) (x : S) (f : ℕ) → J x → EndsAt a (turns g s ρ holds (λ y k. into n (body y k)) x f)
     unfolding turns statement_on

@@ -68,8 +68,8 @@ plain-ends = record {
       (evaluate_predicate-among AnyValue (λ z. tt) (λ p. tt) evaluation_endings plainly.enough p ρ m));
   decides = λ e ρ m v. ends-condition plainly (evaluate_source e ρ m) (source-among e ρ m);
   makes = λ m v.
-      made_more AnyMade (λ k m₁. Unit {0} × Unit {0}) (StopsAmong plain_endings) (make_block m fixed 1) (λ k m₁ u. (tt, tt))
-      (ends-make_block plainly m fixed 1);
+      made_more AnyMade (λ k m₁. Unit {0} × Unit {0}) (StopsAmong plain_endings) (make_block m fixed 1)
+      (λ k m₁ u. (tt, tt)) (ends-make_block plainly m fixed 1);
   ends = λ m m₁ k g r. tt;
   out-of-fuel = refl;
 }
@@ -167,8 +167,8 @@ watch-ends = record {
   decides = λ e ρ x v. ends-condition watchedly (value_in e ρ x) (target-among e x.temporaries ρ x.memory);
   decides-on = λ n x v. ends-condition watchedly (holding x n) (held-among (temporary_of x.temporaries n));
   makes = λ x v.
-      made_in_lem AnyMade (λ k y. Unit {0} × Unit {0}) (StopsAmong watched_endings) (with_memory x) (make_block x.memory fixed 1)
-      (λ k m u. (tt, tt)) (ends-make_block watchedly x.memory fixed 1);
+      made_in_lem AnyMade (λ k y. Unit {0} × Unit {0}) (StopsAmong watched_endings) (with_memory x)
+      (make_block x.memory fixed 1) (λ k m u. (tt, tt)) (ends-make_block watchedly x.memory fixed 1);
   ends = λ x y k g r. tt;
   out-of-fuel = refl;
   false-assertion = refl;

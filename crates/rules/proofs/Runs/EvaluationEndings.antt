@@ -49,7 +49,8 @@ module _ (G : Value → Type 0) (integers : (z : ℤ) → G (Value.Integer z))
   among-value e next h g = on_value_lem (EvaluatedAmong G numbers) (StopsAmong numbers) Err (λ c x. x) e next h g
 
   pub condition-among : (e : Evaluated) → EvaluatedAmong G numbers e → TestStops (StopsAmong numbers) (condition e)
-  condition-among e h = condition-stops G (StopsAmong numbers) (λ z e. integers z) (λ p z g e. pointers _) operations e h
+  condition-among e h =
+      condition-stops G (StopsAmong numbers) (λ z e. integers z) (λ p z g e. pointers _) operations e h
 
   pub operated-among : (live : Liveness) (o : Operator) (a b : Evaluated) → EvaluatedAmong G numbers a
       → EvaluatedAmong G numbers b

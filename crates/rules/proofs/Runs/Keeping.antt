@@ -49,7 +49,8 @@ any-evaluated (Ok v) = tt
 any-evaluated (Err c) = tt
 
 -- what holds by what evaluating gave, by a place, by the sort of a value, by a test
-module _ {A : Type 0} (P : A → Type 0) (C : Stop → Type 0) (stop : Stop → A) (stops : (c : Stop) → C c → P (stop c)) where
+module _ {A : Type 0} (P : A → Type 0) (C : Stop → Type 0) (stop : Stop → A)
+    (stops : (c : Stop) → C c → P (stop c)) where
   pub on_value_lem : {G : Value → Type 0} (e : Evaluated) (next : Value → A) → Gives G C e
       → ((v : Value) → G v → P (next v)) → P (on_value e stop next)
   on_value_lem (Ok v) next h g = g v h
@@ -77,7 +78,8 @@ module _ {A : Type 0} (P : A → Type 0) (C : Stop → Type 0) (stop : Stop → 
   on-test (Ok false) x y h p q = q
   on-test (Err c) x y h p q = stops c h
 
-  pub at-cell : (l : Located) (at : ℕ → A) → C Stop.DeadBlock → C Stop.OutsideBlock → ((i : ℕ) → P (at i)) → P (at_cell at stop l)
+  pub at-cell : (l : Located) (at : ℕ → A) → C Stop.DeadBlock → C Stop.OutsideBlock → ((i : ℕ) → P (at i))
+      → P (at_cell at stop l)
   at-cell (Ok i) at d o g = g i
   at-cell (Err Miss.Dead) at d o g = stops Stop.DeadBlock d
   at-cell (Err Miss.Outside) at d o g = stops Stop.OutsideBlock o
@@ -109,7 +111,8 @@ module _ (J : Memory → Type 0) (D E : Stop → Type 0) (known : (c : Stop) →
   pub store_cell-keeps : (m : Memory) (p : Pointer) (v : Value) → J m
       → ((i : ℕ) → J (set_cell m i (Cell.Holds p.name v))) → ChangeKeeps J E (store_cell m p v)
   store_cell-keeps m p v j g =
-      at-cell (ChangeKeeps J E) E (λ k. stopped k m) (λ c x. (x, j)) (locate m p) _ (known Stop.DeadBlock refl) (known Stop.OutsideBlock refl) g
+      at-cell (ChangeKeeps J E) E (λ k. stopped k m) (λ c x. (x, j)) (locate m p) _ (known Stop.DeadBlock refl)
+      (known Stop.OutsideBlock refl) g
 
   pub assigned-keeps : (m : Memory) (f : Found) (e : Evaluated) → J m → Finds H D f → Gives G D e
       → ((p : Pointer) (v : Value) → H p → G v → (i : ℕ) → J (set_cell m i (Cell.Holds p.name v)))

@@ -120,8 +120,8 @@ pub made_in_lem : {S : Type 0} (J : ℕ → Memory → Type 0) (K : ℕ → S �
 made_in_lem J K E put (made k m) g h = g k m h
 made_in_lem J K E put (unmade c) g h = h
 
-pub asserted-keeps : {S : Type 0} (J : S → Type 0) (E : Stop → Type 0) (x : S) (t : Test) → E Stop.FalseAssertion → J x → TestStops E t
-    → ChangeKeeps J E (asserted x t)
+pub asserted-keeps : {S : Type 0} (J : S → Type 0) (E : Stop → Type 0) (x : S) (t : Test)
+    → E Stop.FalseAssertion → J x → TestStops E t → ChangeKeeps J E (asserted x t)
 asserted-keeps J E x (Ok true) e j h = j
 asserted-keeps J E x (Ok false) e j h = (e, j)
 asserted-keeps J E x (Err c) e j h = (h, j)

@@ -32,8 +32,9 @@ Running = Memory → ℕ → Outcome Memory
 pub data Agree : Outcome Memory → Outcome WatchedState → Type 0 where
   both-finish : {m : Memory} {o : Observation} {τ : Temporaries} {f : ℕ} → o ≡ mirror m → Full τ
       → Agree (finished m f) (finished (watching m o τ) f)
-  both_end : {c : Stop} {s : ℕ} {ρ : Variables} {w w₁ : TreePath} {m : Memory} {o : Observation} {τ : Temporaries} {f : ℕ}
-      → ((stop_number c ≢ 42) × (stop_number c ≢ 50) → o ≡ mirror m) → Agree (ended c s ρ w m f) (ended c s ρ w₁ (watching m o τ) f)
+  both_end : {c : Stop} {s : ℕ} {ρ : Variables} {w w₁ : TreePath} {m : Memory} {o : Observation} {τ : Temporaries}
+      {f : ℕ} → ((stop_number c ≢ 42) × (stop_number c ≢ 50) → o ≡ mirror m)
+      → Agree (ended c s ρ w m f) (ended c s ρ w₁ (watching m o τ) f)
 
 -- a step that does so from every memory
 abbrev pub Agreeing : Running → Watching → Type 0

@@ -21,8 +21,8 @@ ChildNodes l t n r a b c =
 guard_passed : (l : Language) (q : Bool) (x : NodeOf l) → q ≡ true → guarded l q x ≡ x
 guard_passed l q x e = rw e
 
-own-node : (l : Language) (t : List ℕ) (n : ℕ) → 0 < n → n ≤ record_count t → record_fault l t n ≡ Ok tt → (a b c : NodeOf l)
-    → ChildNodes l t n (record_at t n) a b c → node_at l t n ≡ build_node l n (record_at t n) (a ∷ b ∷ c ∷ [])
+own-node : (l : Language) (t : List ℕ) (n : ℕ) → 0 < n → n ≤ record_count t → record_fault l t n ≡ Ok tt
+    → (a b c : NodeOf l) → ChildNodes l t n (record_at t n) a b c → node_at l t n ≡ build_node l n (record_at t n) (a ∷ b ∷ c ∷ [])
 unfolding node_at make_node
 own-node l t n p q z a b c (ea, eb, ec, f) =
     (λ i. node_from l t n (ea i ∷ eb i ∷ ec i ∷ []))
