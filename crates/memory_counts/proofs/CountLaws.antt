@@ -8,6 +8,7 @@ use lib.IntN.{ℤ}
 use lib.ListN.{length, get_or, replicate}
 use mir.Syntax.{w32}
 use mir.Val.{Fits}
+use Rattle.rules.specs.declared.Counts.{Counts}
 use Rattle.rules.specs.Sizes.{name_count, cell_count}
 use Rattle.rules.specs.Checker.{inputs_fault}
 use Rattle.rules.specs.Memory.{Memory, recorded_of, block_of, cell_of, store_cell, is_free, next_name, Use, made, make_block}
@@ -30,31 +31,31 @@ use Rattle.rules_counting.proofs.Adjusting.{Takes, new-takes, end-gives-back, fr
 use Rattle.rules_counting.proofs.Adjusting.{store-blocks}
 use Rattle.rules_counting.proofs.Starting.{start-free, start-next}
 use Rattle.rules_counting.proofs.NextNames.{name-is, new-next, end-next, names-decide}
-use Rattle.memory_counts.specs.Counted.{free_in, next_in, lowest_in, start_counts, after_new, after_end, Counted}
+use Rattle.memory_counts.specs.Counted.{start_counts, after_new, after_end, Counted}
 use Rattle.std.specs.Prelude.{Some}
 
-pub counted_is : {m m₁ : Memory} {c c₁ : List ℕ} → m₁ ≡ m → c₁ ≡ c → Counted m c → Counted m₁ c₁
+pub counted_is : {m m₁ : Memory} {c c₁ : Counts} → m₁ ≡ m → c₁ ≡ c → Counted m c → Counted m₁ c₁
 counted_is p q h = rw (p, q) h
 
-module _ {m : Memory} {c : List ℕ} (h : Counted m c) where
+module _ {m : Memory} {c : Counts} (h : Counted m c) where
   -- a new block, of the n cells from first on
   module _ (u : Use) (n k first : ℕ) (e : make_block m u n ≡ made k (with_block m u k first n))
       (next : next_name m ≡ Some k) (bound : first + n ≤ cell_count) where
     abbrev m₁ : Memory
     m₁ = with_block m u k first n
 
-    named : (next_in c ≡ k) × (next_in c ≤ name_count)
-    named = name-is (next_in c) k (sym h.next ∙ next)
+    named : (c.next ≡ k) × (c.next ≤ name_count)
+    named = name-is c.next k (sym h.next ∙ next)
 
     takes : Takes m n m₁
     takes = subst (MadeKeeps (λ k m₁. Takes m n m₁) AnyNumber) e (new-takes m u n h.invariant)
 
-    pub room-counted : (n ≤ free_in c) × (next_in c ≤ name_count) × (first + n ≤ cell_count)
+    pub room-counted : (n ≤ c.free) × (c.next ≤ name_count) × (first + n ≤ cell_count)
     room-counted = (omega (arith, takes, h.free), named.1, bound)
 
     pub counted-new : Counted m₁ (after_new c first n)
     counted-new =
-        let later : suc k ≡ next_in c + 1 = omega (arith, named.0) in
+        let later : suc k ≡ c.next + 1 = omega (arith, named.0) in
         record {
           invariant = (subst (MadeKeeps (Given m) AnyNumber) e (onward-made m u n h.invariant)).1.invariant;
           free = omega (arith, takes, h.free);
@@ -63,11 +64,11 @@ module _ {m : Memory} {c : List ℕ} (h : Counted m c) where
               ∙ ap name_from later;
           -- a cell of the block is held, any other is as it was
           lowest =
-              none-taken _ _ first (lowest_in c) h.lowest n
+              none-taken _ _ first c.lowest h.lowest n
               (λ j x y. ap is_free (fill-inside m.cells first n _ j Cell.Free (inside j y) x y))
               (λ j x. ap is_free (fill-below m.cells first n _ j Cell.Free x))
               (λ j x b. ap is_free (fill-above m.cells first n _ j Cell.Free x));
-          within = taken-within first n (lowest_in c) bound h.within;
+          within = taken-within first n c.lowest bound h.within;
         }
       where
         inside : (j : ℕ) → j < first + n → j < length m.cells
@@ -78,7 +79,7 @@ module _ {m : Memory} {c : List ℕ} (h : Counted m c) where
     gives_back : count_free (end_block m k).cells ≡ count_free m.cells + n
     gives_back = end-gives-back m k first n h.invariant e
 
-    pub end-counted : free_in c + n ≤ cell_count
+    pub end-counted : c.free + n ≤ cell_count
     end-counted = omega (arith, h.free, gives_back, free_bound (end_block m k) (end-invariant m k h.invariant))
 
     pub counted-end : Counted (without_cells m k (Recorded.Live first n)) (after_end c first n)
@@ -90,10 +91,10 @@ module _ {m : Memory} {c : List ℕ} (h : Counted m c) where
           next = end-next m k ∙ h.next;
           lowest =
               subst (λ (r : Recorded). NoneBelow (λ i. is_free (cell_of (without_cells m k r) i))
-              (lowest_given first (lowest_in c))) (sym e)
-              (none-given _ _ first (lowest_in c) h.lowest
+              (lowest_given first c.lowest)) (sym e)
+              (none-given _ _ first c.lowest h.lowest
               (λ j x. ap is_free (fill-below m.cells first n _ j Cell.Free x)));
-          within = given-within first (lowest_in c) h.within;
+          within = given-within first c.lowest h.within;
         })
 
   -- a store
@@ -132,7 +133,7 @@ start-held inputs (suc j) b = go inputs j b
     go (z ∷ zs) zero b = refl
     go (z ∷ zs) (suc j) b = go zs j (omega arith)
 
-pub counted_start : (i l : List ℕ) {c : List ℕ} → inputs_fault i ≡ false → l ≡ memory_image (start_memory (inputs_of i))
+pub counted_start : (i l : List ℕ) {c : Counts} → inputs_fault i ≡ false → l ≡ memory_image (start_memory (inputs_of i))
     → c ≡ start_counts (length i / 8) → Counted (memory_of l) c
 counted_start i l e s q =
     let few = inputs-few i e in
@@ -147,5 +148,5 @@ counted_start i l e s q =
     })
 
 -- and what an answer tells
-pub free-fits : {m : Memory} {c : List ℕ} → Counted m c → Fits w32 (free_in c)
+pub free-fits : {m : Memory} {c : Counts} → Counted m c → Fits w32 c.free
 free-fits {m} h = record { fits = omega (arith, h.free, free_bound m h.invariant) }
