@@ -2,8 +2,7 @@
 use Prim.Native.Nat.{ℕ, ◌+◌, ◌-◌, ◌≤◌, ◌<◌}
 use native.Mathlib.Omega.{arith}
 use mathlib.Core.Path.{◌≡◌, sym, ap, ◌∙◌}
-use mathlib.Core.Logic.{◌≢◌}
-use mathlib.Core.Bool.{Bool, true, true≢false}
+use mathlib.Core.Bool.{Bool, true, false, true≢false}
 use mathlib.Core.List.{List}
 use lib.Dec.{eqb}
 use lib.ListN.{get_or}
@@ -11,7 +10,7 @@ use Rattle.rules.specs.Sizes.{name_count, cell_count}
 use Rattle.rules.specs.Words.{word_at}
 use Rattle.rules.specs.Observation.{record_of, covers}
 use Rattle.rules.specs.Layout.{block_place, recorded_at, observation_of}
-use Rattle.rules.specs.declared.{Recorded.Recorded}
+use Rattle.rules.specs.declared.{MarkOwners.MarkOwners, Recorded.Recorded}
 use Rattle.rules.proofs.Lists.RunLaws.{Held}
 use Rattle.rules.proofs.Memory.MemoryLaws.{named_in}
 use Rattle.rules.proofs.Memory.BlockEnds.{record-covers}
@@ -19,16 +18,16 @@ use Rattle.rules.proofs.Memory.MarkOwners.{MarksOwned, owner-covers, owner-held}
 use Rattle.observation_records.proofs.ObservationLaws.{record-count, record-of-name}
 use Rattle.block_places.specs.Ends.{end_at}
 
-abbrev pub unowned : List ℕ → ℕ → Bool
-unowned owners i = eqb (get_or owners i 0) 0
+abbrev pub unowned : MarkOwners → ℕ → Bool
+unowned owners i = eqb (get_or owners.names i 0) 0
 
-module _ (l owners : List ℕ) (i : ℕ) (h : MarksOwned (observation_of l) owners) (b : i < cell_count)
-    (f : get_or owners i 0 ≢ 0) where
+module _ (l : List ℕ) (owners : MarkOwners) (i : ℕ) (h : MarksOwned (observation_of l) owners) (b : i < cell_count)
+    (f : unowned owners i ≡ false) where
   abbrev owner : ℕ
-  owner = get_or owners i 0
+  owner = get_or owners.names i 0
 
   has : covers (record_of (observation_of l) owner) i ≡ true
-  has = owner-covers h i b f
+  has = owner-covers h i b (λ q. true≢false (sym (ap (λ (x : ℕ). eqb x 0) q) ∙ f))
 
   pub owner-named : (1 ≤ owner) × (owner ≤ name_count)
   owner-named =
