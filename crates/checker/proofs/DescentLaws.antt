@@ -1,17 +1,19 @@
 -- From the last record down: what is noted of a record is right once its parent has been passed.
+use Rattle.rules.specs.declared.{Language.Language}
 use Prim.Native.Nat.{ℕ, ◌-◌, ◌/◌, ◌%◌, ◌<◌, ◌≤◌}
 use native.Mathlib.Omega.{arith}
 use native.Mathlib.Decide.{dec_lt}
 use mathlib.Core.Bool.{Bool, cond}
 use mathlib.Core.List.{List}
 use mathlib.Core.Path.{◌≡◌, refl, sym, ap, subst, ◌∙◌}
-use borrow.Author.Tests.{ltb-false, lt-ltb, le-ltb}
+use borrow.Author.Tests.{lt-ltb, le-ltb}
 use lib.Dec.{ltb}
 use lib.ListN.{length, get_or}
 use Rattle.rules.specs.Records.{record_count, kind_of, child_a, child_b, child_c}
-use Rattle.rules.specs.Kinds.{Language, Field}
+use Rattle.rules.specs.Kinds.{Field}
 use Rattle.rules.specs.Checker.{record_fault, shape_fault, times_in, times_child_of}
 use Rattle.rules.proofs.Acceptance.ParentLaws.{Passed, IsParent, parent_above, has-parent, child-once, times-both}
+use Rattle.rules.proofs.Acceptance.SaidLaws.{no-err-kept}
 use Rattle.rules.proofs.Acceptance.CheckLaws.{each-passes}
 use Rattle.checker_forms.specs.Codes.{field_from, Coded}
 use Rattle.checker.specs.Searches.{put_in, put_three}
@@ -21,12 +23,7 @@ use Rattle.checker.proofs.TimesLaws.{times-as}
 use Rattle.std.specs.Prelude.{Ok, is_err}
 
 pub no-fault : (l : Language) (t : List ℕ) → Formed l t → (n : ℕ) → 1 ≤ n → n ≤ record_count t → record_fault l t n ≡ Ok tt
-no-fault l t h n a b =
-    omega (
-      arith,
-      ltb-false 0 (record_fault l t n)
-          (each-passes t (λ n. is_err (record_fault l t n)) h.records n a b),
-    )
+no-fault l t h n a b = no-err-kept (record_fault l t n) (each-passes t (λ n. is_err (record_fault l t n)) h.records n a b)
 
 pub passed-of : (l : Language) (t : List ℕ) → Kept l t → Passed l t
 passed-of l t h = record {

@@ -1,4 +1,5 @@
 -- Rule 6 at a record.
+use Rattle.rules.specs.declared.{Language.Language}
 use Prim.Native.Nat.{ℕ}
 use mathlib.Core.Bool.{Bool, true, false, not}
 use mathlib.Core.List.{List}
@@ -6,7 +7,6 @@ use mathlib.Core.Path.{◌≡◌, refl, sym, ◌∙◌}
 use borrow.Author.Tests.{eq-eqb, ne_eqb}
 use lib.Dec.{eqb}
 use Rattle.rules.specs.Records.{record_count, kind_of}
-use Rattle.rules.specs.Kinds.{Language}
 use Rattle.rules.specs.Checker.{sort_of, times_child, shape_fault}
 
 abbrev pick_shape : Bool → Bool → Bool → Bool

@@ -1,4 +1,5 @@
 -- Notes and levels before any record is passed.
+use Rattle.rules.specs.declared.{Language.Language}
 use Prim.Native.Nat.{ℕ, ◌<◌}
 use native.Mathlib.Omega.{arith}
 use native.Mathlib.Decide.{dec_lt}
@@ -6,18 +7,17 @@ use mathlib.Core.List.{List}
 use mathlib.Core.Path.{◌≡◌}
 use lib.ListN.{get_or, replicate, length-replicate, get_or-replicate, get_or-eq_default}
 use Rattle.rules.specs.Records.{record_count}
-use Rattle.rules.specs.Kinds.{Language, source}
 use Rattle.checker.specs.Searches.{level_count}
 use Rattle.checker.specs.Scopes.{Formed, Kept, Ready}
 use Rattle.checker.proofs.DescentLaws.{passed-of, Known, known_start, Fresh}
 use Rattle.checker.proofs.RightLaws.{Levelled, levelled-last}
 
-pub levels-start : (t : List ℕ) → Kept source t → (k : ℕ) → k ≡ level_count
-    → Known (Levelled t) source t (record_count t) (replicate k 0)
+pub levels-start : (t : List ℕ) → Kept Language.Source t → (k : ℕ) → k ≡ level_count
+    → Known (Levelled t) Language.Source t (record_count t) (replicate k 0)
 levels-start t kept k e =
     let room : record_count t < k = omega (arith, kept.formed.sized.few) in
-    known_start (Levelled t) source t (replicate k 0) (omega (arith, length-replicate {A = ℕ} k 0))
-    (levelled-last t (passed-of source t kept) (get_or (replicate k 0) (record_count t) 0)
+    known_start (Levelled t) Language.Source t (replicate k 0) (omega (arith, length-replicate {A = ℕ} k 0))
+    (levelled-last t (passed-of Language.Source t kept) (get_or (replicate k 0) (record_count t) 0)
     (get_or-replicate k (record_count t) 0 0 room))
 
 nothing-noted : (k j : ℕ) → ◌≡◌ {A = ℕ} (get_or (replicate k 0) j 0) 0

@@ -1,4 +1,5 @@
 -- What is noted of a record tells how many parents were met: none, one, or more.
+use Rattle.rules.specs.declared.{Language.Language}
 use Prim.Native.Nat.{ℕ, zero, suc, ◌+◌, ◌-◌, ◌%◌, ◌<◌, ◌≤◌}
 use native.Mathlib.Omega.{arith}
 use native.Mathlib.Decide.{dec_lt}
@@ -10,7 +11,6 @@ use lib.Dec.{eqb, ltb}
 use lib.ListN.{length, get_or, set, length-set}
 use lib.Seq.{get_or-set_same, get_or-set_other}
 use Rattle.rules.specs.Records.{record_count}
-use Rattle.rules.specs.Kinds.{Language}
 use Rattle.rules.specs.Checker.{times_child_of, times_child, shape_fault}
 use Rattle.rules.proofs.Acceptance.ParentLaws.{Passed, child-below, child-once, child-single, times-suc, times_none}
 use Rattle.rules.proofs.Acceptance.ParentLaws.{times-least}

@@ -1,4 +1,5 @@
 -- How often a record is a child of another, by what its kind's number asks.
+use Rattle.rules.specs.declared.{Language.Language, Record.Record}
 use Prim.Native.Nat.{ℕ, zero, suc, ◌+◌, ◌/◌, ◌%◌, ◌<◌, ◌≤◌}
 use native.Mathlib.Omega.{arith}
 use native.Mathlib.Decide.{ℕ_discrete}
@@ -11,8 +12,8 @@ use borrow.Author.Tests.{eqb-true}
 use lib.Dec.{eqb}
 use lib.ListN.{length, get_or}
 use Rattle.rules.specs.Sizes.{target_limit}
-use Rattle.rules.specs.Records.{Record, kind_of, child_a, child_b, child_c, record_at}
-use Rattle.rules.specs.Kinds.{Language, Field, Form}
+use Rattle.rules.specs.Records.{kind_of, child_a, child_b, child_c, record_at}
+use Rattle.rules.specs.Kinds.{Field, Form}
 use Rattle.rules.specs.Checker.{field_fits, record_fault, times_in, times_of, times_child_of, times_child}
 use Rattle.rules.proofs.Acceptance.ParentLaws.{times-in-all, times-suc, same-yes, child-below}
 use Rattle.checker_forms.specs.Codes.{field_from, entry, decoded, Coded}

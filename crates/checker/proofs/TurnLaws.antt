@@ -1,4 +1,5 @@
 -- The pass for rules 6 and 7, record by record: what is known after the records above n.
+use Rattle.rules.specs.declared.{Language.Language}
 use Prim.Native.Nat.{ℕ, ◌-◌, ◌%◌, ◌<◌, ◌≤◌}
 use native.Mathlib.Omega.{arith}
 use mathlib.Core.Bool.{Bool, false, cond, ◌&&◌, ◌||◌}
@@ -8,7 +9,8 @@ use borrow.Author.Tests.{eqb-false}
 use lib.Dec.{eqb}
 use lib.ListN.{get_or, set}
 use Rattle.rules.specs.Records.{record_count, kind_of, mark_of}
-use Rattle.rules.specs.Kinds.{Language}
+use Rattle.std.specs.Prelude.{None, Some}
+use Rattle.rules.specs.Types.{Search}
 use Rattle.rules.specs.Checker.{shape_fault, scope_fault}
 use Rattle.checker.specs.Scopes.{bit, out_of_scope, Noted, Formed, Kept, Ready, Found}
 use Rattle.checker.proofs.DescentLaws.{no-fault, passed-of, Known, known_start, known-here, known-down}
@@ -17,7 +19,7 @@ use Rattle.checker.proofs.RightLaws.{Scoped, scoped-last, scoped-child, scoped-f
 use Rattle.checker.proofs.Lowest.{Lowest, lowest_start, lowest-down, lowest-end}
 
 -- scopes are right where no record is misshapen
-pub record Passing (l : Language) (t : List ℕ) (notes : List ℕ) (misshapen hidden n : ℕ) : Type 0 where
+pub record Passing (l : Language) (t : List ℕ) (notes : List ℕ) (misshapen hidden : Search) (n : ℕ) : Type 0 where
   pub within : n ≤ record_count t
   pub tallied : Tallied l t n notes
   pub known : Kept l t → Known (Scoped l t) l t n notes
@@ -26,7 +28,7 @@ pub record Passing (l : Language) (t : List ℕ) (notes : List ℕ) (misshapen h
 
 pub passing-start : (l : Language) (t notes : List ℕ) (v : ℕ) → Ready l t notes
     → v ≡ cond (shape_fault l t (record_count t)) 0 1
-    → Passing l t (set notes (record_count t) v) 0 0 (record_count t)
+    → Passing l t (set notes (record_count t) v) None None (record_count t)
 passing-start l t notes v h e =
     let tallied = tallied-start l t notes v h e in
     record {
@@ -46,10 +48,10 @@ odd-of-even : (v : ℕ) → eqb (v % 2) 0 ≡ false → v % 2 ≡ 1
 odd-of-even v e = omega (arith, eqb-false (v % 2) 0 e)
 
 -- record n: its own faults, and scope s below it noted of its children
-pub passing-down : (l : Language) (t : List ℕ) → Formed l t → (notes notes' : List ℕ) (misshapen misshapen' : ℕ)
-    (hidden hidden' n s : ℕ) (out : Bool) → 0 < n → Passing l t notes misshapen hidden n
-    → misshapen' ≡ cond (eqb (get_or notes n 0 % 2) 0) n misshapen
-    → out ≡ out_of_scope (kind_of t n) (mark_of t n) (get_or notes n 0) → hidden' ≡ cond out n hidden → s % 2 ≡ 1
+pub passing-down : (l : Language) (t : List ℕ) → Formed l t → (notes notes' : List ℕ) (misshapen misshapen' : Search)
+    (hidden hidden' : Search) (n s : ℕ) (out : Bool) → 0 < n → Passing l t notes misshapen hidden n
+    → misshapen' ≡ cond (eqb (get_or notes n 0 % 2) 0) (Some n) misshapen
+    → out ≡ out_of_scope (kind_of t n) (mark_of t n) (get_or notes n 0) → hidden' ≡ cond out (Some n) hidden → s % 2 ≡ 1
     → (get_or notes n 0 % 2 ≡ 1
     → (y : ℕ) → bit s y ≡ ((eqb (kind_of t n) 47 && eqb (mark_of t n) y) || bit (get_or notes n 0) y))
     → Noted l t n s notes notes' → Passing l t notes' misshapen' hidden' (n - 1)
@@ -74,7 +76,7 @@ passing-down l t formed notes notes' misshapen misshapen' hidden hidden' n s out
           (eo ∙ scoped-fault l t n scope (no-fault l t formed n a h.within) (here kept)) eh (h.scopes kept);
     }
 
-pub passing-end : (l : Language) (t : List ℕ) → Formed l t → (notes : List ℕ) (misshapen hidden n : ℕ) → n ≡ 0
+pub passing-end : (l : Language) (t : List ℕ) → Formed l t → (notes : List ℕ) (misshapen hidden : Search) (n : ℕ) → n ≡ 0
     → Passing l t notes misshapen hidden n → Found l t misshapen hidden
 passing-end l t formed notes misshapen hidden n e h = record {
   formed = formed;

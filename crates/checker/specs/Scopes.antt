@@ -1,13 +1,14 @@
 -- Variables in scope as the bits of a number, and what is noted below a record.
+use Rattle.rules.specs.declared.{Language.Language}
 use Rattle.std.specs.Prelude.{ℕ, zero, suc, ◌/◌, ◌%◌, ◌<◌, ◌≤◌, Bool, true, false, not, cond, List, ◌≡◌, eqb, ltb, leb, length, get_or}
 use Rattle.rules.specs.Sizes.{temporary_count}
 use Rattle.rules.specs.Records.{fields_of, record_count, kind_of, record_at}
-use Rattle.rules.specs.Kinds.{Language, record_limit}
+use Rattle.rules.specs.Kinds.{record_limit}
 use Rattle.rules.specs.Checker.{lowest_record, record_fault, times_child_of, shape_fault, scope_fault, is_term_or_predicate}
 use Rattle.rules.specs.Checker.{level_below, position_in, highest_named}
-use Rattle.checker.specs.Searches.{search_of, noted}
+use Rattle.checker.specs.Searches.{noted}
 use Rattle.std.specs.Prelude.{None}
-use Rattle.rules.specs.Types.{Found}
+use Rattle.rules.specs.Types.{Search}
 use Rattle.std.specs.Prelude.{is_err}
 
 unfoldable pub bit : ℕ → ℕ → Bool
@@ -55,10 +56,10 @@ pub record Ready (l : Language) (t notes : List ℕ) : Type 0 where
   pub nothing : (j : ℕ) → get_or notes j 0 ≡ 0
 
 -- the lowest records that break 6 and 7, the second being right where no record breaks 6
-pub record Found (l : Language) (t : List ℕ) (misshapen hidden : ℕ) : Type 0 where
+pub record Found (l : Language) (t : List ℕ) (misshapen hidden : Search) : Type 0 where
   pub formed : Formed l t
-  pub shapes : lowest_record t (shape_fault l t) ≡ search_of misshapen
-  pub scopes : Kept l t → lowest_record t (scope_fault l t) ≡ search_of hidden
+  pub shapes : lowest_record t (shape_fault l t) ≡ misshapen
+  pub scopes : Kept l t → lowest_record t (scope_fault l t) ≡ hidden
 
 -- the level of child j of record n, which is at level v
 abbrev pub child_level : List ℕ → ℕ → ℕ → ℕ → ℕ

@@ -1,15 +1,8 @@
--- A record that is looked for, as a number; and what is noted of records that are children.
+-- What is noted of records that are children.
 use Rattle.std.specs.Prelude.{ℕ, zero, suc, ◌/◌, ◌%◌, ◌<◌, ◌≤◌, cond, ◌||◌, List, eqb, length, get_or, set}
 use Rattle.rules.specs.Sizes.{source_limit, target_limit}
-use Rattle.rules.specs.Types.{Search}
 use Rattle.rules.specs.Kinds.{Field, unnamed, child, number}
 use Rattle.checker_forms.specs.Codes.{field_from}
-use Rattle.std.specs.Prelude.{None, Some}
-
--- 0 is none
-abbrev pub search_of : ℕ → Search
-search_of zero = None
-search_of (suc n) = Some (suc n)
 
 -- a level for each record of the longest source table, and for 0
 abbrev pub level_count : ℕ

@@ -1,15 +1,14 @@
 // What a record gives to its children.
 ghost use Rattle.std.specs.Prelude.{◌≡◌, ℕ, ◌<◌, length, get_or};
 ghost use Rattle.rules.specs.Records.{record_count, kind_of};
-ghost use Rattle.rules.specs.Kinds.{source};
 ghost use Rattle.rules.specs.Checker.{times_child_of};
 ghost use Rattle.table.specs.Within.{Within};
-ghost use Rattle.checker_forms.specs.Codes.{language_of};
 ghost use Rattle.checker.specs.Searches.{level_count, third_child};
 ghost use Rattle.checker.specs.Scopes.{Given, Noted, Formed, child_level};
 
 use super::levels::child_level;
 use super::notes::{Levels, note_children, put_children};
+use rules::Language;
 
 // Once rules 3 to 5 are kept, what stands in A and B is a child or 0; C may be a query.
 fn third_child(kind: u8, x: usize) -> usize
@@ -25,10 +24,10 @@ fn third_child(kind: u8, x: usize) -> usize
 }
 
 // The same scope to each.
-pub fn pass_scope(target: bool, table: &[u8], n: usize, scope: u64, notes: &mut [u64])
-    requires { Within table.now n × Formed (language_of target) table.now
+pub fn pass_scope(language: Language, table: &[u8], n: usize, scope: u64, notes: &mut [u64])
+    requires { Within table.now n × Formed language table.now
         × (record_count table.now < length notes.old) }
-    ensures { Noted (language_of target) table.now n scope notes.old notes.new }
+    ensures { Noted language table.now n scope notes.old notes.new }
 {
     let a = table::child_a(table, n);
     let b = table::child_b(table, n);
@@ -40,7 +39,7 @@ pub fn pass_scope(target: bool, table: &[u8], n: usize, scope: u64, notes: &mut 
 fn put_levels(table: &[u8], n: usize, kind: u8, level: u16, levels: &mut Levels)
     requires { Within table.now n × (kind ≡ kind_of table.now n) × (length levels.old ≡ level_count)
         × (level < 2048) }
-    ensures { Given source table.now n (child_level table.now n level)
+    ensures { Given Language.Source table.now n (child_level table.now n level)
         levels.old levels.new }
 {
     let a = table::child_a(table, n);
@@ -51,7 +50,7 @@ fn put_levels(table: &[u8], n: usize, kind: u8, level: u16, levels: &mut Levels)
     let w = child_level(kind, a, b, c, c, level);
     put_children(
         levels,
-        checker_forms::form_of(false, kind),
+        checker_forms::form_of(Language::Source, kind),
         a,
         b,
         c,
@@ -64,8 +63,8 @@ fn put_levels(table: &[u8], n: usize, kind: u8, level: u16, levels: &mut Levels)
 // Another record's children have level 0, which is there from the start.
 pub fn pass_level(table: &[u8], n: usize, level: u16, levels: &mut Levels)
     requires { Within table.now n × (length levels.old ≡ level_count) × (level < 2048)
-        × ((j : ℕ) → 0 < times_child_of source table.now n j → get_or levels.old j 0 ≡ 0) }
-    ensures { Given source table.now n (child_level table.now n level)
+        × ((j : ℕ) → 0 < times_child_of Language.Source table.now n j → get_or levels.old j 0 ≡ 0) }
+    ensures { Given Language.Source table.now n (child_level table.now n level)
         levels.old levels.new }
 {
     let kind = table::kind(table, n);

@@ -11,16 +11,17 @@ mod scopes;
 mod searches;
 mod shapes;
 
-ghost use Rattle.std.specs.Prelude.{◌≡◌, ◌≤◌};
-ghost use Rattle.rules.specs.Sizes.{source_limit};
+ghost use Rattle.std.specs.Prelude.{◌≡◌, ◌≤◌, ◌<◌};
+ghost use Rattle.rules.specs.Sizes.{source_limit, target_limit};
 ghost use Rattle.rules.specs.Records.{record_count};
-ghost use Rattle.rules.specs.Kinds.{source, target, record_limit};
-ghost use Rattle.rules.specs.Checker.{check};
-ghost use Rattle.checker_forms.specs.Codes.{language_of};
+ghost use Rattle.rules.specs.Kinds.{record_limit};
+ghost use Rattle.rules.specs.Checker.{record_fault, refused_at, check};
+ghost use Rattle.table.specs.Within.{Within};
+ghost use Rattle.checker_forms.specs.Codes.{Before};
 ghost use Rattle.checker.specs.Scopes.{Sized, Formed};
 ghost use Rattle.checker.specs.Order.{from_shapes, from_records};
 
-use rules::{Checked, SOURCE_LIMIT, TARGET_LIMIT};
+use rules::{Checked, Language, Refusal, Rule, SOURCE_LIMIT, TARGET_LIMIT};
 
 // How many records have their notes in a shorter array, which is sooner cleared.
 const SMALL_LIMIT: usize = 64;
@@ -28,107 +29,116 @@ const SMALL_LIMIT: usize = 64;
 const MIDDLE_LIMIT: usize = 1024;
 
 // Rules 6 to 8, with notes for a small table.
-fn check_small(target: bool, table: &[u8]) -> Checked
-    requires { Formed (language_of target) table.now × (record_count table.now ≤ 64) }
-    ensures { result ≡ from_shapes (language_of target) table.now }
+fn check_small(language: Language, table: &[u8]) -> Checked
+    requires { Formed language table.now × (record_count table.now ≤ 64) }
+    ensures { result ≡ from_shapes language table.now }
 {
     let mut notes = [0u64; SMALL_LIMIT + 1];
-    shapes::check_shapes(target, table, &mut notes[..])
+    shapes::check_shapes(language, table, &mut notes[..])
 }
 
 // With notes for the longest source table.
-fn check_short(target: bool, table: &[u8]) -> Checked
-    requires { Formed (language_of target) table.now × (record_count table.now ≤ source_limit) }
-    ensures { result ≡ from_shapes (language_of target) table.now }
+fn check_short(language: Language, table: &[u8]) -> Checked
+    requires { Formed language table.now × (record_count table.now ≤ source_limit) }
+    ensures { result ≡ from_shapes language table.now }
 {
     let mut notes = [0u64; SOURCE_LIMIT + 1];
-    shapes::check_shapes(target, table, &mut notes[..])
+    shapes::check_shapes(language, table, &mut notes[..])
 }
 
 // With notes for most target tables.
-fn check_middle(target: bool, table: &[u8]) -> Checked
-    requires { Formed (language_of target) table.now × (record_count table.now ≤ 1024) }
-    ensures { result ≡ from_shapes (language_of target) table.now }
+fn check_middle(language: Language, table: &[u8]) -> Checked
+    requires { Formed language table.now × (record_count table.now ≤ 1024) }
+    ensures { result ≡ from_shapes language table.now }
 {
     let mut notes = [0u64; MIDDLE_LIMIT + 1];
-    shapes::check_shapes(target, table, &mut notes[..])
+    shapes::check_shapes(language, table, &mut notes[..])
 }
 
 // With notes for a table of any length.
-fn check_long(target: bool, table: &[u8]) -> Checked
-    requires { Formed (language_of target) table.now }
-    ensures { result ≡ from_shapes (language_of target) table.now }
+fn check_long(language: Language, table: &[u8]) -> Checked
+    requires { Formed language table.now }
+    ensures { result ≡ from_shapes language table.now }
 {
     let mut notes = [0u64; TARGET_LIMIT + 1];
-    shapes::check_shapes(target, table, &mut notes[..])
+    shapes::check_shapes(language, table, &mut notes[..])
 }
 
 // A short table has few notes to clear.
-fn check_formed(target: bool, table: &[u8]) -> Checked
-    requires { Formed (language_of target) table.now }
-    ensures { result ≡ from_shapes (language_of target) table.now }
+fn check_formed(language: Language, table: &[u8]) -> Checked
+    requires { Formed language table.now }
+    ensures { result ≡ from_shapes language table.now }
 {
     if table.len() / 16 <= SMALL_LIMIT {
-        return check_small(target, table);
+        return check_small(language, table);
     }
     if table.len() / 16 <= SOURCE_LIMIT {
-        return check_short(target, table);
+        return check_short(language, table);
     }
     if table.len() / 16 <= MIDDLE_LIMIT {
-        return check_middle(target, table);
+        return check_middle(language, table);
     }
-    check_long(target, table)
+    check_long(language, table)
+}
+
+// Rules 3 to 5 at a record.
+fn check_record(language: Language, table: &[u8], n: usize) -> Checked
+    requires { Within table.now n × Before language table.now n × (n ≤ target_limit) }
+    ensures { result ≡ refused_at n (record_fault language table.now n) }
+{
+    checker_forms::record_fault(language, table, n).map_err(|rule| Refusal {
+        rule,
+        record: n as u32,
+    })
 }
 
 // Rules 3 to 8.
-fn check_records(target: bool, table: &[u8]) -> Checked
-    requires { Sized (language_of target) table.now }
-    ensures { result ≡ from_records (language_of target) table.now }
+fn check_records(language: Language, table: &[u8]) -> Checked
+    requires { Sized language table.now }
+    ensures { result ≡ from_records language table.now }
 {
-    let mut n = 0;
-    while n < table.len() / 16 {
-        n += 1;
-        let rule = checker_forms::record_fault(target, table, n);
-        if rule != 0 {
-            return answers::refuse(rule, n);
-        }
+    for n in 1..=table.len() / 16 {
+        check_record(language, table, n)?;
     }
-    check_formed(target, table)
+    check_formed(language, table)
 }
 
-fn limit(target: bool) -> usize
-    ensures { result ≡ record_limit (language_of target) }
+fn limit(language: Language) -> usize
+    ensures { result ≡ record_limit language }
 {
-    if target {
-        return TARGET_LIMIT;
+    match language {
+        Language::Source => SOURCE_LIMIT,
+        Language::Target => TARGET_LIMIT,
     }
-    SOURCE_LIMIT
 }
 
 // Rules 1 to 8.
-fn check_table(target: bool, table: &[u8]) -> Checked
-    ensures { result ≡ check (language_of target) table.now }
+fn check_table(language: Language, table: &[u8]) -> Checked
+    ensures { result ≡ check language table.now }
 {
-    if table.len() == 0 {
-        return Checked::Refused(1, 0);
+    if table.len() == 0 || table.len() % 16 != 0 {
+        return Err(Refusal {
+            rule: Rule::Length,
+            record: 0,
+        });
     }
-    if table.len() % 16 != 0 {
-        return Checked::Refused(1, 0);
+    if limit(language) < table.len() / 16 {
+        return Err(Refusal {
+            rule: Rule::Count,
+            record: 0,
+        });
     }
-    if limit(target) < table.len() / 16 {
-        return Checked::Refused(2, 0);
-    }
-    check_records(target, table)
+    check_records(language, table)
 }
 
 pub fn check_source(table: &[u8]) -> Checked
-    ensures { result ≡ check source table.now }
+    ensures { result ≡ check Language.Source table.now }
 {
-    check_table(false, table)
+    check_table(Language::Source, table)
 }
 
 pub fn check_target(table: &[u8]) -> Checked
-    ensures { result ≡ check target table.now }
+    ensures { result ≡ check Language.Target table.now }
 {
-    check_table(true, table)
+    check_table(Language::Target, table)
 }

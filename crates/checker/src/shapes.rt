@@ -2,7 +2,6 @@
 ghost use Rattle.std.specs.Prelude.{◌≡◌, cond};
 ghost use Rattle.rules.specs.Records.{record_count};
 ghost use Rattle.rules.specs.Checker.{shape_fault};
-ghost use Rattle.checker_forms.specs.Codes.{language_of};
 ghost use Rattle.checker.specs.Scopes.{Formed, Ready};
 ghost use Rattle.checker.specs.Order.{from_shapes};
 
@@ -10,12 +9,12 @@ use super::answers::conclude;
 use super::descent::pass_scope;
 use super::scopes::{is_out_of_scope, scope_below};
 use super::searches::lower;
-use rules::Checked;
+use rules::{Checked, Language};
 
 // The last record is no child. As a statement it has variable 0 alone in scope; otherwise it is noted as misshapen.
-fn last_note(target: bool, table: &[u8]) -> u64
-    requires { Formed (language_of target) table.now }
-    ensures { result ≡ cond (shape_fault (language_of target) table.now (record_count table.now))
+fn last_note(language: Language, table: &[u8]) -> u64
+    requires { Formed language table.now }
+    ensures { result ≡ cond (shape_fault language table.now (record_count table.now))
         0 1 }
 {
     let n = table.len() / 16;
@@ -26,22 +25,21 @@ fn last_note(target: bool, table: &[u8]) -> u64
 }
 
 // Rules 6 to 8. A record is misshapen where its note is even.
-pub fn check_shapes(target: bool, table: &[u8], notes: &mut [u64]) -> Checked
-    requires { Ready (language_of target) table.now notes.old }
-    ensures { result ≡ from_shapes (language_of target) table.now }
+pub fn check_shapes(language: Language, table: &[u8], notes: &mut [u64]) -> Checked
+    requires { Ready language table.now notes.old }
+    ensures { result ≡ from_shapes language table.now }
 {
-    let mut misshapen = 0;
-    let mut hidden = 0;
-    let mut n = table.len() / 16;
-    notes[n] = last_note(target, table);
-    while 0 < n {
+    let count = table.len() / 16;
+    notes[count] = last_note(language, table);
+    let mut misshapen = None;
+    let mut hidden = None;
+    for n in (1..=count).rev() {
         let kind = table::kind(table, n);
         let mark = table::mark(table, n);
         let scope = notes[n];
         misshapen = lower(scope % 2 == 0, n, misshapen);
         hidden = lower(is_out_of_scope(kind, mark, scope), n, hidden);
-        pass_scope(target, table, n, scope_below(kind, mark, scope), notes);
-        n -= 1;
+        pass_scope(language, table, n, scope_below(kind, mark, scope), notes);
     }
-    conclude(target, table, misshapen, hidden)
+    conclude(language, table, misshapen, hidden)
 }

@@ -1,4 +1,5 @@
 -- The tables of forms are those of the rules: one computation for each language.
+use Rattle.rules.specs.declared.{Language.Language}
 use Prim.Native.Nat.{ℕ, zero, suc, ◌+◌, ◌/◌, ◌%◌, ◌<◌}
 use native.Mathlib.Omega.{arith}
 use mathlib.Core.Bool.{Bool, true, false, cond, ◌&&◌, ◌||◌}
@@ -9,7 +10,7 @@ use borrow.Author.Tests.{eq-eqb, ne_eqb, eqb-true, ltb-true}
 use native.Mathlib.Nat.{zero-add}
 use lib.Dec.{eqb, ltb}
 use lib.ListN.{get_or}
-use Rattle.rules.specs.Kinds.{Language, source, target, sort_number, Form, forms, look_up, form_of}
+use Rattle.rules.specs.Kinds.{sort_number, Form, forms, look_up, form_of}
 use Rattle.rules.specs.Checker.{form_sort, sort_of}
 use Rattle.rules.proofs.Acceptance.ParentLaws.{two-pass, three-pass}
 use Rattle.checker_forms.specs.Codes.{sort_from, test_from, field_from, literal_from, entry, decoded}
@@ -36,8 +37,8 @@ target_codes =
     0x570002 ∷ []
 
 abbrev codes : Language → List ℕ
-codes source = source_codes
-codes target = target_codes
+codes Language.Source = source_codes
+codes Language.Target = target_codes
 
 -- the forms of a table, its first entry being that of kind j
 abbrev listed : ℕ → List ℕ → List Form
@@ -46,8 +47,8 @@ listed j (x ∷ xs) = elim (eqb x 0) [ true ↦ listed (suc j) xs | false ↦ en
 
 every-form : (l : Language) → listed 0 (codes l) ≡ forms l
 unfolding sort_from test_from field_from literal_from
-every-form source = refl
-every-form target = refl
+every-form Language.Source = refl
+every-form Language.Target = refl
 
 -- a kind that stands before a table's first has no form there, and one of the table the one of its entry
 look-below : (xs : List ℕ) (j k : ℕ) → k < j → look_up k (listed j xs) ≡ none
@@ -113,15 +114,15 @@ right_sort k x = eqb (cond (eqb x 0) 0 (sort_number (sort_from (x / 1048576)))) 
 
 every-sort : (l : Language) → every right_sort 0 (codes l) ≡ true
 unfolding sort_from
-every-sort source = refl
-every-sort target = refl
+every-sort Language.Source = refl
+every-sort Language.Target = refl
 
 abbrev sort_in_place : ℕ → ℕ → Bool
 sort_in_place k x = eqb x 0 || eqb (x / 1048576) (sort_by k)
 
 every-place : (l : Language) → every sort_in_place 0 (codes l) ≡ true
-every-place source = refl
-every-place target = refl
+every-place Language.Source = refl
+every-place Language.Target = refl
 
 decoded-sort : (k x : ℕ) → form_sort (decoded k x) ≡ cond (eqb x 0) 0 (sort_number (sort_from (x / 1048576)))
 unfolding decoded
@@ -151,8 +152,8 @@ child_digits k x =
     && elim (eqb k 63 || eqb k 64) [ true ↦ eqb x 0 || ltb 5 (x / 16 % 16) | false ↦ ltb (x / 16 % 16) 6 ]
 
 every-digit : (l : Language) → every child_digits 0 (codes l) ≡ true
-every-digit source = refl
-every-digit target = refl
+every-digit Language.Source = refl
+every-digit Language.Target = refl
 
 no_digit : (k : ℕ) → child_digits k 0 ≡ true
 no_digit k = go (eqb k 63 || eqb k 64)

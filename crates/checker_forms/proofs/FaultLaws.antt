@@ -1,4 +1,5 @@
 -- Rules 3 to 5 at one record, from what its kind's number asks.
+use Rattle.rules.specs.declared.{Language.Language, Rule.Rule}
 use Prim.Native.Nat.{ℕ, zero, suc, ◌/◌, ◌%◌, ◌<◌, ◌≤◌}
 use native.Mathlib.Omega.{arith}
 use native.Mathlib.Decide.{ℕ_discrete}
@@ -10,7 +11,7 @@ use borrow.Author.Tests.{ne_eqb, lt-ltb, le-ltb, ltb-true, eqb-true}
 use lib.Dec.{eqb, ltb}
 use lib.ListN.{get_or}
 use Rattle.rules.specs.Records.{kind_of, mark_of, child_a, child_b, child_c, literal_of, record_at}
-use Rattle.rules.specs.Kinds.{Language, sort_number, Field, unnamed, child, number, field_of, beside}
+use Rattle.rules.specs.Kinds.{sort_number, Field, unnamed, child, number, field_of, beside}
 use Rattle.rules.specs.Checker.{all, field_fits, literal_fits, fields_fit, sort_of, child_fits, children_fit, fault_of}
 use Rattle.rules.specs.Checker.{record_fault}
 use Rattle.rules.proofs.Acceptance.ParentLaws.{five-pass}
@@ -19,7 +20,7 @@ use Rattle.checker_forms.specs.Codes.{fields_from}
 use Rattle.checker_forms.specs.Codes.{fields_there, entry, decoded, Coded, sort_by}
 use Rattle.checker_forms.proofs.CodeLaws.{code_of, code-of, sort-by}
 use Rattle.checker_forms.proofs.FieldLaws.{field-none, field-child, field-number, sort-digit}
-use Rattle.std.specs.Prelude.{Ok}
+use Rattle.std.specs.Prelude.{Result, Ok, Err}
 
 -- three tests in a row
 pub third : (p q r : Bool) → p ≡ true → q ≡ true → r ≡ (p && q && r)
@@ -142,12 +143,13 @@ there x t n h =
 
 -- ---- the record
 module _ (l : Language) (t : List ℕ) (n x : ℕ) (k : Coded l (kind_of t n) x) where
-  pub fault-none : x ≡ 0 → 3 ≡ record_fault l t n
+  pub fault-none : x ≡ 0 → Err Rule.Kind ≡ record_fault l t n
   unfolding record_fault decoded
   fault-none e = sym (ap (fault_of l t n) (k.asks ∙ ap (decoded (kind_of t n)) e))
 
   pub fault-some : (x ≡ 0 → ⊥) → record_fault l t n
-      ≡ cond (fields_fit (entry 0 x) (record_at t n)) (cond (children_fit l t n (entry 0 x) (record_at t n)) 0 5) 4
+      ≡ cond (fields_fit (entry 0 x) (record_at t n))
+      (cond (children_fit l t n (entry 0 x) (record_at t n)) (Ok tt) (Err Rule.Child)) (Err Rule.Field)
   unfolding record_fault decoded
   fault-some h =
       let is_some : decoded (kind_of t n) x ≡ some (entry (kind_of t n) x) = rw (ne_eqb x 0 h, decoded) in
@@ -155,16 +157,19 @@ module _ (l : Language) (t : List ℕ) (n x : ℕ) (k : Coded l (kind_of t n) x)
 
 -- the kind of a record that keeps 3 is in the language
 pub kept-kind : (l : Language) (t : List ℕ) (n : ℕ) → record_fault l t n ≡ Ok tt → code_of l (kind_of t n) ≡ 0 → ⊥
-kept-kind l t n h e = omega (arith, h, fault-none l t n (code_of l (kind_of t n)) (code-of l (kind_of t n)) e)
+kept-kind l t n h e =
+    let fault = fault-none l t n (code_of l (kind_of t n)) (code-of l (kind_of t n)) e in
+    cc
 
 pub kept-sort : (l : Language) (t : List ℕ) (n : ℕ) → record_fault l t n ≡ Ok tt
     → sort_of l (kind_of t n) ≡ sort_by (kind_of t n)
 kept-sort l t n h = sort-by l (kind_of t n) (kept-kind l t n h)
 
 -- and its fields are those that the kind asks
-fits-first : (p q : Bool) → ◌≡◌ {A = ℕ} (cond p (cond q 0 5) 4) 0 → p ≡ true
+fits-first : (p q : Bool) → ◌≡◌ {A = Result Unit Rule} (cond p (cond q (Ok tt) (Err Rule.Child)) (Err Rule.Field)) (Ok tt)
+    → p ≡ true
 fits-first true q e = refl
-fits-first false q e = absurd (omega arith)
+fits-first false q e = cc
 
 pub kept_there : (l : Language) (t : List ℕ) (n : ℕ) → record_fault l t n ≡ Ok tt
     → let x = code_of l (kind_of t n) in

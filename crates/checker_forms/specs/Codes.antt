@@ -1,24 +1,21 @@
 -- A form as a number of six hexadecimal digits: sort, mark, A, B, C, literal; 0 where the language has no such kind.
+use Rattle.rules.specs.declared.{Language.Language, Sort.Sort}
 use Rattle.std.specs.Prelude.{ℕ, zero, suc, ◌+◌, ◌/◌, ◌%◌, ◌<◌, ◌≤◌, Bool, true, false, cond, ◌||◌, List, [], ◌∷◌, ◌≡◌, ltb, eqb, get_or}
 use Rattle.std.proofs.Math.Option.{Option, none, some}
-use Rattle.rules.specs.Kinds.{Language, source, target, Sort, expression, place, term, predicate, statement, Field}
+use Rattle.rules.specs.Kinds.{Field}
 use Rattle.rules.specs.Kinds.{unnamed, child, number, between, Literal, zero_literal, any_literal, statement_literal}
 use Rattle.rules.specs.Kinds.{Form, form, beside, form_of}
 use Rattle.rules.specs.Checker.{all, field_fits, sort_of, record_fault}
 use Rattle.std.specs.Prelude.{Ok}
 
-abbrev pub language_of : Bool → Language
-language_of true = target
-language_of false = source
-
 -- a sort by its number
 unfoldable pub sort_from : ℕ → Sort
-sort_from zero = statement
-sort_from (suc zero) = expression
-sort_from (suc (suc zero)) = place
-sort_from (suc (suc (suc zero))) = term
-sort_from (suc (suc (suc (suc zero)))) = predicate
-sort_from (suc (suc (suc (suc (suc n))))) = statement
+sort_from zero = Sort.Statement
+sort_from (suc zero) = Sort.Expression
+sort_from (suc (suc zero)) = Sort.Place
+sort_from (suc (suc (suc zero))) = Sort.Term
+sort_from (suc (suc (suc (suc zero)))) = Sort.Predicate
+sort_from (suc (suc (suc (suc (suc n))))) = Sort.Statement
 
 -- 256 times the lowest number that a field with digit 6, 7, .. takes, and the highest; 8 is apart
 abbrev pub bounds : List ℕ

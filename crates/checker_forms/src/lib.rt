@@ -7,16 +7,17 @@ mod fields;
 
 ghost use Rattle.std.specs.Prelude.{◌≡◌, true, [], ◌∷◌, ◌<◌};
 ghost use Rattle.rules.specs.Records.{record_at};
-ghost use Rattle.rules.specs.Kinds.{source, target};
 ghost use Rattle.rules.specs.Checker.{field_fits, fields_fit, child_fits, children_fit, record_fault};
 ghost use Rattle.table.specs.Within.{Within};
-ghost use Rattle.checker_forms.specs.Codes.{language_of, Coded, field_from, fields_there, entry, sort_by, Before};
+ghost use Rattle.checker_forms.specs.Codes.{Coded, field_from, fields_there, entry, sort_by, Before};
 ghost use Rattle.checker_forms.specs.Codes.{ForChildren};
+
+use rules::{Language, Rule};
 
 // What a kind asks of a source record: a match, since the compiler would build an array anew at each call.
 #[tactic(auto, using(crate::proofs::CodeLaws::coded))]
 fn source_form(kind: u8) -> usize
-    ensures { Coded source kind result }
+    ensures { Coded Language.Source kind result }
 {
     match kind {
         1 => 0x100001,
@@ -53,7 +54,7 @@ fn source_form(kind: u8) -> usize
 // What a kind asks of a target record.
 #[tactic(auto, using(crate::proofs::CodeLaws::coded))]
 fn target_form(kind: u8) -> usize
-    ensures { Coded target kind result }
+    ensures { Coded Language.Target kind result }
 {
     match kind {
         1 => 0x100001,
@@ -87,13 +88,13 @@ fn target_form(kind: u8) -> usize
 }
 
 // What a kind asks; 0 where the language has no such kind.
-pub fn form_of(target: bool, kind: u8) -> usize
-    ensures { Coded (language_of target) kind result }
+pub fn form_of(language: Language, kind: u8) -> usize
+    ensures { Coded language kind result }
 {
-    if target {
-        return target_form(kind);
+    match language {
+        Language::Source => source_form(kind),
+        Language::Target => target_form(kind),
     }
-    source_form(kind)
 }
 
 fn are_there(form: usize, a: usize, b: usize, c: usize) -> bool
@@ -135,10 +136,10 @@ pub fn sort_of(kind: u8) -> usize
 }
 
 // Of a field for a child or for none, with what fits it. A child's kind is in the language, since it stands before n.
-fn child_fits(target: bool, table: &[u8], n: usize, digit: usize, x: usize) -> bool
-    requires { Within table.now n × Before (language_of target) table.now n × (digit < 6)
+fn child_fits(language: Language, table: &[u8], n: usize, digit: usize, x: usize) -> bool
+    requires { Within table.now n × Before language table.now n × (digit < 6)
         × (field_fits (field_from digit) x ≡ true) }
-    ensures { result ≡ child_fits (language_of target) table.now n (field_from digit) x }
+    ensures { result ≡ child_fits language table.now n (field_from digit) x }
 {
     if x == 0 {
         return true;
@@ -150,46 +151,58 @@ fn child_fits(target: bool, table: &[u8], n: usize, digit: usize, x: usize) -> b
 }
 
 // Of C, which may be a number.
-fn third_fits(target: bool, table: &[u8], n: usize, digit: usize, x: usize) -> bool
-    requires { Within table.now n × Before (language_of target) table.now n
+fn third_fits(language: Language, table: &[u8], n: usize, digit: usize, x: usize) -> bool
+    requires { Within table.now n × Before language table.now n
         × (field_fits (field_from digit) x ≡ true) }
-    ensures { result ≡ child_fits (language_of target) table.now n (field_from digit) x }
+    ensures { result ≡ child_fits language table.now n (field_from digit) x }
 {
     if 5 < digit {
         return true;
     }
-    child_fits(target, table, n, digit, x)
+    child_fits(language, table, n, digit, x)
 }
 
-fn children_fit(target: bool, form: usize, table: &[u8], n: usize) -> bool
-    requires { Within table.now n × Before (language_of target) table.now n × ForChildren form
+fn children_fit(language: Language, form: usize, table: &[u8], n: usize) -> bool
+    requires { Within table.now n × Before language table.now n × ForChildren form
         × (fields_fit (entry 0 form) (record_at table.now n) ≡ true) }
-    ensures { result ≡ children_fit (language_of target) table.now n (entry 0 form)
+    ensures { result ≡ children_fit language table.now n (entry 0 form)
         (record_at table.now n) }
 {
-    if child_fits(target, table, n, form / 4096 % 16, table::child_a(table, n)) {
-        if child_fits(target, table, n, form / 256 % 16, table::child_b(table, n)) {
-            return third_fits(target, table, n, form / 16 % 16, table::child_c(table, n));
+    if child_fits(
+        language,
+        table,
+        n,
+        form / 4096 % 16,
+        table::child_a(table, n),
+    ) {
+        if child_fits(
+            language,
+            table,
+            n,
+            form / 256 % 16,
+            table::child_b(table, n),
+        ) {
+            return third_fits(language, table, n, form / 16 % 16, table::child_c(table, n));
         }
         return false;
     }
     false
 }
 
-// 3, 4 or 5 where record n breaks it, or 0.
-pub fn record_fault(target: bool, table: &[u8], n: usize) -> u32
-    requires { Within table.now n × Before (language_of target) table.now n }
-    ensures { result ≡ record_fault (language_of target) table.now n }
+// Rules 3 to 5 at record n.
+pub fn record_fault(language: Language, table: &[u8], n: usize) -> Result<(), Rule>
+    requires { Within table.now n × Before language table.now n }
+    ensures { result ≡ record_fault language table.now n }
 {
-    let form = form_of(target, table::kind(table, n));
+    let form = form_of(language, table::kind(table, n));
     if form == 0 {
-        return 3;
+        return Err(Rule::Kind);
     }
     if !fields_fit(form, table, n) {
-        return 4;
+        return Err(Rule::Field);
     }
-    if !children_fit(target, form, table, n) {
-        return 5;
+    if !children_fit(language, form, table, n) {
+        return Err(Rule::Child);
     }
-    0
+    Ok(())
 }

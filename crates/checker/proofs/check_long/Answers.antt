@@ -1,7 +1,6 @@
 -- Nothing is noted yet, and there is a note for each record.
 use Rattle.std.proofs.Common.{suc, arith}
 use Rattle.rules.specs.Sizes.{target_limit}
-use Rattle.checker_forms.specs.Codes.{language_of}
 use Rattle.checker.proofs.OrderLaws.{limit-most}
 use Rattle.checker.proofs.Starts.{notes-start}
 use Rattle.checker.proofs.check_long.Goals as goal
@@ -9,5 +8,5 @@ use Rattle.checker.proofs.check_long.Goals as goal
 pub check_shapes-requires : goal.check_shapes-requires
 check_shapes-requires c =
     let a = c.args in
-    notes-start (language_of a.target) a.table.now (suc target_limit) c.requires
-    (omega (arith, c.requires.sized.few, limit-most a.target))
+    notes-start a.language a.table.now (suc target_limit) c.requires
+    (omega (arith, c.requires.sized.few, limit-most a.language))

@@ -1,36 +1,37 @@
--- The first record that breaks one of rules 3 to 5 is the lowest.
-use Rattle.std.proofs.Common.{◌+◌, ltb, ◌∙◌, arith}
-use Rattle.rules.specs.Checker.{lowest_record, record_fault}
-use Rattle.checker_forms.specs.Codes.{language_of}
-use Rattle.checker.specs.Order.{from_shapes, from_records}
-use Rattle.checker.proofs.OrderLaws.{next-nothing, record-refused, no_record}
+-- The first record that breaks one of rules 3 to 5 is the lowest; where none does, the others follow.
+use Rattle.std.proofs.Common.{◌+◌, ◌∙◌, arith}
+use Rattle.std.proofs.lemmas.Result.{err_from_is_err_and}
+use Rattle.checker_forms.specs.Codes.{Before}
+use Rattle.checker.specs.Scopes.{Formed}
+use Rattle.checker.proofs.OrderLaws.{record-refused, record-kept, records-kept, shapes-next}
 use Rattle.checker.proofs.check_records.Goals as goal
-use Rattle.std.specs.Prelude.{is_err}
+use Rattle.checker.proofs.check_records.Goals.{Left-loop-n, else-loop-n-test, then-loop-n-test+in_ok-check_record+else-n-n-end}
 
-pub returns-then-rule-ne0 : goal.returns-then-rule-ne0
-returns-then-rule-ne0 c =
+pub returns-in_err-check_record : goal.returns-in_err-check_record
+returns-in_err-check_record c =
     let a = c.args in
-    let rule = c.record_fault-rule in
-    c.refuse.ensures
-    ∙ record-refused (language_of a.target) a.table.now (c.loop-n.n + 1) c.loop-n.invariant.before rule.result
-    (omega arith) (omega arith) rule.ensures c.if-rule-ne0.true
+    let e = c.loop-n in
+    let p = err_from_is_err_and c.from_residual.result c.from_residual.ensures.1 in
+    rw (p.1, p.2)
+    (record-refused a.language a.table.now e.n e.invariant c.in_err-check_record.field-0.0 (omega arith) (omega arith)
+    c.in_err-check_record.ensures)
+
+formed : (c : Left-loop-n) → Formed c.args.language c.args.table.now
+formed c =
+    let a = c.args in
+    let e = c.loop-n in
+    elim c.loop-n-test.branch [
+      | else-loop-n-test w ↦ records-kept a.language a.table.now e.n e.invariant (omega arith) c.requires
+      | then-loop-n-test+in_ok-check_record+else-n-n-end w ↦
+          let last : Before a.language a.table.now (e.n + 1) =
+          record-kept a.language a.table.now e.n e.invariant w.in_ok-check_record.field-0 w.in_ok-check_record.ensures in
+          records-kept a.language a.table.now (e.n + 1) last (omega arith) c.requires
+    ]
 
 pub check_formed-requires : goal.check_formed-requires
-check_formed-requires c =
-    let a = c.args in
-    let e = c.loop-n in
-    record {
-      sized = c.requires;
-      records = no_record (language_of a.target) a.table.now (e.n + 1) e.invariant.before (omega arith);
-    }
+check_formed-requires c = formed c
 
 pub returns : goal.returns
-unfolding from_records
 returns c =
-    let a = c.args in
-    let l = language_of a.target in
-    let t = a.table.now in
-    let e = c.loop-n in
     c.check_formed.ensures
-    ∙ next-nothing (record_fault l t) (lowest_record t (λ n. is_err (record_fault l t n))) (from_shapes l t)
-    (no_record l t (e.n + 1) e.invariant.before (omega arith))
+    ∙ shapes-next c.args.language c.args.table.now (formed (goal.at.returns c).Left-loop-n)

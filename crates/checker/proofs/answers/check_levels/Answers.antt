@@ -1,18 +1,13 @@
 -- A record that is found stands in the table.
-use Rattle.std.proofs.Common.{arith}
-use Rattle.rules.specs.Records.{record_count}
+use Rattle.std.proofs.Common.{subst}
+use Rattle.checker.specs.Scopes.{Kept}
+use Rattle.rules.specs.declared.{Language.Language}
 use Rattle.rules.specs.Checker.{level_fault}
-use Rattle.checker.proofs.OrderLaws.{limit-most}
-use Rattle.checker.proofs.Lowest.{found_in}
+use Rattle.checker.proofs.OrderLaws.{found-fits}
 use Rattle.checker.proofs.answers.check_levels.Goals as goal
 
-pub refuse-requires : goal.refuse-requires
-refuse-requires c =
+pub refuse_at-requires : goal.refuse_at-requires
+refuse_at-requires c =
     let t = c.args.table.now in
-    let n = c.lowest_too_deep-n in
-    omega (
-      arith,
-      c.requires.formed.sized.few,
-      limit-most c.args.target,
-      found_in (level_fault t) (record_count t) n.result n.ensures,
-    )
+    let kept : Kept Language.Source t = subst (λ (l : Language). Kept l t) c.in-Source.is c.requires in
+    found-fits Language.Source t (level_fault t) c.lowest_too_deep.result kept.formed.sized c.lowest_too_deep.ensures

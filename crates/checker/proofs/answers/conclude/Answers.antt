@@ -1,71 +1,56 @@
 -- The rules in their order: where a record breaks 6 it is named, else one that breaks 7, else what 8 says.
-use Rattle.std.proofs.Common.{◌∙◌, arith}
-use Rattle.rules.specs.Records.{record_count}
-use Rattle.rules.specs.Checker.{lowest_record, shape_fault, scope_fault, last_rule}
-use Rattle.checker_forms.specs.Codes.{language_of}
+use Rattle.std.proofs.Common.{◌∙◌}
+use Rattle.std.proofs.lemmas.Result.{err_from_is_err_and}
+use Rattle.rules.specs.Checker.{shape_fault, scope_fault}
 use Rattle.checker.specs.Scopes.{Kept}
-use Rattle.checker.specs.Order.{from_scopes, from_shapes}
-use Rattle.checker.proofs.OrderLaws.{next-none, next-at, kept_of, limit-most}
-use Rattle.checker.proofs.Lowest.{found_in}
+use Rattle.checker.proofs.OrderLaws.{kept_of, found-fits, shape-refused, scope-refused, level-next}
 use Rattle.checker.proofs.answers.conclude.Goals as goal
 
-pub refuse-requires : goal.refuse-requires
-refuse-requires c =
+pub refuse_at-requires : goal.refuse_at-requires
+refuse_at-requires c =
     let a = c.args in
-    let l = language_of a.target in
-    let t = a.table.now in
-    omega (
-      arith,
-      c.requires.formed.sized.few,
-      limit-most a.target,
-      found_in (shape_fault l t) (record_count t) a.misshapen c.requires.shapes,
-    )
+    let h = c.requires in
+    found-fits a.language a.table.now (shape_fault a.language a.table.now) a.misshapen h.formed.sized h.shapes
 
-pub returns-then-misshapen-ne0 : goal.returns-then-misshapen-ne0
-unfolding from_shapes
-returns-then-misshapen-ne0 c =
+pub returns-in_err-refuse_at : goal.returns-in_err-refuse_at
+returns-in_err-refuse_at c =
     let a = c.args in
-    let l = language_of a.target in
-    let t = a.table.now in
-    c.refuse.ensures
-    ∙ next-at (λ n. 6) (lowest_record t (shape_fault l t)) a.misshapen (from_scopes l t) c.requires.shapes
-    c.if-misshapen-ne0.true
+    let p = err_from_is_err_and c.from_residual.result c.from_residual.ensures.1 in
+    rw (p.1, p.2)
+    (shape-refused a.language a.table.now a.misshapen a.hidden c.requires.shapes c.in_err-refuse_at.field-0.0
+    c.in_err-refuse_at.ensures)
 
-pub refuse-requires-then-hidden-ne0 : goal.refuse-requires-then-hidden-ne0
-refuse-requires-then-hidden-ne0 c =
+pub refuse_at-requires-2 : goal.refuse_at-requires-2
+refuse_at-requires-2 c =
     let a = c.args in
-    let l = language_of a.target in
-    let t = a.table.now in
-    let kept : Kept l t = kept_of l t a.misshapen a.hidden c.requires c.if-misshapen-ne0.false in
-    omega (
-      arith,
-      c.requires.formed.sized.few,
-      limit-most a.target,
-      found_in (scope_fault l t) (record_count t) a.hidden (c.requires.scopes kept),
-    )
+    let h = c.requires in
+    let first = c.in_ok-refuse_at in
+    let kept : Kept a.language a.table.now =
+    kept_of a.language a.table.now a.misshapen a.hidden first.field-0 h first.ensures in
+    found-fits a.language a.table.now (scope_fault a.language a.table.now) a.hidden h.formed.sized (h.scopes kept)
 
-pub returns-then-hidden-ne0 : goal.returns-then-hidden-ne0
-unfolding from_shapes from_scopes
-returns-then-hidden-ne0 c =
+pub returns-in_err-refuse_at-2 : goal.returns-in_err-refuse_at-2
+returns-in_err-refuse_at-2 c =
     let a = c.args in
-    let l = language_of a.target in
-    let t = a.table.now in
-    let kept : Kept l t = kept_of l t a.misshapen a.hidden c.requires c.if-misshapen-ne0.false in
-    c.refuse-then-hidden-ne0.ensures
-    ∙ next-at (λ n. 7) (lowest_record t (scope_fault l t)) a.hidden (last_rule l t) (c.requires.scopes kept)
-    c.if-hidden-ne0.true
-    ∙ next-none (λ n. 6) (lowest_record t (shape_fault l t)) a.misshapen (from_scopes l t) c.requires.shapes
-    c.if-misshapen-ne0.false
+    let h = c.requires in
+    let first = c.in_ok-refuse_at in
+    let second = c.in_err-refuse_at-2 in
+    let kept : Kept a.language a.table.now =
+    kept_of a.language a.table.now a.misshapen a.hidden first.field-0 h first.ensures in
+    let exit = c.from_residual-in_err-refuse_at-2 in
+    let p = err_from_is_err_and exit.result exit.ensures.1 in
+    rw (p.1, p.2)
+    (scope-refused a.language a.table.now a.misshapen a.hidden h.shapes first.field-0 first.ensures (h.scopes kept)
+    second.field-0.0 second.ensures)
 
 pub returns : goal.returns
-unfolding from_shapes from_scopes
 returns c =
     let a = c.args in
-    let l = language_of a.target in
-    let t = a.table.now in
-    let kept : Kept l t = kept_of l t a.misshapen a.hidden c.requires c.if-misshapen-ne0.false in
+    let h = c.requires in
+    let first = c.in_ok-refuse_at in
+    let second = c.in_ok-refuse_at-2 in
+    let kept : Kept a.language a.table.now =
+    kept_of a.language a.table.now a.misshapen a.hidden first.field-0 h first.ensures in
     c.check_levels.ensures
-    ∙ next-none (λ n. 7) (lowest_record t (scope_fault l t)) a.hidden (last_rule l t) (c.requires.scopes kept)
-    c.if-hidden-ne0.false
-    ∙ next-none (λ n. 6) (lowest_record t (shape_fault l t)) a.misshapen (from_scopes l t) c.requires.shapes
-    c.if-misshapen-ne0.false
+    ∙ level-next a.language a.table.now a.misshapen a.hidden h.shapes first.field-0 first.ensures (h.scopes kept)
+    second.field-0 second.ensures

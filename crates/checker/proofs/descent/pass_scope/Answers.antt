@@ -3,7 +3,6 @@ use Rattle.std.proofs.Common.{◌≡◌, ℕ, ◌<◌, ◌≤◌, List, length, 
 use Rattle.rules.specs.Sizes.{target_limit}
 use Rattle.rules.specs.Records.{kind_of}
 use Rattle.rules.specs.Checker.{record_fault}
-use Rattle.checker_forms.specs.Codes.{language_of}
 use Rattle.checker_forms.proofs.CodeLaws.{code_of, code-of}
 use Rattle.checker.specs.Searches.{note_at, third_child, Room}
 use Rattle.checker.specs.Scopes.{Noted}
@@ -16,12 +15,12 @@ use Rattle.std.specs.Prelude.{Ok}
 pub note_children-requires : goal.note_children-requires
 note_children-requires c =
     let a = c.args in
-    let l = language_of a.target in
+    let l = a.language in
     let t = a.table.now in
     let notes = a.notes.now in
     let keeps : record_fault l t a.n ≡ Ok tt = no-fault l t c.requires.1 a.n c.requires.0.0 c.requires.0.1 in
     let size : a.n < length notes = omega (arith, c.requires.0, c.requires.2) in
-    let few : a.n ≤ target_limit = omega (arith, c.requires.0, c.requires.1.sized.few, limit-most a.target) in
+    let few : a.n ≤ target_limit = omega (arith, c.requires.0, c.requires.1.sized.few, limit-most a.language) in
     let third = c.third_child-c.ensures ∙ (λ i. third_child (c.kind.ensures i) (c.child_c.ensures i)) in (
       subst (λ (y : ℕ). Room y notes) (sym c.child_a-a.ensures) (room-a l t a.n keeps notes size few),
       subst (λ (y : ℕ). Room y notes) (sym c.child_b-b.ensures) (room-b l t a.n keeps notes size few),
@@ -31,7 +30,7 @@ note_children-requires c =
 pub returns : goal.returns
 returns c =
     let a = c.args in
-    let l = language_of a.target in
+    let l = a.language in
     let t = a.table.now in
     let notes = a.notes.now in
     let keeps : record_fault l t a.n ≡ Ok tt = no-fault l t c.requires.1 a.n c.requires.0.0 c.requires.0.1 in

@@ -1,7 +1,7 @@
 -- What the form of the record's kind has for children is given its level.
+use Rattle.rules.specs.declared.{Language.Language}
 use Rattle.std.proofs.Common.{◌≡◌, ℕ, List, [], ◌∷◌, sym, subst, ◌∙◌}
 use Rattle.rules.specs.Records.{kind_of, child_a, child_b, child_c}
-use Rattle.rules.specs.Kinds.{source}
 use Rattle.rules.specs.Checker.{level_below, position_in}
 use Rattle.checker_forms.specs.Codes.{Coded}
 use Rattle.checker.specs.Searches.{put_three}
@@ -22,12 +22,12 @@ returns c =
     let v = c.child_level-v.result in
     let w = c.child_level-w.result in
     let f : ℕ → ℕ = child_level t a.n a.level in
-    let k : Coded source (kind_of t a.n) x = subst (λ (k : ℕ). Coded source k x) kind c.form_of.ensures in
+    let k : Coded Language.Source (kind_of t a.n) x = subst (λ (k : ℕ). Coded Language.Source k x) kind c.form_of.ensures in
     let put : c.put_children.new.levels
     ≡ put_three x (child_a t a.n) (child_b t a.n) (child_c t a.n) u v w a.levels.now =
     c.put_children.ensures ∙ (λ i. put_three x (ea i) (eb i) (ec i) u v w a.levels.now) in
-    subst (λ (m : List ℕ). Given source t a.n f a.levels.now m) (sym put)
-    (given-three source t a.n x k u v w f a.levels.now
+    subst (λ (m : List ℕ). Given Language.Source t a.n f a.levels.now m) (sym put)
+    (given-three Language.Source t a.n x k u v w f a.levels.now
     (c.child_level-u.ensures
     ∙ (λ i. level_below (kind i) (position_in (ea i ∷ eb i ∷ ec i ∷ []) (ea i)) a.level))
     (c.child_level-v.ensures

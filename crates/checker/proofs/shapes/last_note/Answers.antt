@@ -2,7 +2,7 @@
 use Rattle.std.proofs.Common.{ℕ, Bool, not, cond, refl, sym, ap, ◌∙◌, arith}
 use borrow.Author.Tests.{eq-eqb, ne_eqb}
 use Rattle.rules.specs.Records.{record_count}
-use Rattle.checker_forms.specs.Codes.{language_of, sort_by}
+use Rattle.checker_forms.specs.Codes.{sort_by}
 use Rattle.checker_forms.proofs.FaultLaws.{kept-sort}
 use Rattle.checker.proofs.DescentLaws.{no-fault}
 use Rattle.checker.proofs.ShapeLaws.{shape-last}
@@ -11,7 +11,7 @@ use Rattle.checker.proofs.shapes.last_note.Goals as goal
 pub returns-then-sort_of-eq5 : goal.returns-then-sort_of-eq5
 returns-then-sort_of-eq5 c =
     let a = c.args in
-    let l = language_of a.target in
+    let l = a.language in
     let t = a.table.now in
     let n = record_count t in
     let kept = kept-sort l t n (no-fault l t c.requires n c.requires.sized.some (omega arith)) in
@@ -22,7 +22,7 @@ returns-then-sort_of-eq5 c =
 pub returns : goal.returns
 returns c =
     let a = c.args in
-    let l = language_of a.target in
+    let l = a.language in
     let t = a.table.now in
     let n = record_count t in
     let kept = kept-sort l t n (no-fault l t c.requires n c.requires.sized.some (omega arith)) in
