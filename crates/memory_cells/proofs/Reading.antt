@@ -9,7 +9,7 @@ use lib.IntN.{ℤ}
 use lib.ListN.{length, get_or, get_or-eq_default}
 use Rattle.rules.specs.Sizes.{name_count, cell_count}
 use Rattle.rules.specs.Words.{word_at}
-use Rattle.rules.specs.Memory.{block_of, cell_of, recorded_of, is_free, is_unused}
+use Rattle.rules.specs.Memory.{block_of, cell_of, recorded_of, is_free}
 use Rattle.rules.specs.Layout.{memory_of, block_at, cell_at, block_from, cell_from, block_place, cell_place}
 use Rattle.rules.proofs.Lists.Rows.{length-tabulate, get_d_tabulate}
 use Rattle.rules.specs.declared.{Value.Value, Block.Block, Cell.Cell, Recorded.Recorded}
@@ -46,6 +46,10 @@ block-past l (suc k) h =
     let p : name_count ≤ k = omega arith in
     sym (get_or-eq_default (memory_of l).blocks Block.Dead (le_trans (le_of_eq (count-blocks l)) p))
 
+pub ruleset blocks_by_name = (block-named, block-past)
+
+pub ruleset cells_by_place = (cell_in, cell-past)
+
 -- the kinds that no number below tells
 pub other-cell : (k o n : ℕ) (z : ℤ) → (k ≡ 0 → ⊥) → (k ≡ 1 → ⊥) → (k ≡ 2 → ⊥)
     → Cell.Holds o (Value.Pointer (record { name = n; offset = z })) ≡ cell_from k o n z
@@ -54,28 +58,22 @@ other-cell (suc zero) o n z a b d = absurd (b refl)
 other-cell (suc (suc zero)) o n z a b d = absurd (d refl)
 other-cell (suc (suc (suc k))) o n z a b d = refl
 
-pub other_block : (s f n : ℕ) → (s ≡ 0 → ⊥) → (s ≡ 1 → ⊥) → (s ≡ 2 → ⊥) → Block.Dead ≡ block_from s f n
-other_block zero f n a b d = absurd (a refl)
-other_block (suc zero) f n a b d = absurd (b refl)
-other_block (suc (suc zero)) f n a b d = absurd (d refl)
-other_block (suc (suc (suc s))) f n a b d = refl
-
 -- where the block of a record starts, if it is live
 live-first : (s f n first k : ℕ) → recorded_of (block_from s f n) ≡ Recorded.Live first k → f ≡ first
-live-first zero f n first k e = let z : ◌≡◌ {A = ℕ} 0 1 = cc in absurd (omega arith)
+live-first zero f n first k e = cc
 live-first (suc zero) f n first k e = cc
 live-first (suc (suc zero)) f n first k e = cc
-live-first (suc (suc (suc s))) f n first k e = let z : ◌≡◌ {A = ℕ} 0 1 = cc in absurd (omega arith)
+live-first (suc (suc (suc s))) f n first k e = cc
 
-pub starts-at : (l : List ℕ) (k : ℕ) → 0 < k → k ≤ name_count → StartsAt (memory_of l) k (word_at 2 l (k * 8 - 6))
+pub starts_at : (l : List ℕ) (k : ℕ) → 0 < k → k ≤ name_count → StartsAt (memory_of l) k (word_at 2 l (k * 8 - 6))
 unfolding block_at
-starts-at l k a b first n e =
+starts_at l k a b first n e =
     let at : k * 8 - 6 ≡ block_place (k - 1) + 2 = omega arith in
     ap (word_at 2 l) at
     ∙ live-first (get_or l (block_place (k - 1)) 0) (word_at 2 l (block_place (k - 1) + 2))
     (word_at 2 l (block_place (k - 1) + 4)) first n (ap recorded_of (block-named l k a b) ∙ e)
 
--- a free cell and an unused record, by the first byte
+-- a free cell, by the first byte
 free-kind : (k o n : ℕ) (z : ℤ) → eqb k 0 ≡ is_free (cell_from k o n z)
 free-kind zero o n z = refl
 free-kind (suc zero) o n z = refl
@@ -85,14 +83,3 @@ free-kind (suc (suc (suc k))) o n z = eqb-suc-zero (suc (suc k))
 pub free-byte : (l : List ℕ) (i : ℕ) → i < cell_count → eqb (get_or l (cell_place i) 0) 0 ≡ is_free (cell_of (memory_of l) i)
 unfolding cell_at
 free-byte l i h = free-kind (get_or l (cell_place i) 0) _ _ _ ∙ ap is_free (cell_in l i h)
-
-unused-state : (s f n : ℕ) → eqb s 0 ≡ is_unused (block_from s f n)
-unused-state zero f n = refl
-unused-state (suc zero) f n = refl
-unused-state (suc (suc zero)) f n = refl
-unused-state (suc (suc (suc s))) f n = eqb-suc-zero (suc (suc s))
-
-pub unused-byte : (l : List ℕ) (k : ℕ) → 0 < k → k ≤ name_count
-    → eqb (get_or l (block_place (k - 1)) 0) 0 ≡ is_unused (block_of (memory_of l) k)
-unfolding block_at
-unused-byte l k a b = unused-state (get_or l (block_place (k - 1)) 0) _ _ ∙ ap is_unused (block-named l k a b)

@@ -1,11 +1,11 @@
 -- What a change of the execution memory is to its bytes, and what it answers.
-use Rattle.std.specs.Prelude.{ℕ, ◌<◌, ◌≡◌, List, replicate}
+use Rattle.std.specs.Prelude.{ℕ, ◌<◌, ◌≡◌, List, replicate, Result, Ok, Err}
 use Rattle.std.specs.Int.{w64}
 use Rattle.std.proofs.Common.{SFits}
 use Rattle.rules.specs.Sizes.{name_count, cell_count}
 use Rattle.rules.specs.Memory.{Memory, Change, changed, stopped, set_named}
 use Rattle.rules.specs.Layout.{memory_of, memory_image, name_limit}
-use Rattle.rules.specs.declared.{Value.Value, Block.Block, Cell.Cell}
+use Rattle.rules.specs.declared.{Value.Value, Stop.Stop, Block.Block, Cell.Cell}
 
 -- bytes that are exactly those of what they stand for
 abbrev pub Exact : List ℕ → Type 0
@@ -16,10 +16,10 @@ pub record Becomes (entry exit : List ℕ) (m : Memory) : Type 0 where
   pub view : memory_of exit ≡ m
   pub exact : Exact entry → Exact exit
 
--- the number of a change, 0 where there is one, and the memory after it
-abbrev pub change_number : Change Memory → ℕ
-change_number (changed m) = 0
-change_number (stopped k m) = k
+-- whether a change stops the run, and the memory after it
+abbrev pub change_result : Change Memory → Result Unit Stop
+change_result (changed m) = Ok tt
+change_result (stopped k m) = Err k
 
 abbrev pub change_memory : Change Memory → Memory
 change_memory (changed m) = m

@@ -8,9 +8,10 @@ ghost use Rattle.rules.specs.Memory.{block_of, cell_of};
 ghost use Rattle.rules.specs.Layout.{memory_of, block_at, cell_at};
 ghost use Rattle.memory_cells.specs.Starts.{StartsAt};
 
-use rules::{BLOCKS_LENGTH, Block, CELL_COUNT, Cell, ExecutionMemory, LAST_NAME, Pointer, Value};
+use rules::{BLOCKS_LENGTH, Block, CELL_COUNT, Cell, ExecutionMemory, NAME_COUNT, Pointer, Value};
 
 // Block record k, counted from 0.
+#[tactic(auto, unfolding(rules::specs::Layout::block_at))]
 fn read_block(mem: &ExecutionMemory, k: usize) -> Block
     requires { k < name_count }
     ensures { result ≡ block_at mem.now k }
@@ -26,27 +27,27 @@ fn read_block(mem: &ExecutionMemory, k: usize) -> Block
     }
 }
 
-// The block of a name; names count from 1.
+// The block of a name; a name that has no record is as a dead block's.
+#[tactic(auto, using(crate::proofs::Reading::blocks_by_name))]
 pub fn block(mem: &ExecutionMemory, name: u16) -> Block
     ensures { result ≡ block_of (memory_of mem.now) name }
 {
-    if name == 0 {
-        return Block::Dead;
+    match usize::from(name) {
+        k @ 1..=NAME_COUNT => read_block(mem, k - 1),
+        _ => Block::Dead,
     }
-    if LAST_NAME < name {
-        return Block::Dead;
-    }
-    read_block(mem, name as usize - 1)
 }
 
 // The first cell of a name's block, where the block is live.
+#[tactic(auto, using(crate::proofs::Reading::starts_at))]
 pub fn first_cell(mem: &ExecutionMemory, name: u16) -> usize
     requires { (0 < name) × (name ≤ name_count) }
     ensures { StartsAt (memory_of mem.now) name result }
 {
-    byte_words::read_word(&mem[..], name as usize * 8 - 6, 2) as usize
+    byte_words::read_word(&mem[..], usize::from(name) * 8 - 6, 2) as usize
 }
 
+#[tactic(auto, unfolding(rules::specs::Layout::cell_at))]
 fn read_cell(mem: &ExecutionMemory, i: usize) -> Cell
     requires { i < cell_count }
     ensures { result ≡ cell_at mem.now i }
@@ -68,6 +69,8 @@ fn read_cell(mem: &ExecutionMemory, i: usize) -> Cell
     }
 }
 
+// Cell i; past the last all are free.
+#[tactic(auto, using(crate::proofs::Reading::cells_by_place))]
 pub fn cell(mem: &ExecutionMemory, i: usize) -> Cell
     ensures { result ≡ cell_of (memory_of mem.now) i }
 {
