@@ -150,3 +150,6 @@ copy-at t n low high = go (sort_at t n) refl
 pub copied_at : (t : List ℕ) (n : ℕ) → Copied t n → (n ≡ 0 → ⊥) → CopyLaw t n
 copied_at t n (inl e) h = absurd (h e)
 copied_at t n (inr q) h = copy-at t n q.0 q.1
+
+pub within_copied : (t : List ℕ) (n : ℕ) → Copied t n → (n ≡ 0 → ⊥) → Within t n
+within_copied t n q h = (copied_at t n q h).within

@@ -14,9 +14,10 @@ use Rattle.rules.specs.TargetTrees.{store_block, delete_block, initialise}
 use Rattle.rules.specs.Emission.{RecordTree, none, node, statement_tree, tree_size, root_number, field_c, emit}
 use Rattle.rules.proofs.Translation.RecordBytes.{length-record, table-length}
 use Rattle.rules.proofs.Translation.EmissionLaws.{length-emit, own_record}
-use Rattle.translation_emission.specs.Emission.{record_of, with_record, Room, Emitted}
+use Rattle.rules.proofs.Lists.WordLaws.{length-put}
+use Rattle.translation_emission.specs.declared.Output.{Output}
+use Rattle.translation_emission.specs.Emission.{record_of, RoomFor, Room, Pushed, Emitted}
 use Rattle.translation_emission.proofs.Puts.{put_then, put-none}
-use Rattle.std.specs.Prelude.{Some}
 
 table-append : (rs ss : List Record) → table_bytes (rs ++ ss) ≡ table_bytes rs ++ table_bytes ss
 unfolding flat
@@ -48,20 +49,32 @@ emit-none : (n : ℕ) → table_bytes (emit none n) ≡ []
 unfolding emit flat
 emit-none n = refl
 
-pub emitted-none : (o : List ℕ) (at : ℕ) → Emitted o at none o at
-emitted-none o at = record {
-  bytes = sym (ap (put o (16 * at)) (emit-none at) ∙ put-none o (16 * at));
-  count = sym (add-zero at);
+pub emitted-none : (o : Output) → Emitted o none o
+emitted-none o = record {
+  same = refl;
+  bytes = sym (ap (put o.bytes.now (16 * o.count)) (emit-none o.count) ∙ put-none o.bytes.now (16 * o.count));
+  count = sym (add-zero o.count);
 }
 
+-- the lent bytes are as many as before
+pub pushed-length : {o o' : Output} {r : Record} → RoomFor o 1 → Pushed o r o' → length o'.bytes.now ≡ length o.bytes.now
+pushed-length {o} {o'} {r} room p =
+    let size = length-record r in
+    ap length p.bytes ∙ length-put o.bytes.now (record_bytes r) (16 * o.count) (omega arith)
+
+pub emitted-length : {o o' : Output} {w : RecordTree} → Room o w → Emitted o w o' → length o'.bytes.now ≡ length o.bytes.now
+emitted-length {o} {o'} {w} room e =
+    let size = bytes-emit w o.count in
+    ap length e.bytes ∙ length-put o.bytes.now (table_bytes (emit w o.count)) (16 * o.count) (omega arith)
+
 -- the records of A, of B, of C, then their parent
-pub emitted-node : {o₀ o₁ o₂ o₃ : List ℕ} {at p q r : ℕ} {a b c : RecordTree} (o₄ : List ℕ) (u k m : ℕ) (z : ℤ)
-    (x i j l : ℕ)
-    → Emitted o₀ at a o₁ p → Emitted o₁ p b o₂ q → Emitted o₂ q c o₃ r → Room o₀ at (node k m z x a b c)
-    → i ≡ root_number a at → j ≡ root_number b p → l ≡ field_c c x q
-    → o₄ ≡ with_record o₃ r (record_of k m i j l z) → u ≡ r + 1 → Emitted o₀ at (node k m z x a b c) o₄ u
-emitted-node {o₀} {o₁} {o₂} {o₃} {at} {p} {q} {r} {a} {b} {c} o₄ u k m z x i j l A B C room e f g h w =
-    let y : q ≡ at + tree_size a + tree_size b = B.count ∙ ap (λ (n : ℕ). n + tree_size b) A.count in
+pub emitted-node : {o₀ o₁ o₂ o₃ o₄ : Output} {a b c : RecordTree} (k m : ℕ) (z : ℤ) (x : ℕ) {i j l : ℕ}
+    → Emitted o₀ a o₁ → Emitted o₁ b o₂ → Emitted o₂ c o₃ → Room o₀ (node k m z x a b c)
+    → i ≡ root_number a o₀.count → j ≡ root_number b o₁.count → l ≡ field_c c x o₂.count
+    → Pushed o₃ (record_of k m i j l z) o₄ → Emitted o₀ (node k m z x a b c) o₄
+emitted-node {o₀} {o₁} {o₂} {o₃} {o₄} {a} {b} {c} k m z x {i} {j} {l} A B C room e f g h =
+    let at = o₀.count in
+    let y : o₂.count ≡ at + tree_size a + tree_size b = B.count ∙ ap (λ (n : ℕ). n + tree_size b) A.count in
     let ba = table_bytes (emit a at) in
     let bb = table_bytes (emit b (at + tree_size a)) in
     let bc = table_bytes (emit c (at + tree_size a + tree_size b)) in
@@ -80,33 +93,40 @@ emitted-node {o₀} {o₁} {o₂} {o₃} {at} {p} {q} {r} {a} {b} {c} o₄ u k m
       c = (g ∙ ap (field_c c x) y) v;
       literal = z;
     } in
-    let P : o₂ ≡ put o₁ (16 * p) bb = subst (λ (n : ℕ). o₂ ≡ put o₁ (16 * p) (table_bytes (emit b n))) A.count
-    B.bytes in
-    let Q : o₃ ≡ put o₂ (16 * q) bc = subst (λ (n : ℕ). o₃ ≡ put o₂ (16 * q) (table_bytes (emit c n))) y C.bytes in
-    let R : o₄ ≡ put o₃ (16 * r) own = subst (λ (n : Record). o₄ ≡ put o₃ (16 * r) (record_bytes n)) same h in
+    let P : o₂.bytes.now ≡ put o₁.bytes.now (16 * o₁.count) bb =
+    subst (λ (n : ℕ). o₂.bytes.now ≡ put o₁.bytes.now (16 * o₁.count) (table_bytes (emit b n))) A.count B.bytes in
+    let Q : o₃.bytes.now ≡ put o₂.bytes.now (16 * o₂.count) bc =
+    subst (λ (n : ℕ). o₃.bytes.now ≡ put o₂.bytes.now (16 * o₂.count) (table_bytes (emit c n))) y C.bytes in
+    let R : o₄.bytes.now ≡ put o₃.bytes.now (16 * o₃.count) own =
+    subst (λ (n : Record). o₄.bytes.now ≡ put o₃.bytes.now (16 * o₃.count) (record_bytes n)) same h.bytes in
     let na = A.count in
     let nc = C.count in
+    let nd = h.count in
     let lo : length own ≡ 16 = length-record (own_record k m z x a b c at) in
-    let first = put_then o₀ o₁ o₂ ba bb (16 * at) (16 * p) (omega arith) (omega arith) A.bytes P in
-    let second = put_then o₀ o₂ o₃ (ba ++ bb) bc (16 * at) (16 * q) (omega arith) (omega arith) first Q in
-    let third = put_then o₀ o₃ o₄ (ba ++ bb ++ bc) own (16 * at) (16 * r) (omega arith) (omega arith) second R in
+    let first = put_then o₀.bytes.now o₁.bytes.now o₂.bytes.now ba bb (16 * at) (16 * o₁.count) (omega arith)
+    (omega arith) A.bytes P in
+    let second = put_then o₀.bytes.now o₂.bytes.now o₃.bytes.now (ba ++ bb) bc (16 * at) (16 * o₂.count) (omega arith)
+    (omega arith) first Q in
+    let third = put_then o₀.bytes.now o₃.bytes.now o₄.bytes.now (ba ++ bb ++ bc) own (16 * at) (16 * o₃.count)
+    (omega arith) (omega arith) second R in
     record {
-      bytes = third ∙ ap (put o₀ (16 * at)) (sym (emit-node k m z x a b c at));
+      same = h.same ∙ C.same ∙ B.same ∙ A.same;
+      bytes = third ∙ ap (put o₀.bytes.now (16 * at)) (sym (emit-node k m z x a b c at));
       count = omega arith;
     }
 
 -- the same of an equal tree
-pub emitted-as : {o o' : List ℕ} {at r : ℕ} {v w : RecordTree} → v ≡ w → Emitted o at w o' r → Emitted o at v o' r
-emitted-as {o} {o'} {at} {r} e h = subst (λ (x : RecordTree). Emitted o at x o' r) (sym e) h
+pub emitted-as : {o o' : Output} {v w : RecordTree} → v ≡ w → Emitted o w o' → Emitted o v o'
+emitted-as {o} {o'} e h = subst (λ (x : RecordTree). Emitted o x o') (sym e) h
 
 -- a tree that has a record
 pub data Some : RecordTree → Type 0 where
   some : {k m : ℕ} {z : ℤ} {x : ℕ} {a b c : RecordTree} → Some (node k m z x a b c)
 
-pub root-some : {w : RecordTree} {o o' : List ℕ} {at r : ℕ} → Some w → Emitted o at w o' r → r ≡ root_number w at
+pub root-some : {w : RecordTree} {o o' : Output} → Some w → Emitted o w o' → o'.count ≡ root_number w o.count
 root-some some h = h.count
 
-pub field-some : {w : RecordTree} {o o' : List ℕ} {at r : ℕ} (x : ℕ) → Some w → Emitted o at w o' r → r ≡ field_c w x at
+pub field-some : {w : RecordTree} {o o' : Output} (x : ℕ) → Some w → Emitted o w o' → o'.count ≡ field_c w x o.count
 field-some x some h = h.count
 
 pub statement-some : (w : TargetStatement) → Some (statement_tree w)

@@ -2,115 +2,143 @@
 
 #![tactic(auto)]
 
-ghost use Rattle.std.specs.Prelude.{◌≡◌, ◌++◌, ◌+◌, ◌*◌, ◌≤◌, pos, length};
+ghost use Rattle.std.specs.Prelude.{◌≡◌, ◌++◌, ◌+◌, ◌≤◌, pos, length};
 ghost use Rattle.rules.specs.Sizes.{source_limit};
 ghost use Rattle.rules.specs.Words.{put, digits};
-ghost use Rattle.rules.specs.Records.{kind_of, mark_of, literal_of};
-ghost use Rattle.rules.specs.Emission.{none, node};
-ghost use Rattle.table.specs.Within.{Within};
-ghost use Rattle.translation_emission.specs.Emission.{record_of, with_record, Room, Emitted, Copied, root_from};
+ghost use Rattle.rules.specs.Records.{record_bytes};
+ghost use Rattle.rules.specs.Emission.{root_number};
+ghost use Rattle.translation_emission.specs.Emission.{record_of, RoomFor, Room, Pushed, Emitted, Copied, part_tree};
+ghost use Rattle.translation_emission.specs.Emission.{leaf_tree};
 ghost use Rattle.translation_sizes.specs.Trees.{copy_at};
 
-// The three children of a record, two bytes each.
-fn emit_children(out: &mut [u8], place: usize, a: usize, b: usize, c: usize)
-    requires { place + 6 ≤ length out.old }
-    ensures { out.new ≡ put out.old place (digits 2 a ++ digits 2 b ++ digits 2 c) }
-{
-    byte_words::write_word(out, place, 2, a as u64);
-    byte_words::write_word(out, place + 2, 2, b as u64);
-    byte_words::write_word(out, place + 4, 2, c as u64);
-}
+use rules::Record;
 
-// Record `at + 1`, sixteen bytes.
-pub fn emit_record(
-    out: &mut [u8],
-    at: usize,
-    kind: u8,
-    mark: u8,
-    a: usize,
-    b: usize,
-    c: usize,
-    literal: i64,
-) -> usize
-    requires { 16 * (at + 1) ≤ length out.old }
-    ensures bytes { out.new ≡ with_record out.old at (record_of kind mark a b c literal) }
-    ensures count { result ≡ at + 1 }
-{
-    let place = 16 * at;
-    out[place] = kind;
-    out[place + 1] = mark;
-    emit_children(out, place + 2, a, b, c);
-    byte_words::write_i64(out, place + 8, literal);
-    at + 1
-}
+// A record of zeros, of which others name what they change.
+pub const EMPTY: Record = Record {
+    kind: 0,
+    mark: 0,
+    a: 0,
+    b: 0,
+    c: 0,
+    literal: 0,
+};
 
-// The number of a child's record: none where the child is none.
-fn root(n: usize, at: usize) -> usize
-    ensures { result ≡ root_from n at }
+// A record of statement s without children.
+pub fn statement_record(kind: u8, mark: u8, s: usize) -> Record
+    requires { s ≤ source_limit }
+    ensures { result ≡ record_of kind mark 0 0 0 (pos s) }
 {
-    if n == 0 { 0 } else { at }
-}
-
-// A copy of record n, with other children.
-fn copy_record(table: &[u8], n: usize, out: &mut [u8], at: usize, a: usize, b: usize) -> usize
-    requires fact_1 { Within table.now n }
-    requires fact_2 { 16 * (at + 1) ≤ length out.old }
-    ensures bytes { out.new ≡ with_record out.old at
-        (record_of (kind_of table.now n) (mark_of table.now n) a b 0
-        (literal_of table.now n)) }
-    ensures count { result ≡ at + 1 }
-{
-    let kind = table::kind(table, n);
-    let mark = table::mark(table, n);
-    emit_record(out, at, kind, mark, a, b, 0, table::literal(table, n))
-}
-
-// A copy of an expression or a place.
-pub fn copy(table: &[u8], n: usize, out: &mut [u8], at: usize) -> usize
-    requires { (Copied table.now n) × (Room out.old at (copy_at table.now n)) }
-    ensures { Emitted out.old at (copy_at table.now n) out.new result }
-{
-    if n == 0 {
-        return at;
+    let literal = s as i64;
+    Record {
+        kind,
+        mark,
+        literal,
+        ..EMPTY
     }
-    let a = table::child_a(table, n);
-    let b = table::child_b(table, n);
-    let x = copy(table, a, out, at);
-    let y = copy(table, b, out, x);
-    copy_record(table, n, out, y, root(a, x), root(b, y))
 }
 
-// Copies of two records, then a record of statement s.
-pub fn emit_part(
-    table: &[u8],
-    out: &mut [u8],
-    at: usize,
-    kind: u8,
-    mark: u8,
-    a: usize,
-    b: usize,
-    c: usize,
-    s: usize,
-) -> usize
-    requires fact_1 { Copied table.now a }
-    requires fact_2 { Copied table.now b }
-    requires fact_3 { s ≤ source_limit }
-    requires fact_4 { Room out.old at (node kind mark (pos s) c (copy_at table.now a) (copy_at table.now b) none) }
-    ensures { Emitted out.old at
-        (node kind mark (pos s) c (copy_at table.now a) (copy_at table.now b) none)
-        out.new result }
+// The three children of a record, two bytes each.
+fn write_children(bytes: &mut [u8], place: usize, a: usize, b: usize, c: usize)
+    requires { place + 6 ≤ length bytes.old }
+    ensures { bytes.new ≡ put bytes.old place (digits 2 a ++ digits 2 b ++ digits 2 c) }
 {
-    let x = copy(table, a, out, at);
-    let y = copy(table, b, out, x);
-    emit_record(out, y, kind, mark, root(a, x), root(b, y), c, s as i64)
+    byte_words::write_word(bytes, place, 2, a as u64);
+    byte_words::write_word(bytes, place + 2, 2, b as u64);
+    byte_words::write_word(bytes, place + 4, 2, c as u64);
 }
 
-// A sequence of statement s: the part that ends with record `first`, then all behind it.
-pub fn emit_sequence(out: &mut [u8], at: usize, first: usize, s: usize) -> usize
-    requires fact_1 { s ≤ source_limit }
-    requires fact_2 { 16 * (at + 1) ≤ length out.old }
-    ensures bytes { out.new ≡ with_record out.old at (record_of 44 0 first at 0 (pos s)) }
-    ensures count { result ≡ at + 1 }
+// A record, sixteen bytes.
+fn write_record(bytes: &mut [u8], place: usize, record: Record)
+    requires { place + 16 ≤ length bytes.old }
+    ensures { bytes.new ≡ put bytes.old place (record_bytes «record») }
 {
-    emit_record(out, at, 44, 0, first, at, 0, s as i64)
+    bytes[place] = record.kind;
+    bytes[place + 1] = record.mark;
+    write_children(bytes, place + 2, record.a, record.b, record.c);
+    byte_words::write_i64(bytes, place + 8, record.literal);
+}
+
+// The records that stand in lent bytes, and how many they are.
+#[derive(Drop)]
+pub struct Output<'a> {
+    pub bytes: &'a mut [u8],
+    pub count: usize,
+}
+
+impl Output<'_> {
+    pub fn push(&mut self, record: Record)
+        requires { RoomFor self.old 1 }
+        ensures { Pushed self.old «record» self.new }
+    {
+        write_record(self.bytes, 16 * self.count, record);
+        self.count += 1;
+    }
+
+    // A copy of an expression or a place; its own record's number is returned, 0 where it is none.
+    #[tactic(auto, using(crate::proofs::Copying::within_copied))]
+    pub fn copy(&mut self, table: &[u8], n: usize) -> usize
+        requires { (Copied table.now n) × (Room self.old (copy_at table.now n)) }
+        ensures emitted { Emitted self.old (copy_at table.now n) self.new }
+        ensures root { result ≡ root_number (copy_at table.now n) self.old.count }
+    {
+        if n == 0 {
+            return 0;
+        }
+        let a = self.copy(table, table::child_a(table, n));
+        let b = self.copy(table, table::child_b(table, n));
+        let kind = table::kind(table, n);
+        let mark = table::mark(table, n);
+        let literal = table::literal(table, n);
+        self.push(Record {
+            kind,
+            mark,
+            a,
+            b,
+            c: 0,
+            literal,
+        });
+        self.count
+    }
+
+    // A record of statement s over copies of two records.
+    pub fn part(&mut self, table: &[u8], kind: u8, mark: u8, a: usize, b: usize, s: usize)
+        requires fact_1 { Copied table.now a }
+        requires fact_2 { Copied table.now b }
+        requires fact_3 { s ≤ source_limit }
+        requires fact_4 { Room self.old (part_tree table.now s kind mark a b) }
+        ensures { Emitted self.old (part_tree table.now s kind mark a b) self.new }
+    {
+        let x = self.copy(table, a);
+        let y = self.copy(table, b);
+        self.push(Record {
+            a: x,
+            b: y,
+            ..statement_record(kind, mark, s)
+        });
+    }
+
+    // A record of statement s without children, with a number in field C.
+    pub fn leaf(&mut self, kind: u8, mark: u8, c: usize, s: usize)
+        requires fact_1 { s ≤ source_limit }
+        requires fact_2 { RoomFor self.old 1 }
+        ensures { Emitted self.old (leaf_tree s kind mark c) self.new }
+    {
+        self.push(Record {
+            c,
+            ..statement_record(kind, mark, s)
+        });
+    }
+
+    // A sequence of statement s: the part that ends with record `first`, then all behind it.
+    pub fn sequence(&mut self, first: usize, s: usize)
+        requires fact_1 { s ≤ source_limit }
+        requires fact_2 { RoomFor self.old 1 }
+        ensures { Pushed self.old (record_of 44 0 first self.old.count 0 (pos s)) self.new }
+    {
+        self.push(Record {
+            a: first,
+            b: self.count,
+            ..statement_record(44, 0, s)
+        });
+    }
 }

@@ -1,5 +1,5 @@
 -- The record number falls.
-use Rattle.translation_emission.proofs.+copy.Given as goal
+use Rattle.translation_emission.proofs.Output.+copy.Given as goal
 
 abbrev pub decreases-copy : goal.decreases-copy
 decreases-copy l = l.n
