@@ -1,2 +1,2 @@
 -- Laws of the two divisions.
-mod Divides
+mod Nearest

@@ -5,19 +5,16 @@
 ghost use Rattle.std.specs.Prelude.{◌≡◌, nat_abs, ◌<◌};
 ghost use Rattle.rules.specs.Numbers.{divided, rounds_up, toward_zero, to_nearest};
 
-use rules::Number;
+use rules::Stop;
 
 // Rounded toward zero.
-pub fn divide(a: i64, b: i64) -> Number
+pub fn divide(a: i64, b: i64) -> Result<i64, Stop>
     ensures { result ≡ divided toward_zero a b }
 {
     if b == 0 {
-        return Number::ZeroDivisor;
+        return Err(Stop::ZeroDivisor);
     }
-    if b == -1 {
-        return number::subtract(0, a);
-    }
-    Number::Is(a / b)
+    a.checked_div(b).ok_or(Stop::Overflow)
 }
 
 // Whether the quotient's magnitude is rounded up: the remainder is over half of the divisor, or exactly half of it and
@@ -26,33 +23,28 @@ fn rounds_up(q: i64, r: i64, b: i64) -> bool
     requires { nat_abs r < nat_abs b }
     ensures { result ≡ rounds_up (nat_abs q) (nat_abs r) (nat_abs b) }
 {
-    let below = number::magnitude(r);
-    let above = number::magnitude(b) - below;
+    let below = r.unsigned_abs();
+    let above = b.unsigned_abs() - below;
     if above == below {
-        return number::magnitude(q) % 2 == 1;
+        return q.unsigned_abs() % 2 == 1;
     }
     above < below
 }
 
 // Rounded to the nearest, a half to the even neighbour.
-pub fn divide_nearest(a: i64, b: i64) -> Number
+#[tactic(auto, using(crate::proofs::Nearest::refused))]
+pub fn divide_nearest(a: i64, b: i64) -> Result<i64, Stop>
     ensures { result ≡ divided to_nearest a b }
 {
-    if b == 0 {
-        return Number::ZeroDivisor;
-    }
-    if b == -1 {
-        return number::subtract(0, a);
-    }
-    let q = a / b;
+    let q = divide(a, b)?;
     let r = a % b;
     if rounds_up(q, r, b) {
         if (a < 0) != (b < 0) {
-            Number::Is(q - 1)
+            Ok(q - 1)
         } else {
-            Number::Is(q + 1)
+            Ok(q + 1)
         }
     } else {
-        Number::Is(q)
+        Ok(q)
     }
 }
