@@ -13,12 +13,15 @@ use Rattle.rules.proofs.Layouts.LayoutLaws.{memory-back}
 use Rattle.rules.specs.declared.{Block.Block, Cell.Cell}
 use Rattle.memory_cells.specs.Changes.{empty_memory}
 
-pub empty-image : replicate memory_length 0 ≡ memory_image empty_memory
+empty_image : replicate memory_length 0 ≡ memory_image empty_memory
 unfolding memory_image block_bytes cell_bytes digits
-empty-image =
+empty_image =
     sym (ap₂ (λ (x y : List ℕ). x ++ y) (flat-all block_bytes Block.Unused 8 name_count refl)
     (flat-all cell_bytes Cell.Free 16 cell_count refl)
     ∙ replicate-append-replicate blocks_length (cell_count * 16) 0)
+
+pub cleared : {l : List ℕ} (n : ℕ) → n ≡ memory_length → l ≡ replicate n 0 → l ≡ memory_image empty_memory
+cleared n e q = q ∙ rw e empty_image
 
 empty-fits : FitsMemory empty_memory
 empty-fits = record {

@@ -1,5 +1,5 @@
 -- The bytes of a cell are those of two numbers, one behind the other: the first is laid out as a block record is.
-use Prim.Native.Nat.{ℕ, ◌+◌, ◌*◌, ◌<◌, ◌≤◌}
+use Prim.Native.Nat.{ℕ, ◌+◌, ◌≤◌}
 use native.Mathlib.Omega.{arith}
 use mathlib.Core.Path.{◌≡◌, refl, ap, ◌∙◌}
 use mathlib.Core.List.{List, ◌++◌}
@@ -8,22 +8,19 @@ use lib.ListN.{length}
 use mir.Syntax.{w64}
 use mir.Val.{of_z}
 use Rattle.rules.specs.Words.{digits, put, integer_bytes}
-use Rattle.rules.specs.Layout.{block_record, cell_record, name_limit}
+use Rattle.rules.specs.Layout.{block_record, cell_record}
 use Rattle.rules.proofs.Lists.WordLaws.{put-put, length_digits}
-use Rattle.rules.proofs.Lists.RecordLaws.{record-digits}
+use Rattle.rules.proofs.Lists.RecordLaws.{length-record}
 
 head-number : (k o n : ℕ) (z : ℤ) → block_record k o n ++ integer_bytes z ≡ cell_record k o n z
 unfolding digits
 head-number k o n z = refl
 
-pub parts-put : (l : List ℕ) (at k o n : ℕ) (z : ℤ) → at + 16 ≤ length l → k < 256 → o < name_limit → n < name_limit
-    → put (put l at (digits 8 (k + o * 65536 + n * 4294967296))) (at + 8) (integer_bytes z)
-    ≡ put l at (cell_record k o n z)
-parts-put l at k o n z room hk ho hn =
-    let v : ℕ = k + o * 65536 + n * 4294967296 in
-    let w : List ℕ = digits 8 v in
-    let e : at + 8 ≡ at + length w = omega (arith, length_digits 8 v) in
+pub parts-put : (l : List ℕ) (at k o n : ℕ) (z : ℤ) → at + 16 ≤ length l
+    → put (put l at (block_record k o n)) (at + 8) (integer_bytes z) ≡ put l at (cell_record k o n z)
+parts-put l at k o n z room =
+    let w : List ℕ = block_record k o n in
+    let e : at + 8 ≡ at + length w = omega (arith, length-record k o n) in
     ap (λ (j : ℕ). put (put l at w) j (integer_bytes z)) e
-    ∙ put-put l w (integer_bytes z) at (omega (arith, length_digits 8 v, length_digits 8 (of_z w64 z)))
-    ∙ ap (λ (t : List ℕ). put l at (t ++ integer_bytes z)) (record-digits k o n hk ho hn)
+    ∙ put-put l w (integer_bytes z) at (omega (arith, length-record k o n, length_digits 8 (of_z w64 z)))
     ∙ ap (put l at) (head-number k o n z)

@@ -5,14 +5,12 @@ use native.Mathlib.Omega.{arith}
 use mathlib.Core.Path.{◌≡◌, refl, sym, ap, ◌∙◌, subst}
 use mathlib.Core.Logic.{◌≢◌, ◌⊎◌, inl, inr, ⊎_elim}
 use mathlib.Core.List.{List}
-use lib.IntN.{pos}
 use lib.ListN.{length, get_or, set}
 use lib.Seq.{set_out}
 use Rattle.rules.specs.Sizes.{name_count, cell_count, memory_length}
 use Rattle.rules.specs.Words.{little, put, word_at}
 use Rattle.rules.specs.Memory.{Memory, set_cell}
 use Rattle.rules.specs.Layout.{memory_of, memory_image, block_bytes, cell_bytes, block_place, cell_place, block_at, cell_at}
-use Rattle.rules.specs.Layout.{cell_from, name_limit}
 use Rattle.rules.proofs.Lists.WordLaws.{part-put-in, get_d-put-in, get_d-put-apart}
 use Rattle.rules.proofs.Lists.WordLaws.{word-put-apart, fits-range}
 use Rattle.rules.proofs.Lists.Rows.{tabulate-same, tabulate-set}
@@ -142,55 +140,48 @@ fits-cell (Cell.Holds o Value.Undefined) h = h
 fits-cell (Cell.Holds o (Value.Integer z)) h = (h.0, fits-range z h.1)
 fits-cell (Cell.Holds o (Value.Pointer p)) h = (h.0, (h.1.0, fits-range p.offset h.1.1))
 
--- a cell without a value, by its kind
-pub without-value-held : (k o : ℕ) → o < name_limit → CellHeld (cell_from k o 0 (pos 0))
-without-value-held zero o h = tt
-without-value-held (suc zero) o h = (h, tt)
-without-value-held (suc (suc zero)) o h = (h, record { sfits = omega arith })
-without-value-held (suc (suc (suc k))) o h = (h, (omega arith, record { sfits = omega arith }))
-
 fits-block : (b : Block) → BlockHeld b → FitsBlock b
 fits-block Block.Unused h = tt
 fits-block (Block.Fixed first n) h = h
 fits-block (Block.Freeable first n) h = h
 fits-block Block.Dead h = tt
 
-pub becomes-cell : (l : List ℕ) (i : ℕ) (c : Cell) → length l ≡ memory_length → i < cell_count → CellHeld c
-    → Becomes l (put l (cell_place i) (cell_bytes c)) (set_cell (memory_of l) i c)
-becomes-cell l i c e h s =
+pub becomes_cell : {l l' : List ℕ} (i : ℕ) (c : Cell) → l' ≡ put l (cell_place i) (cell_bytes c)
+    → length l ≡ memory_length → i < cell_count → CellHeld c → Becomes l l' (set_cell (memory_of l) i c)
+becomes_cell {l} i c q e h s =
     let v : memory_of (put l (cell_place i) (cell_bytes c)) ≡ set_cell (memory_of l) i c =
     view-cell l e i c h (fits-cell c s) in
     let inside : i < length (memory_of l).cells = omega (arith, count-cells l) in
-    record {
+    rw q (record {
       view = v;
       exact = λ x. ap (λ (t : List ℕ). put t (cell_place i) (cell_bytes c)) x
           ∙ image-put-cell (memory_of l) i c (count-blocks l) inside ∙ ap memory_image (sym v);
-    }
+    })
 
-pub cell-outside : (l : List ℕ) (i : ℕ) (c : Cell) → cell_count ≤ i → Becomes l l (set_cell (memory_of l) i c)
-cell-outside l i c h =
+pub cell_outside : (l : List ℕ) (i : ℕ) (c : Cell) → cell_count ≤ i → Becomes l l (set_cell (memory_of l) i c)
+cell_outside l i c h =
     let e : set (memory_of l).cells i c ≡ (memory_of l).cells =
     set_out (memory_of l).cells i c (le_trans (le_of_eq (count-cells l)) h) in
     unchanged l (set_cell (memory_of l) i c) (λ t. record { blocks = (memory_of l).blocks; cells = sym e t })
 
-becomes-record : (l : List ℕ) (k : ℕ) (b : Block) → length l ≡ memory_length → k < name_count → BlockHeld b
-    → Becomes l (put l (block_place k) (block_bytes b)) (set_block (memory_of l) (suc k) b)
-becomes-record l k b e h s =
+becomes-record : {l l' : List ℕ} (k : ℕ) (b : Block) → l' ≡ put l (block_place k) (block_bytes b)
+    → length l ≡ memory_length → k < name_count → BlockHeld b → Becomes l l' (set_block (memory_of l) (suc k) b)
+becomes-record {l} k b q e h s =
     let v : memory_of (put l (block_place k) (block_bytes b)) ≡ set_block (memory_of l) (suc k) b =
     view-block l e k b h (fits-block b s) in
     let inside : k < length (memory_of l).blocks = omega (arith, count-blocks l) in
-    record {
+    rw q (record {
       view = v;
       exact = λ x. ap (λ (t : List ℕ). put t (block_place k) (block_bytes b)) x
           ∙ image-put-block (memory_of l) k b inside ∙ ap memory_image (sym v);
-    }
+    })
 
-pub becomes-block : (l : List ℕ) (k : ℕ) (b : Block) → length l ≡ memory_length → 0 < k → k ≤ name_count → BlockHeld b
-    → Becomes l (put l (block_place (k - 1)) (block_bytes b)) (set_block (memory_of l) k b)
-becomes-block l zero b e p h s = absurd (omega arith)
-becomes-block l (suc k) b e p h s =
+pub becomes_block : {l l' : List ℕ} (k : ℕ) (b : Block) → l' ≡ put l (block_place (k - 1)) (block_bytes b)
+    → length l ≡ memory_length → 0 < k → k ≤ name_count → BlockHeld b → Becomes l l' (set_block (memory_of l) k b)
+becomes_block zero b q e p h s = absurd (omega arith)
+becomes_block {l} {l'} (suc k) b q e p h s =
     let d : suc k - 1 ≡ k = omega arith in
-    rw d (becomes-record l k b e (omega arith) s)
+    becomes-record k b (rw d at q) e (omega arith) s
 
 -- one change after the other
 pub becomes-then : {l l' l'' : List ℕ} {m : Memory} (f : Memory → Memory) → Becomes l l' m

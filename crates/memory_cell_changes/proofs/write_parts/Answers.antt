@@ -5,11 +5,10 @@ use Rattle.rules.specs.Layout.{cell_place}
 use Rattle.memory_cell_changes.proofs.Parts.{parts-put}
 use Rattle.memory_cell_changes.proofs.write_parts.Goals as goal
 
-pub returns-clause-bytes : goal.returns-clause-bytes
-returns-clause-bytes c =
+pub returns : goal.returns
+returns c =
     let a = c.args in
-    let r = c.ranges in
     let e : length a.mem.now ≡ memory_length = search rules in
     let room : cell_place a.i + 16 ≤ length a.mem.now = omega (arith, c.requires) in
-    (rw (to_z-of_z r.z, c.write_word.ensures) at c.write_i64.ensures)
-    ∙ parts-put a.mem.now (cell_place a.i) a.kind a.owner a.name a.z room r.kind.fits r.owner.fits r.name.fits
+    (rw (to_z-of_z c.ranges.z, c.write_record.ensures) at c.write_i64.ensures)
+    ∙ parts-put a.mem.now (cell_place a.i) a.kind a.owner a.name a.z room
