@@ -1,3 +1,0 @@
--- Facts about operators.
-pub mod Operators
-pub mod Asking

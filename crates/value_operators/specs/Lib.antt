@@ -1,2 +1,0 @@
--- What the code of operators is held to.
-pub mod Blocks
