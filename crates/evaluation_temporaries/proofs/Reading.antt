@@ -14,6 +14,7 @@ use Rattle.rules.proofs.Lists.Rows.{get_d_tabulate}
 use Rattle.memory_cells.proofs.Reading.{other-cell}
 use Rattle.evaluation_temporaries.specs.Bytes.{temporary_in, temporary_place, temporary_at, temporaries_of}
 use Rattle.rules.specs.declared.{Value.Value, Cell.Cell}
+use Rattle.rules.specs.declared.{Stop.Stop}
 use Rattle.rules.specs.Types.{Evaluated}
 use Rattle.std.specs.Prelude.{Err, None, Ok}
 
@@ -41,7 +42,7 @@ module _ (l : List ℕ) (n : ℕ) (h : n < 64) where
   held_by : (k : ℕ) → kind ≡ k → told k name number ≡ held_in (temporaries_of l) n
   held_by k e = sym (held_at ∙ ap (λ (k : ℕ). told k name number) e)
 
-  pub empty-held : kind ≡ 0 → Err 49 ≡ held_in (temporaries_of l) n
+  pub empty-held : kind ≡ 0 → Err Stop.EmptyTemporary ≡ held_in (temporaries_of l) n
   empty-held e = held_by 0 e
 
   pub undefined-held : kind ≡ 1 → Ok Value.Undefined ≡ held_in (temporaries_of l) n

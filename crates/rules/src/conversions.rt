@@ -4,9 +4,9 @@ ghost use Rattle.std.specs.Prelude.{◌≡◌, Ok, Err};
 ghost use Rattle.rules.specs.Types.{stop_number, rule_number, missed};
 ghost use Rattle.rules.specs.Nodes.{operator_of, query_of};
 ghost use Rattle.rules.specs.Numbers.{truth};
-ghost use Rattle.rules.specs.Memory.{on_integer, on_pointer};
+ghost use Rattle.rules.specs.Memory.{on_integer, on_pointer, recorded_of};
 
-use crate::{Miss, Operator, Pointer, Query, Rule, Stop, Value};
+use crate::{Block, Miss, Operator, Pointer, Query, Recorded, Rule, Stop, Value};
 
 // The operator of a number that a table has; a shift's record has none.
 impl From<u8> for Operator {
@@ -74,6 +74,19 @@ impl TryFrom<Value> for Pointer {
         match value {
             Value::Pointer(p) => Ok(p),
             Value::Undefined | Value::Integer(_) => Err(Stop::WrongSort),
+        }
+    }
+}
+
+// What both memories ask of a block: whether it is live, and where.
+impl From<Block> for Recorded {
+    ghost from_gives = { λ block recorded. recorded ≡ recorded_of block };
+
+    fn from(block: Block) -> Recorded {
+        match block {
+            Block::Unused => Recorded::Unused,
+            Block::Fixed(first, n) | Block::Freeable(first, n) => Recorded::Live(first, n),
+            Block::Dead => Recorded::Dead,
         }
     }
 }
