@@ -1,13 +1,12 @@
 -- The parts of a tree behind one another: the room that each finds, and what they are together.
-use Prim.Native.Nat.{ℕ, suc, ◌+◌, ◌*◌, ◌≤◌, ◌<◌}
+use Prim.Native.Nat.{ℕ, suc, ◌*◌, ◌<◌}
 use native.Mathlib.Omega.{arith}
-use mathlib.Core.Path.{◌≡◌, refl, ◌∙◌}
-use mathlib.Core.List.{List}
+use mathlib.Core.Path.{◌≡◌, refl}
 use lib.IntN.{pos}
-use lib.ListN.{length}
 use Rattle.rules.specs.Emission.{RecordTree, none, node}
-use Rattle.translation_emission.specs.Emission.{record_of, with_record, Room, Emitted, sequence_tree}
-use Rattle.translation_emission.proofs.Emitting.{emitted-none, emitted-node, Some, some, root-some, field-some}
+use Rattle.translation_emission.specs.declared.Output.{Output}
+use Rattle.translation_emission.specs.Emission.{record_of, RoomFor, Room, Pushed, Emitted, sequence_tree}
+use Rattle.translation_emission.proofs.Emitting.{emitted-none, emitted-length, emitted-node, Some, some, root-some, field-some}
 use Rattle.translation_emission.proofs.Parts.{emitted-sequence}
 use Rattle.translation_assertions.specs.Tests.{Branched}
 
@@ -19,48 +18,54 @@ pub falls-to : {a n t : ℕ} → n * 2 ≡ t → a < n → suc (a * 2) < t
 falls-to e h = omega arith
 
 -- ---- a sequence
-pub record Sequence (o : List ℕ) (at s : ℕ) (a b : RecordTree) : Type 0 where
-  pub room : Room o at (sequence_tree s a b)
+pub record Sequence (o : Output) (s : ℕ) (a b : RecordTree) : Type 0 where
+  pub room : Room o (sequence_tree s a b)
   pub some-a : Some a
   pub some-b : Some b
 
-pub first-room : {o : List ℕ} {at s : ℕ} {a b : RecordTree} → Sequence o at s a b → Room o at a
+pub first-room : {o : Output} {s : ℕ} {a b : RecordTree} → Sequence o s a b → Room o a
 first-room q = omega (arith, q.room)
 
-module _ {o o₁ : List ℕ} {at x s : ℕ} {a b : RecordTree} where
-  pub second-room : Sequence o at s a b → Emitted o at a o₁ x → length o₁ ≡ length o → Room o₁ x b
-  second-room q A same = omega (arith, q.room, A.count)
+module _ {o o₁ : Output} {s : ℕ} {a b : RecordTree} (q : Sequence o s a b) (A : Emitted o a o₁) where
+  pub second-room : Room o₁ b
+  second-room = omega (arith, q.room, A.count, emitted-length (first-room q) A)
 
-  pub over-room : {o₂ : List ℕ} {y : ℕ} → Sequence o at s a b → Emitted o at a o₁ x → length o₁ ≡ length o
-      → Emitted o₁ x b o₂ y → length o₂ ≡ length o₁ → 16 * (y + 1) ≤ length o₂
-  over-room q A same B same₂ = omega (arith, q.room, A.count, B.count)
+  module _ {o₂ : Output} (B : Emitted o₁ b o₂) where
+    pub over-room : RoomFor o₂ 1
+    over-room =
+        omega (arith, q.room, A.count, B.count, emitted-length (first-room q) A, emitted-length second-room B)
 
-  pub whole : {o₂ : List ℕ} {y : ℕ} (o₃ : List ℕ) (u : ℕ) → Sequence o at s a b → Emitted o at a o₁ x
-      → Emitted o₁ x b o₂ y → o₃ ≡ with_record o₂ y (record_of 44 0 x y 0 (pos s)) → u ≡ y + 1
-      → Emitted o at (sequence_tree s a b) o₃ u
-  whole o₃ u q A B = emitted-sequence o₃ u s q.some-a q.some-b A B q.room
+    pub whole : {o₃ : Output} → Pushed o₂ (record_of 44 0 o₁.count o₂.count 0 (pos s)) o₃
+        → Emitted o (sequence_tree s a b) o₃
+    whole h = emitted-sequence s q.some-a q.some-b A B q.room h
 
 -- a 66 over two trees, behind another
-pub emitted-branch : {o o₁ o₂ o₃ o₄ : List ℕ} {at x y z r m s : ℕ} {a b c : RecordTree} → Some a → Some b → Some c
-    → Emitted o at a o₁ x → Emitted o₁ x b o₂ y → Emitted o₂ y c o₃ z → length o₁ ≡ length o
-    → Room o at (sequence_tree s a (node 66 m (pos s) 0 none b c)) → Branched o₃ z x y m s o₄ r
-    → Emitted o at (sequence_tree s a (node 66 m (pos s) 0 none b c)) o₄ r
-emitted-branch {o₁ = o₁} {z = z} {m = m} {s = s} p q u A B C same room h =
-    let count = A.count in
-    let own = emitted-node h.middle (z + 1) 66 m (pos s) 0 0 _ _ (emitted-none o₁ _) B C (omega arith) refl
-    (root-some q B) (field-some 0 u C) h.own refl in
-    emitted-sequence _ _ s p some A own room h.over (h.count ∙ omega arith)
+module _ {o o₁ : Output} {s m : ℕ} {a b c : RecordTree} (q : Sequence o s a (node 66 m (pos s) 0 none b c))
+    (A : Emitted o a o₁) where
+  pub yes-room : Room o₁ b
+  yes-room = omega (arith, second-room q A)
 
-module _ {o o₁ : List ℕ} {at x s m : ℕ} {a b c : RecordTree} where
-  pub yes-room : Sequence o at s a (node 66 m (pos s) 0 none b c) → Emitted o at a o₁ x → length o₁ ≡ length o
-      → Room o₁ x b
-  yes-room q A same = omega (arith, q.room, A.count)
+  module _ {o₂ : Output} (B : Emitted o₁ b o₂) where
+    pub no_room : Room o₂ c
+    no_room = omega (arith, second-room q A, B.count, emitted-length yes-room B)
 
-  pub no_room : {o₂ : List ℕ} {y : ℕ} → Sequence o at s a (node 66 m (pos s) 0 none b c) → Emitted o at a o₁ x
-      → length o₁ ≡ length o → Emitted o₁ x b o₂ y → length o₂ ≡ length o₁ → Room o₂ y c
-  no_room q A same B same₂ = omega (arith, q.room, A.count, B.count)
+    module _ {o₃ : Output} (C : Emitted o₂ c o₃) where
+      pub branch-room : RoomFor o₃ 2
+      branch-room =
+          omega (
+            arith,
+            q.room,
+            A.count,
+            B.count,
+            C.count,
+            emitted-length (first-room q) A,
+            emitted-length yes-room B,
+            emitted-length no_room C,
+          )
 
-  pub branch-room : {o₂ o₃ : List ℕ} {y z : ℕ} → Sequence o at s a (node 66 m (pos s) 0 none b c) → Emitted o at a o₁ x
-      → length o₁ ≡ length o → Emitted o₁ x b o₂ y → length o₂ ≡ length o₁ → Emitted o₂ y c o₃ z
-      → length o₃ ≡ length o₂ → 16 * (z + 2) ≤ length o₃
-  branch-room q A same B same₂ C same₃ = omega (arith, q.room, A.count, B.count, C.count)
+      pub emitted-branch : {o₄ : Output} → Some b → Some c → Branched o₃ o₁.count o₂.count m s o₄
+          → Emitted o (sequence_tree s a (node 66 m (pos s) 0 none b c)) o₄
+      emitted-branch x y h =
+          let own = emitted-node 66 m (pos s) 0 (emitted-none o₁) B C (second-room q A) refl (root-some x B)
+          (field-some 0 y C) h.own in
+          emitted-sequence s q.some-a some A own q.room h.over

@@ -10,23 +10,24 @@ use Rattle.rules.specs.Records.{kind_of, mark_of, child_a, child_b}
 use Rattle.rules.specs.Checker.{is_unary}
 use Rattle.rules.specs.Emission.{RecordTree, none, node}
 use Rattle.table.specs.Within.{Within}
-use Rattle.translation_emission.specs.Emission.{Copied, sequence_tree, part_tree}
+use Rattle.translation_emission.specs.Emission.{Copied, sequence_tree, part_tree, leaf_tree}
 use Rattle.translation_sizes.specs.Trees.{tree_at}
-use Rattle.translation_assertions.specs.Tests.{LevelsAt, last_kind, last_field}
+use Rattle.translation_emission.specs.declared.Output.{Output}
+use Rattle.translation_assertions.specs.Tests.{LevelsAt, Ready, last_kind, last_field}
 use Rattle.translation_assertions.proofs.Tests.{BinaryTest, skip_tree, TestOf, test_at}
 
 abbrev pub ValueAt : List ℕ → ℕ → ℕ → ℕ → ℕ → Type 0
-ValueAt t n s v a = Copied t a × (v < 64) × (tree_at t n s v ≡ part_tree t s 61 v a 0 0)
+ValueAt t n s v a = Copied t a × (v < 64) × (tree_at t n s v ≡ part_tree t s 61 v a 0)
 
 abbrev pub UnaryAt : List ℕ → ℕ → ℕ → ℕ → ℕ → ℕ → ℕ → ℕ → Type 0
 UnaryAt t n s v k c a w =
     (a < n) × LevelsAt t a w × (suc v < 64)
-    × (tree_at t n s v ≡ sequence_tree s (tree_at t a s w) (part_tree t s k v 0 0 c))
+    × (tree_at t n s v ≡ sequence_tree s (tree_at t a s w) (leaf_tree s k v c))
 
 abbrev pub BinaryAt : List ℕ → ℕ → ℕ → ℕ → ℕ → ℕ → ℕ → ℕ → ℕ → Type 0
 BinaryAt t n s v a b m w x =
     (a < n) × (b < n) × LevelsAt t a w × LevelsAt t b x × (suc (suc v) < 64)
-    × (tree_at t n s v ≡ sequence_tree s (tree_at t a s w) (sequence_tree s (tree_at t b s x) (part_tree t s 63 v 0 0 m)))
+    × (tree_at t n s v ≡ sequence_tree s (tree_at t a s w) (sequence_tree s (tree_at t b s x) (leaf_tree s 63 v m)))
 
 abbrev pub JointAt : List ℕ → ℕ → ℕ → ℕ → ℕ → ℕ → RecordTree → RecordTree → Type 0
 JointAt t n s v a b y z =
@@ -34,9 +35,6 @@ JointAt t n s v a b y z =
     × (tree_at t n s v ≡ sequence_tree s (tree_at t a s v) (node 66 v (pos s) 0 none y z))
 
 module _ (t : List ℕ) (n s v : ℕ) (l : LevelsAt t n v) where
-  pub within : Within t n
-  within = (test_at t n s v l).law.within
-
   of-kind : (k : ℕ) → kind_of t n ≡ k → TestOf t n s v k
   of-kind k e = subst (TestOf t n s v) e (test_at t n s v l).test
 
@@ -56,17 +54,17 @@ module _ (t : List ℕ) (n s v : ℕ) (l : LevelsAt t n v) where
   binary-at e p q r i j = rw (p, q, r, i, j) (binary_test e)
 
   pub both_at : {a b : ℕ} → kind_of t n ≡ 34 → a ≡ child_a t n → b ≡ child_b t n
-      → JointAt t n s v a b (tree_at t b s v) (skip_tree t s)
+      → JointAt t n s v a b (tree_at t b s v) (skip_tree s)
   both_at e p q = rw (p, q) (of-kind 34 e)
 
   pub either-at : {a b : ℕ} → kind_of t n ≡ 35 → a ≡ child_a t n → b ≡ child_b t n
-      → JointAt t n s v a b (skip_tree t s) (tree_at t b s v)
+      → JointAt t n s v a b (skip_tree s) (tree_at t b s v)
   either-at e p q = rw (p, q) (of-kind 35 e)
 
   -- past the kinds that are named
-  last-unary : {k : ℕ} → k ≡ kind_of t n → (k ≡ 20 → ⊥) → ((k ≡ 24) ⊎ (k ≡ 32) → ⊥) → (k ≡ 34 → ⊥) → (k ≡ 35 → ⊥)
-      → is_unary k ≡ true
-  last-unary {k = k} e a b c d = go (is_unary k) refl
+  pub last-unary : {k : ℕ} → k ≡ kind_of t n → (k ≡ 20 → ⊥) → ((k ≡ 24) ⊎ (k ≡ 32) → ⊥) → (k ≡ 34 → ⊥) → (k ≡ 35 → ⊥)
+      → is_unary (kind_of t n) ≡ true
+  last-unary {k = k} e a b c d = rw (sym e) (go (is_unary k) refl)
     where
       go : (u : Bool) → is_unary k ≡ u → is_unary k ≡ true
       go true h = h
@@ -80,20 +78,9 @@ module _ (t : List ℕ) (n s v : ℕ) (l : LevelsAt t n v) where
           ) at (of-kind k (sym e)) in
           absurd (a r.0)
 
-  pub unary-query : {A : Type 0} {k q : ℕ} → A → k ≡ kind_of t n → q ≡ last_field k → (k ≡ 20 → ⊥)
-      → ((k ≡ 24) ⊎ (k ≡ 32) → ⊥) → (k ≡ 33 → ⊥) → (k ≡ 34 → ⊥) → (k ≡ 35 → ⊥)
-      → A × (is_unary (kind_of t n) ≡ true) × (64 ≡ last_kind (kind_of t n)) × (q ≡ last_field (kind_of t n))
-  unary-query {k = k} x e f a b g c d =
-      rw (sym e) (x, last-unary e a b c d, rw (ne_eqb k 33 g) refl, f)
-
-pub unary-not : {A : Type 0} {k : ℕ} → A → k ≡ 33
-    → A × (is_unary k ≡ true) × (65 ≡ last_kind k) × (◌≡◌ {A = ℕ} 0 (last_field k))
-unary-not x e = rw e (x, refl, refl, refl)
+pub within_ready : {t : List ℕ} {n : ℕ} {o : Output} {s v : ℕ} → Ready t n o s v → Within t n
+within_ready {t} {n} {s = s} {v} r = (test_at t n s v r.levels).law.within
 
 pub either-kind : {j k x y : ℕ} → j ≡ k → (j ≡ x) ⊎ (j ≡ y) → (k ≡ x) ⊎ (k ≡ y)
 either-kind e (inl p) = inl (sym e ∙ p)
 either-kind e (inr p) = inr (sym e ∙ p)
-
-pub no-query : (k : ℕ) → (k ≡ 30 → ⊥) → (k ≡ 31 → ⊥) → (k ≡ 21 → ⊥) → (k ≡ 22 → ⊥) → (k ≡ 23 → ⊥)
-    → 0 ≡ last_field k
-no-query k a b c d e = rw (ne_eqb k 30 a, ne_eqb k 31 b, ne_eqb k 21 c, ne_eqb k 22 d, ne_eqb k 23 e) refl

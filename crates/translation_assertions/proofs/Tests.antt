@@ -24,7 +24,7 @@ use Rattle.rules.proofs.Acceptance.KindViews.{let_in, assert}
 use Rattle.rules.proofs.Acceptance.FormLaws.{FormHolds}
 use Rattle.rules.proofs.Acceptance.Standing.{Stands, stands, stands_at}
 use Rattle.translation_sizes.specs.Trees.{target_tree, tree_at, copy_at, sort_at}
-use Rattle.translation_emission.specs.Emission.{Copied, sequence_tree, part_tree}
+use Rattle.translation_emission.specs.Emission.{Copied, sequence_tree, part_tree, leaf_tree}
 use Rattle.translation_assertions.specs.Tests.{TermLevels, PredicateLevels, Levels, LevelsAt, last_kind, last_field}
 use Rattle.translation_emission.proofs.Copying.{operator-back}
 use Rattle.translation_emission.proofs.Emitting.{Some, statement-some}
@@ -63,12 +63,12 @@ term-operator m h = go (between 1 5 m) refl h
 -- what each kind says of record n
 abbrev pub ValueTest : List ℕ → ℕ → ℕ → ℕ → ℕ → Type 0
 ValueTest t n s v k =
-    (k ≡ 20) × Copied t (child_a t n) × (v < 64) × (tree_at t n s v ≡ part_tree t s 61 v (child_a t n) 0 0)
+    (k ≡ 20) × Copied t (child_a t n) × (v < 64) × (tree_at t n s v ≡ part_tree t s 61 v (child_a t n) 0)
 
 abbrev pub UnaryTest : List ℕ → ℕ → ℕ → ℕ → ℕ → ℕ → Type 0
 UnaryTest t n s v k c =
     (child_a t n < n) × LevelsAt t (child_a t n) (suc v) × (suc v < 64)
-    × (tree_at t n s v ≡ sequence_tree s (tree_at t (child_a t n) s (suc v)) (part_tree t s k v 0 0 c))
+    × (tree_at t n s v ≡ sequence_tree s (tree_at t (child_a t n) s (suc v)) (leaf_tree s k v c))
 
 abbrev pub BinaryTest : List ℕ → ℕ → ℕ → ℕ → Type 0
 BinaryTest t n s v =
@@ -76,22 +76,22 @@ BinaryTest t n s v =
     × (suc (suc v) < 64)
     × (tree_at t n s v
     ≡ sequence_tree s (tree_at t (child_a t n) s (suc v))
-    (sequence_tree s (tree_at t (child_b t n) s (suc (suc v))) (part_tree t s 63 v 0 0 (mark_of t n))))
+    (sequence_tree s (tree_at t (child_b t n) s (suc (suc v))) (leaf_tree s 63 v (mark_of t n))))
 
 abbrev pub JointTest : List ℕ → ℕ → ℕ → ℕ → RecordTree → RecordTree → Type 0
 JointTest t n s v b c =
     (child_a t n < n) × (child_b t n < n) × LevelsAt t (child_a t n) v × LevelsAt t (child_b t n) v × (v < 64)
     × (tree_at t n s v ≡ sequence_tree s (tree_at t (child_a t n) s v) (node 66 v (pos s) 0 none b c))
 
-abbrev pub skip_tree : List ℕ → ℕ → RecordTree
-skip_tree t s = part_tree t s 40 0 0 0 0
+abbrev pub skip_tree : ℕ → RecordTree
+skip_tree s = leaf_tree s 40 0 0
 
 -- where the kind is unary, binary, 34, 35 or none of these
 abbrev pub TestWhere : List ℕ → ℕ → ℕ → ℕ → ℕ → Bool → Bool → Bool → Bool → Type 0
 TestWhere t n s v k true b c d = UnaryTest t n s v (last_kind k) (last_field k)
 TestWhere t n s v k false true c d = BinaryTest t n s v
-TestWhere t n s v k false false true d = JointTest t n s v (tree_at t (child_b t n) s v) (skip_tree t s)
-TestWhere t n s v k false false false true = JointTest t n s v (skip_tree t s) (tree_at t (child_b t n) s v)
+TestWhere t n s v k false false true d = JointTest t n s v (tree_at t (child_b t n) s v) (skip_tree s)
+TestWhere t n s v k false false false true = JointTest t n s v (skip_tree s) (tree_at t (child_b t n) s v)
 TestWhere t n s v k false false false false = ValueTest t n s v k
 
 abbrev pub TestOf : List ℕ → ℕ → ℕ → ℕ → ℕ → Type 0
@@ -110,31 +110,31 @@ module _ (t : List ℕ) (n s v : ℕ) (l : LevelsAt t n v) where
   some_of : (x : ℕ) {k : ℕ} → sort_at t x ≡ k → 1 ≤ k → k ≤ 2 → (1 ≤ sort_at t x) × (sort_at t x ≤ 2)
   some_of x e p q = (omega arith, omega arith)
 
-  abbrev observed : ℕ → ℕ → RecordTree → RecordTree → RecordTree
-  observed k c w none' = sequence_tree s w (node k v (pos s) c none' none' none)
+  abbrev observed : ℕ → ℕ → RecordTree → RecordTree
+  observed k c w = sequence_tree s w (leaf_tree s k v c)
 
   -- a query of a term
   queried : (k c : ℕ) → child_a t n < n → sort_at t (child_a t n) ≡ 3
       → (suc v < 64) × TermLevels (as_term (node_at source t (child_a t n))) (suc v)
       → tree_at t n s v
       ≡ sequence_tree s (statement_tree (translate_term (as_term (node_at source t (child_a t n))) s (suc v)))
-      (node k v (pos s) c none none none)
+      (leaf_tree s k v c)
       → UnaryTest t n s v k c
   queried k c below sort l e = (
     below,
     levels-as-term (node_at source t (child_a t n)) (suc v) sort l.1,
     l.0,
-    e ∙ (λ i. observed k c (tree-as term (node_at source t (child_a t n)) s (suc v) sort i) (nothing i)),
+    e ∙ (λ i. observed k c (tree-as term (node_at source t (child_a t n)) s (suc v) sort i)),
   )
 
-  abbrev operated : RecordTree → RecordTree → ℕ → RecordTree → RecordTree
-  operated a b m none' = sequence_tree s a (sequence_tree s b (node 63 v (pos s) m none' none' none))
+  abbrev operated : RecordTree → RecordTree → ℕ → RecordTree
+  operated a b m = sequence_tree s a (sequence_tree s b (leaf_tree s 63 v m))
 
-  abbrev conjoined : RecordTree → RecordTree → RecordTree → RecordTree
-  conjoined a b none' = sequence_tree s a (node 66 v (pos s) 0 none b (node 40 0 (pos s) 0 none' none' none))
+  abbrev conjoined : RecordTree → RecordTree → RecordTree
+  conjoined a b = sequence_tree s a (node 66 v (pos s) 0 none b (skip_tree s))
 
-  abbrev disjoined : RecordTree → RecordTree → RecordTree → RecordTree
-  disjoined a b none' = sequence_tree s a (node 66 v (pos s) 0 none (node 40 0 (pos s) 0 none' none' none) b)
+  abbrev disjoined : RecordTree → RecordTree → RecordTree
+  disjoined a b = sequence_tree s a (node 66 v (pos s) 0 none (skip_tree s) b)
 
   test-arm : {r : Sort} {k : ℕ} → SourceKind r k → FormHolds source t n (form_at source k)
       → TestOf t n s v k
@@ -167,7 +167,7 @@ module _ (t : List ℕ) (n s v : ℕ) (l : LevelsAt t n v) where
         tree_of h.node
             ∙ (λ i. operated (tree-as term (node_at source t (child_a t n)) s (suc v) h.a.2 i)
             (tree-as term (node_at source t (child_b t n)) s (suc (suc v)) h.b.2 i)
-            (term-operator (mark_of t n) h.mark i) (nothing i)),
+            (term-operator (mark_of t n) h.mark i)),
       )
   test-arm valid h = queried 64 1 h.a.1 h.a.2 (levels h.node) (tree_of h.node)
   test-arm initialised h = queried 64 2 h.a.1 h.a.2 (levels h.node) (tree_of h.node)
@@ -181,7 +181,7 @@ module _ (t : List ℕ) (n s v : ℕ) (l : LevelsAt t n v) where
         tree_of h.node
             ∙ (λ i. operated (tree-as term (node_at source t (child_a t n)) s (suc v) h.a.2 i)
             (tree-as term (node_at source t (child_b t n)) s (suc (suc v)) h.b.2 i)
-            (test-operator (mark_of t n) h.mark i) (nothing i)),
+            (test-operator (mark_of t n) h.mark i)),
       )
   test-arm negated h =
       let l = levels h.node in (
@@ -189,7 +189,7 @@ module _ (t : List ℕ) (n s v : ℕ) (l : LevelsAt t n v) where
         levels-as-predicate (node_at source t (child_a t n)) (suc v) h.a.2 l.1,
         l.0,
         tree_of h.node ∙ (λ i. observed 65 0
-            (tree-as predicate (node_at source t (child_a t n)) s (suc v) h.a.2 i) (nothing i)),
+            (tree-as predicate (node_at source t (child_a t n)) s (suc v) h.a.2 i)),
       )
   test-arm both h =
       let l = levels h.node in (
@@ -200,7 +200,7 @@ module _ (t : List ℕ) (n s v : ℕ) (l : LevelsAt t n v) where
         l.0,
         tree_of h.node
             ∙ (λ i. conjoined (tree-as predicate (node_at source t (child_a t n)) s v h.a.2 i)
-            (tree-as predicate (node_at source t (child_b t n)) s v h.b.2 i) (nothing i)),
+            (tree-as predicate (node_at source t (child_b t n)) s v h.b.2 i)),
       )
   test-arm either h =
       let l = levels h.node in (
@@ -211,7 +211,7 @@ module _ (t : List ℕ) (n s v : ℕ) (l : LevelsAt t n v) where
         l.0,
         tree_of h.node
             ∙ (λ i. disjoined (tree-as predicate (node_at source t (child_a t n)) s v h.a.2 i)
-            (tree-as predicate (node_at source t (child_b t n)) s v h.b.2 i) (nothing i)),
+            (tree-as predicate (node_at source t (child_b t n)) s v h.b.2 i)),
       )
   test-arm skip h = elim (levels h.node) [ ]
   test-arm assign h = elim (levels h.node) [ ]

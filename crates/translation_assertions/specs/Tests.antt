@@ -1,5 +1,5 @@
 -- What is emitted for terms and predicates, and at which levels they may stand.
-use Rattle.std.specs.Prelude.{ℕ, suc, ◌+◌, ◌≤◌, ◌<◌, cond, List, ◌≡◌, eqb, pos}
+use Rattle.std.specs.Prelude.{ℕ, suc, ◌≤◌, ◌<◌, cond, List, eqb, pos}
 use Rattle.rules.specs.Sizes.{source_limit}
 use Rattle.rules.specs.Kinds.{source}
 use Rattle.rules.specs.Nodes.{SourceNode, expression_node, place_node, term_node, predicate_node, statement_node, junk}
@@ -7,7 +7,8 @@ use Rattle.rules.specs.Nodes.{node_at}
 use Rattle.rules.specs.Trees.{Term, value, asked, combined, Predicate, holds, compared, negated, both, either}
 use Rattle.rules.specs.Emission.{RecordTree}
 use Rattle.translation_sizes.specs.Trees.{tree_at}
-use Rattle.translation_emission.specs.Emission.{record_of, with_record, Room, sequence_tree, part_tree}
+use Rattle.translation_emission.specs.declared.Output.{Output}
+use Rattle.translation_emission.specs.Emission.{record_of, Room, Pushed, sequence_tree, leaf_tree}
 
 -- the temporaries that a term or predicate at level v names are below 64
 abbrev pub TermLevels : Term → ℕ → Type 0
@@ -35,8 +36,10 @@ abbrev pub LevelsAt : List ℕ → ℕ → ℕ → Type 0
 LevelsAt t n v = Levels (node_at source t n) v
 
 -- record n is one, under statement s, and there is room for its records
-abbrev pub Ready : List ℕ → ℕ → List ℕ → ℕ → ℕ → ℕ → Type 0
-Ready t n o at s v = LevelsAt t n v × (s ≤ source_limit) × Room o at (tree_at t n s v)
+pub record Ready (t : List ℕ) (n : ℕ) (o : Output) (s v : ℕ) : Type 0 where
+  pub levels : LevelsAt t n v
+  pub number : s ≤ source_limit
+  pub room : Room o (tree_at t n s v)
 
 -- "21–23, 30, 31: child at n+1; 64. .. 33: child at n+1; 65": the last record's kind, and its field C, the query
 abbrev pub last_kind : ℕ → ℕ
@@ -47,12 +50,11 @@ last_field k =
     cond (eqb k 30) 1 (cond (eqb k 31) 2 (cond (eqb k 21) 3 (cond (eqb k 22) 4 (cond (eqb k 23) 5 0))))
 
 -- a 66 and the sequence over it: B ends with record `yes`, C with the last
-pub record Branched (before : List ℕ) (at first yes m s : ℕ) (after : List ℕ) (r : ℕ) : Type 0 where
-  pub middle : List ℕ
-  pub own : middle ≡ with_record before at (record_of 66 m 0 yes at (pos s))
-  pub over : after ≡ with_record middle (at + 1) (record_of 44 0 first (at + 1) 0 (pos s))
-  pub count : r ≡ at + 2
+pub record Branched (before : Output) (first yes m s : ℕ) (after : Output) : Type 0 where
+  pub middle : Output
+  pub own : Pushed before (record_of 66 m 0 yes before.count (pos s)) middle
+  pub over : Pushed middle (record_of 44 0 first middle.count 0 (pos s)) after
 
 -- "48: predicate at level 0; 67 t0."
 abbrev pub assert_tree : List ℕ → ℕ → ℕ → RecordTree
-assert_tree t s a = sequence_tree s (tree_at t a s 0) (part_tree t s 67 0 0 0 0)
+assert_tree t s a = sequence_tree s (tree_at t a s 0) (leaf_tree s 67 0 0)

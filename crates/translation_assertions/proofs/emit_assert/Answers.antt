@@ -8,6 +8,5 @@ pub returns : goal.returns
 returns c =
     let a = c.args in
     let q = c.requires in
-    let last = c.emit_sequence.ensures in
-    emitted-sequence _ _ a.s (test-some a.table.now a.a a.s 0 q.fact_1) some c.emit_test-p.ensures c.emit_part-q.ensures
-    q.fact_3 last.bytes last.count
+    emitted-sequence a.s (test-some a.table.now a.a a.s 0 q.fact_1) some c.emit_test.ensures c.leaf.ensures q.fact_3
+    c.sequence.ensures
