@@ -4,8 +4,10 @@
 
 ghost use Rattle.std.specs.Prelude.{◌≡◌, ◌+◌, ◌≤◌};
 ghost use Rattle.rules.specs.Words.{word_at};
-ghost use Rattle.rules.specs.Records.{start, kind_of, mark_of, child_a, child_b, child_c, literal_of};
+ghost use Rattle.rules.specs.Records.{start, kind_of, mark_of, child_a, child_b, child_c, literal_of, record_at};
 ghost use Rattle.table.specs.Within.{Within};
+
+use rules::Record;
 
 pub fn kind(table: &[u8], n: usize) -> u8
     requires { Within table.now n }
@@ -55,4 +57,18 @@ pub fn literal(table: &[u8], n: usize) -> i64
     ensures { result ≡ literal_of table.now n }
 {
     byte_words::read_i64(table, (n - 1) * 16 + 8)
+}
+
+pub fn record(table: &[u8], n: usize) -> Record
+    requires { Within table.now n }
+    ensures { result ≡ record_at table.now n }
+{
+    Record {
+        kind: kind(table, n),
+        mark: mark(table, n),
+        a: child_a(table, n),
+        b: child_b(table, n),
+        c: child_c(table, n),
+        literal: literal(table, n),
+    }
 }
