@@ -20,8 +20,9 @@ use Rattle.rules.proofs.Acceptance.KindViews.{both, either, skip, assign, new, f
 use Rattle.rules.proofs.Acceptance.KindViews.{assert}
 use Rattle.rules.proofs.Acceptance.FormLaws.{FormHolds}
 use Rattle.rules.proofs.Acceptance.Standing.{stands, stands_at}
+use Rattle.table.specs.Within.{Within}
 use Rattle.translation_sizes.specs.Trees.{target_tree, tree_at, copy_at, sort_at}
-use Rattle.translation_emission.specs.Emission.{Copied, sequence_tree, part_tree}
+use Rattle.translation_emission.specs.Emission.{Copied, sequence_tree, leaf_tree}
 use Rattle.translation_statements.specs.Statements.{fetch_tree, saved_tree, new_tree, StatementNode, StatementAt}
 use Rattle.translation_statements.specs.Statements.{Simple}
 use Rattle.translation_assertions.specs.Tests.{assert_tree, LevelsAt}
@@ -38,10 +39,9 @@ module _ (t : List ℕ) (n : ℕ) (e : sort_at t n ≡ 5) where
   copied : (x k : ℕ) → sort_at t x ≡ k → 1 ≤ k → k ≤ 2 → Copied t x
   copied x k d p q = inr (omega arith, omega arith)
 
-  pub skip-tree : kind_of t n ≡ 40 → tree_at t n 0 0 ≡ part_tree t n 40 0 0 0 0
+  pub skip-tree : kind_of t n ≡ 40 → tree_at t n 0 0 ≡ leaf_tree n 40 0 0
   unfolding translate statement_tree
-  skip-tree d =
-      tree_of (stands_at source t n 40 statement e d).node ∙ (λ i. node 40 0 (pos n) 0 (nothing i) (nothing i) none)
+  skip-tree d = tree_of (stands_at source t n 40 statement e d).node
 
   pub assign-tree : kind_of t n ≡ 41 → Copied t (child_a t n) × Copied t (child_b t n)
       × (tree_at t n 0 0 ≡ saved_tree t n 60 41 70 (child_a t n) (child_b t n))
@@ -55,7 +55,7 @@ module _ (t : List ℕ) (n : ℕ) (e : sort_at t n ≡ 5) where
         tree_of h.node
             ∙ (λ i.
             sequence_tree n (node 60 0 (pos n) 0 (a i) (nothing i) none)
-            (sequence_tree n (node 41 0 (pos n) 0 (a i) (b i) none) (node 70 0 (pos n) 0 (nothing i) (nothing i) none))),
+            (sequence_tree n (node 41 0 (pos n) 0 (a i) (b i) none) (leaf_tree n 70 0 0))),
       )
 
   pub new-tree : kind_of t n ≡ 42 → Copied t (child_a t n) × Copied t (child_b t n)
@@ -73,8 +73,8 @@ module _ (t : List ℕ) (n : ℕ) (e : sort_at t n ≡ 5) where
             (sequence_tree n (node 61 2 (pos n) 0 (b i) (nothing i) none)
             (sequence_tree n (node 42 0 (pos n) 0 (a i) (b i) none)
             (sequence_tree n (fetch_tree n)
-            (sequence_tree n (node 68 1 (pos n) 0 (nothing i) (nothing i) none)
-            (node 70 0 (pos n) 0 (nothing i) (nothing i) none)))))),
+            (sequence_tree n (leaf_tree n 68 1 0)
+            (leaf_tree n 70 0 0)))))),
       )
 
   pub free-tree : kind_of t n ≡ 43 → Copied t (child_a t n) × (tree_at t n 0 0 ≡ saved_tree t n 61 43 69 (child_a t n) 0)
@@ -87,7 +87,7 @@ module _ (t : List ℕ) (n : ℕ) (e : sort_at t n ≡ 5) where
             ∙ (λ i.
             sequence_tree n (node 61 0 (pos n) 0 (a i) (nothing i) none)
             (sequence_tree n (node 43 0 (pos n) 0 (a i) (nothing i) none)
-            (node 69 0 (pos n) 0 (nothing i) (nothing i) none))),
+            (leaf_tree n 69 0 0))),
       )
 
   pub assert-tree : kind_of t n ≡ 48 → tree_at t n 0 0 ≡ assert_tree t n (child_a t n)
@@ -95,7 +95,7 @@ module _ (t : List ℕ) (n : ℕ) (e : sort_at t n ≡ 5) where
   assert-tree d =
       let h = stands_at source t n 48 statement e d in
       let a = tree-as predicate (node_at source t (child_a t n)) n 0 h.a.2 in
-      tree_of h.node ∙ (λ i. sequence_tree n (a i) (node 67 0 (pos n) 0 (nothing i) (nothing i) none))
+      tree_of h.node ∙ (λ i. sequence_tree n (a i) (leaf_tree n 67 0 0))
 
 -- what a statement says of record n
 pub statement-sort : (t : List ℕ) (n : ℕ) → StatementAt t n → sort_at t n ≡ 5
@@ -111,6 +111,9 @@ statement-sort t n l = go (node_at source t n) l
 
 pub statement-law : (t : List ℕ) (n : ℕ) → StatementAt t n → SizeLaw t n
 statement-law t n l = size-law t n statement (stands source t n statement (statement-sort t n l))
+
+pub within_statement : (t : List ℕ) (n : ℕ) → StatementAt t n → Within t n
+within_statement t n l = (statement-law t n l).within
 
 number-arm : (t : List ℕ) (n : ℕ) {r : Sort} {k : ℕ} → SourceKind r k → FormHolds source t n (form_at source k)
     → StatementAt t n

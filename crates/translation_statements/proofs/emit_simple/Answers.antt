@@ -2,18 +2,18 @@
 use Rattle.std.proofs.Common.{◌≡◌, ℕ, List, inl, refl, sym, ◌∙◌, subst, arith}
 use Rattle.rules.specs.Records.{kind_of, child_a, child_b}
 use Rattle.translation_sizes.specs.Trees.{copy_at}
-use Rattle.translation_emission.specs.Emission.{Room, Copied, part_tree}
+use Rattle.translation_emission.specs.Emission.{Room, Copied, leaf_tree}
 use Rattle.translation_emission.proofs.Emitting.{emitted-as}
 use Rattle.translation_assertions.specs.Tests.{LevelsAt, assert_tree}
 use Rattle.translation_statements.specs.Statements.{StatementAt, Simple, saved_tree, new_tree}
 use Rattle.translation_statements.proofs.Statements.{skip-tree, assign-tree, new-tree, free-tree, assert-tree}
-use Rattle.translation_statements.proofs.Statements.{statement-sort, statement-law, number_small, assert-levels}
+use Rattle.translation_statements.proofs.Statements.{statement-sort, number_small, assert-levels}
 use Rattle.translation_statements.proofs.Statements.{last-kind}
 use Rattle.translation_statements.proofs.emit_simple.Goals as goal
 
 -- what the reads of statement n say, by the kind that was read
 module _ (t : List ℕ) (n : ℕ) (l : StatementAt t n) {k : ℕ} (e : k ≡ kind_of t n) where
-  skipped : k ≡ 40 → copy_at t n ≡ part_tree t n 40 0 0 0 0
+  skipped : k ≡ 40 → copy_at t n ≡ leaf_tree n 40 0 0
   skipped d = skip-tree t n (statement-sort t n l) (sym e ∙ d)
 
   module _ {a : ℕ} (p : a ≡ child_a t n) where
@@ -33,26 +33,12 @@ module _ (t : List ℕ) (n : ℕ) (l : StatementAt t n) {k : ℕ} (e : k ≡ kin
       made : k ≡ 42 → Copied t a × Copied t b × (copy_at t n ≡ new_tree t n a b)
       made d = rw (p, q) (new-tree t n (statement-sort t n l) (sym e ∙ d))
 
-pub child_a-a-requires : goal.child_a-a-requires
-child_a-a-requires c = (statement-law c.args.table.now c.args.n c.requires.fact_1).within
-
-pub child_b-b-requires : goal.child_b-b-requires
-child_b-b-requires c = (statement-law c.args.table.now c.args.n c.requires.fact_1).within
-
-pub kind-requires : goal.kind-requires
-kind-requires c = (statement-law c.args.table.now c.args.n c.requires.fact_1).within
-
-pub emit_part-requires : goal.emit_part-requires
-emit_part-requires c =
+pub leaf-requires : goal.leaf-requires
+leaf-requires c =
     let a = c.args in
     let q = c.requires in
     let r = skipped a.table.now a.n q.fact_1 c.kind.ensures c.in-40.is in
-    record {
-      fact_1 = inl refl;
-      fact_2 = inl refl;
-      fact_3 = number_small a.table.now a.n q.fact_1;
-      fact_4 = subst (Room a.out.now a.at) r q.fact_3;
-    }
+    record { fact_1 = number_small a.table.now a.n q.fact_1; fact_2 = subst (Room a.out.now) r q.fact_3 }
 
 pub emit_saved-requires : goal.emit_saved-requires
 emit_saved-requires c =
@@ -63,7 +49,7 @@ emit_saved-requires c =
       fact_1 = r.0;
       fact_2 = r.1;
       fact_3 = number_small a.table.now a.n q.fact_1;
-      fact_4 = subst (Room a.out.now a.at) r.2 q.fact_3;
+      fact_4 = subst (Room a.out.now) r.2 q.fact_3;
     }
 
 pub emit_new-requires : goal.emit_new-requires
@@ -75,7 +61,7 @@ emit_new-requires c =
       fact_1 = r.0;
       fact_2 = r.1;
       fact_3 = number_small a.table.now a.n q.fact_1;
-      fact_4 = subst (Room a.out.now a.at) r.2 q.fact_3;
+      fact_4 = subst (Room a.out.now) r.2 q.fact_3;
     }
 
 pub emit_saved-requires-in-43 : goal.emit_saved-requires-in-43
@@ -87,7 +73,7 @@ emit_saved-requires-in-43 c =
       fact_1 = r.0;
       fact_2 = inl refl;
       fact_3 = number_small a.table.now a.n q.fact_1;
-      fact_4 = subst (Room a.out.now a.at) r.1 q.fact_3;
+      fact_4 = subst (Room a.out.now) r.1 q.fact_3;
     }
 
 pub emit_assert-requires : goal.emit_assert-requires
@@ -99,13 +85,13 @@ emit_assert-requires c =
     record {
       fact_1 = r.0;
       fact_2 = number_small a.table.now a.n q.fact_1;
-      fact_3 = subst (Room a.out.now a.at) r.1 q.fact_3;
+      fact_3 = subst (Room a.out.now) r.1 q.fact_3;
     }
 
 pub returns-in-40 : goal.returns-in-40
 returns-in-40 c =
     let a = c.args in
-    emitted-as (skipped a.table.now a.n c.requires.fact_1 c.kind.ensures c.in-40.is) c.emit_part.ensures
+    emitted-as (skipped a.table.now a.n c.requires.fact_1 c.kind.ensures c.in-40.is) c.leaf.ensures
 
 pub returns-in-41 : goal.returns-in-41
 returns-in-41 c =

@@ -1,6 +1,6 @@
 -- The parts stand behind one another, and the two sequences over them.
 use Rattle.std.proofs.Common.{arith}
-use Rattle.translation_emission.proofs.Emitting.{some}
+use Rattle.translation_emission.proofs.Emitting.{emitted-length, some}
 use Rattle.translation_emission.proofs.Parts.{emitted-sequence}
 use Rattle.translation_statements.proofs.emit_stored.Goals as goal
 
@@ -8,10 +8,7 @@ pub returns : goal.returns
 returns c =
     let s = c.args.s in
     let room = c.requires.fact_2 in
-    let count = c.emit_fetch-p.ensures.count in
-    let same = c.emit_fetch-p.auto.out in
-    let y = c.emit_sequence-y.ensures in
-    let z = c.emit_sequence.ensures in
-    let rest = emitted-sequence _ _ s some some c.emit_part-q.ensures c.emit_part-x.ensures (omega arith) y.bytes
-    y.count in
-    emitted-sequence _ _ s some some c.emit_fetch-p.ensures rest room z.bytes z.count
+    let count = c.emit_fetch.ensures.count in
+    let size = emitted-length (omega arith) c.emit_fetch.ensures in
+    let rest = emitted-sequence s some some c.leaf.ensures c.leaf-2.ensures (omega arith) c.sequence.ensures in
+    emitted-sequence s some some c.emit_fetch.ensures rest room c.sequence-2.ensures
