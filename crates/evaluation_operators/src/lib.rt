@@ -3,38 +3,28 @@
 #![tactic(auto)]
 
 ghost use Rattle.std.specs.Prelude.{◌≡◌};
-ghost use Rattle.rules.specs.Nodes.{operator_of};
-ghost use Rattle.rules.specs.Numbers.{operate};
 ghost use Rattle.rules.specs.Memory.{live_block};
+ghost use Rattle.rules.specs.Numbers.{operate};
 ghost use Rattle.rules.specs.Layout.{memory_of};
-ghost use Rattle.value_operators.specs.Blocks.{are_live};
 
-use rules::{Evaluated, ExecutionMemory, Value};
-use value_operators::Compared;
+use rules::{Evaluated, ExecutionMemory, Operator, Value};
+use value_operators::Liveness;
 
-// Whether the blocks that are compared, if any, are live.
-fn are_live(mem: &ExecutionMemory, c: Compared) -> bool
-    ensures { result ≡ are_live (live_block (memory_of mem.now)) c }
-{
-    match c {
-        Compared::Blocks(x, y) => {
-            if memory_queries::is_live(mem, x) {
-                memory_queries::is_live(mem, y)
-            } else {
-                false
-            }
-        }
-        Compared::Nothing => true,
+// The blocks of the execution memory, of which an operator asks whether they are live.
+#[derive(Clone, Copy)]
+struct Blocks<'a>(&'a ExecutionMemory);
+
+impl Liveness for Blocks<'_> {
+    ghost live = { λ blocks name. live_block (memory_of blocks.0.now) name };
+
+    fn is_live(&self, name: u16) -> bool {
+        memory_queries::is_live(self.0, name)
     }
 }
 
 // An operator on two values: 47 where it compares a pointer into a block that is not live.
-pub fn operate(mem: &ExecutionMemory, k: u8, a: Value, b: Value) -> Evaluated
-    ensures { result ≡ operate (live_block (memory_of mem.now)) (operator_of k) a b }
+pub fn operate(mem: &ExecutionMemory, operator: Operator, a: Value, b: Value) -> Evaluated
+    ensures { result ≡ operate (live_block (memory_of mem.now)) operator a b }
 {
-    if are_live(mem, value_operators::find_compared(k, a, b)) {
-        value_operators::operate(k, a, b)
-    } else {
-        Evaluated::Stopped(47)
-    }
+    value_operators::operate_where(&Blocks(mem), operator, a, b)
 }

@@ -1,2 +1,0 @@
--- Facts about the queries by their numbers.
-pub mod Queries

@@ -1,2 +1,0 @@
--- What the code of the queries is held to.
-pub mod Queries
