@@ -1,1 +1,2 @@
-pub mod FillLoop
+-- Laws of fills.
+mod Filled

@@ -2,7 +2,7 @@
 
 #![tactic(auto)]
 
-ghost use Rattle.std.specs.Prelude.{◌≡◌, ◌+◌, ◌<◌, ◌^◌, min, length, set};
+ghost use Rattle.std.specs.Prelude.{◌≡◌, ◌+◌, ◌<◌, ◌^◌, length, set};
 ghost use Rattle.rules.specs.Memory.{fill};
 
 // Byte `at` takes x.
@@ -14,20 +14,13 @@ pub fn put_byte(d: &mut [u8], at: usize, x: u8)
 }
 
 // Bytes first, first + 1, .. take x, n times or to the end.
+#[tactic(auto, using(crate::proofs::Filled::filled, crate::proofs::Filled::not_filled))]
 pub fn fill_bytes(d: &mut [u8], first: usize, n: usize, x: u8)
     requires { first + n < 2 ^ 32 }
     ensures { d.new ≡ fill d.old first n x }
 {
-    let end = lesser(first + n, d.len());
-    let mut i = first;
-    while i < end {
-        d[i] = x;
-        i += 1;
+    let end = d.len().min(first + n);
+    if first < end {
+        d[first..end].fill(x);
     }
-}
-
-fn lesser(a: usize, b: usize) -> usize
-    ensures { result ≡ min a b }
-{
-    if a < b { a } else { b }
 }
