@@ -2,34 +2,45 @@
 use Prim.Native.Nat.{ℕ, zero, suc, ◌+◌, ◌-◌, ◌<◌, ◌≤◌}
 use native.Mathlib.Omega.{arith}
 use mathlib.Core.Path.{◌≡◌, refl, sym, ap, ◌∙◌, subst}
-use mathlib.Core.Bool.{Bool, true, false, true≢false}
+use mathlib.Core.Bool.{true, false, true≢false}
 use mathlib.Core.List.{List}
 use lib.IntN.{ℤ}
 use lib.ListN.{get_or}
 use Rattle.rules.specs.Sizes.{name_count, cell_count}
 use Rattle.rules.specs.Words.{word_at, integer_at}
 use Rattle.rules.specs.Memory.{Memory, recorded_of, named, block_of, cell_of, is_free, is_unused, all_free, lowest_run}
-use Rattle.rules.specs.Memory.{free_run, next_name}
+use Rattle.rules.specs.Memory.{free_run, next_name, Use, made, make_block, with_block}
 use Rattle.rules.specs.Observation.{covers}
 use Rattle.rules.specs.Layout.{memory_of, block_place, cell_place, block_at, cell_from, cell_at}
 use Rattle.rules.specs.declared.{Recorded.Recorded, Block.Block, Cell.Cell}
-use Rattle.rules.proofs.Lists.RunLaws.{Held, lowest-at}
+use Rattle.rules.specs.declared.Counts.{Counts}
+use Rattle.rules.proofs.Lists.RunLaws.{Held, lowest-at, run-bound}
 use Rattle.rules.proofs.Lists.SearchLaws.{Outcome, lowest-outcome}
 use Rattle.rules.proofs.Memory.MemoryLaws.{named_in, named-map, coverage}
 use Rattle.rules.proofs.Memory.Invariant.{Invariant, Owned, occupied, records_of}
 use Rattle.rules.proofs.Memory.BlockEnds.{held-to-end, block-covers}
 use Rattle.memory_cells.proofs.Reading.{cell_in, block-named, count-blocks}
 use Rattle.block_places.specs.Ends.{end_at}
+use Rattle.memory_counts.specs.Counted.{Counted, after_new}
+use Rattle.memory_counts.proofs.CountLaws.{room-counted, counted-new}
 use Rattle.std.specs.Prelude.{Some}
-
--- the test of a cell, by the bytes
-abbrev pub free_in : List ℕ → ℕ → Bool
-free_in l i = is_free (cell_of (memory_of l) i)
 
 pub name-bound : (m : Memory) (k : ℕ) → next_name m ≡ Some k → (0 < k) × (k ≤ name_count)
 name-bound m k e =
     let w = subst (Outcome (λ (j : ℕ). is_unused (block_of m j)) 1 name_count) e (lowest-outcome _ 1 name_count) in
     (omega (arith, w.0), omega (arith, w.1))
+
+-- a name and a run of cells that were found for a new block
+module _ {m : Memory} {c : Counts} {k first : ℕ} (u : Use) (n : ℕ) (h : Counted m c) (name : next_name m ≡ Some k)
+    (run : free_run m n ≡ Some first) where
+  makes : make_block m u n ≡ made k (with_block m u k first n)
+  makes = rw (name, run) refl
+
+  pub room-found : (n ≤ c.free) × (c.next ≤ name_count) × (first + n ≤ cell_count)
+  room-found = room-counted h u n k first makes name (run-bound _ n first run)
+
+  pub counted-found : Counted (with_block m u k first n) (after_new c first n)
+  counted-found = counted-new h u n k first makes name (run-bound _ n first run)
 
 pub run-of-none : (m : Memory) → Some 0 ≡ free_run m 0
 unfolding lowest_run all_free
