@@ -11,7 +11,7 @@ use lib.Seq.{length-take-le, get_or-append-add, take-append-le, drop-append-le, 
 use Rattle.rules.specs.Sizes.{name_count, cell_count, observation_length, blocks_length}
 use Rattle.rules.specs.Words.{little, put, word_at, flat, tabulate}
 use Rattle.rules.specs.Memory.{one, fill}
-use Rattle.rules.specs.Observation.{Observation, with_marks}
+use Rattle.rules.specs.Observation.{Observation}
 use Rattle.rules.specs.Layout.{block_record, block_place, mark_place, recorded_from, recorded_at, mark_at, observation_of}
 use Rattle.rules.specs.Layout.{observation_image, recorded_bytes, mark_bytes}
 use Rattle.rules.specs.declared.{Recorded.Recorded}
@@ -22,7 +22,7 @@ use Rattle.rules.proofs.Layouts.LayoutLaws.{length-recorded_bytes, records-lengt
 use Rattle.rules.proofs.Layouts.ImagePuts.{image-put-recorded}
 use Rattle.rules.proofs.Lists.FillLaws.{fill_one, fill-right, get_d-fill, flat-marks-fill}
 use Rattle.rules.proofs.Lists.RecordLaws.{length-record, record-put-same, record-put-other}
-use Rattle.observation_blocks.specs.Changes.{ObservationBecomes, with_record, with_named, with_mark, mark_range}
+use Rattle.observation_blocks.specs.Changes.{ObservationBecomes, with_named, with_mark, mark_range}
 use Rattle.observation_records.proofs.ObservationLaws.{record-count, mark-count}
 
 pub becomes-same : (l : List ℕ) → ObservationBecomes l l (observation_of l)
@@ -45,7 +45,7 @@ module _ (l : List ℕ) (long : length l ≡ observation_length) (k s first n : 
       (omega (arith, room, length-record s first n)) (mark_place j) (omega (arith, length-record s first n)))
 
   view-record : first < 65536 → n < 65536 → observation_of (put l (block_place k) (block_record s first n))
-      ≡ with_record (observation_of l) k (recorded_from s first n)
+      ≡ with_named (observation_of l) (suc k) (recorded_from s first n)
   unfolding observation_of recorded_at
   view-record f g = λ t. record {
     blocks = tabulate-set name_count k (recorded_at l) (recorded_at (put l (block_place k) (block_record s first n)))
@@ -54,9 +54,9 @@ module _ (l : List ℕ) (long : length l ≡ observation_length) (k s first n : 
     marks = tabulate-same cell_count (mark_at l) (mark_at (put l (block_place k) (block_record s first n))) mark-apart t;
   }
 
-  pub becomes-record : first < 65536 → n < 65536 → recorded_bytes (recorded_from s first n) ≡ block_record s first n
+  becomes-record : first < 65536 → n < 65536 → recorded_bytes (recorded_from s first n) ≡ block_record s first n
       → ObservationBecomes l (put l (block_place k) (block_record s first n))
-      (with_record (observation_of l) k (recorded_from s first n))
+      (with_named (observation_of l) (suc k) (recorded_from s first n))
   becomes-record f g c =
       let v = view-record f g in
       record {
@@ -196,20 +196,12 @@ becomes-out l i h =
     }
 
 -- the record of a name
-pub becomes-named : {l l' : List ℕ} (k : ℕ) (b : Recorded) → 0 < k
-    → ObservationBecomes l l' (with_record (observation_of l) (k - 1) b)
+pub becomes-written : {l l' : List ℕ} {b : Recorded} (k s first n : ℕ) → length l ≡ observation_length
+    → (0 < k) × (k ≤ name_count) → (first < 65536) × (n < 65536) → b ≡ recorded_from s first n
+    → recorded_bytes (recorded_from s first n) ≡ block_record s first n
+    → l' ≡ put l (block_place (k - 1)) (block_record s first n)
     → ObservationBecomes l l' (with_named (observation_of l) k b)
-becomes-named zero b h y = absurd (omega arith)
-becomes-named {l} {l'} (suc k) b h y =
-    subst (λ (j : ℕ). ObservationBecomes l l' (with_record (observation_of l) j b)) (before k) y
-  where
-    before : (k : ℕ) → suc k - 1 ≡ k
-    before k = omega arith
-
--- marks cleared, then the record of a name
-pub becomes-replaced : (l : List ℕ) {l' l'' : List ℕ} (k : ℕ) (b : Recorded) (first n : ℕ) → 0 < k
-    → ObservationBecomes l l' (mark_range (observation_of l) first n false)
-    → ObservationBecomes l' l'' (with_record (observation_of l') (k - 1) b)
-    → ObservationBecomes l l'' (with_marks (observation_of l) k b first n)
-becomes-replaced l k b first n h x y =
-    becomes-then (λ (o : Observation). with_named o k b) x (becomes-named k b h y)
+becomes-written zero s first n long h r e c w = absurd (omega (arith, h.0))
+becomes-written {l} {l'} {b} (suc k) s first n long h r e c w =
+    let before : suc k - 1 ≡ k = omega arith in
+    rw (e, w, before) (becomes-record l long k s first n h.1 r.0 r.1 c)

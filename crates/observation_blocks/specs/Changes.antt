@@ -11,10 +11,6 @@ pub record ObservationBecomes (entry exit : List ℕ) (o : Observation) : Type 0
   pub exact : (entry ≡ observation_image (observation_of entry)) → exit ≡ observation_image (observation_of exit)
 
 -- ---- changes of the memory
--- record k, counted from 0, is b
-abbrev pub with_record : Observation → ℕ → Recorded → Observation
-with_record o k b = record { blocks = set o.blocks k b; marks = o.marks }
-
 -- the record of name k is b
 abbrev pub with_named : Observation → ℕ → Recorded → Observation
 with_named o k b = record { blocks = set_named o.blocks k b; marks = o.marks }

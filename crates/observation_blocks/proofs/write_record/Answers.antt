@@ -1,15 +1,22 @@
-use Rattle.std.proofs.Common.{◌≡◌, ◌*◌, length, ap, ◌∙◌, arith, rules}
-use Rattle.rules.specs.Sizes.{observation_length}
-use Rattle.rules.specs.Words.{put}
-use Rattle.rules.proofs.Lists.RecordLaws.{record-digits}
-use Rattle.observation_blocks.proofs.BecomesLaws.{becomes-record, becomes-as}
+use Rattle.std.proofs.Common.{refl, rules, arith}
+use Rattle.rules.specs.Layout.{recorded_bytes}
+use Rattle.observation_blocks.proofs.BecomesLaws.{becomes-written}
 use Rattle.observation_blocks.proofs.write_record.Goals as goal
 
-pub returns : goal.returns
-returns c =
-    let a = c.args in
-    let l = a.obs.now in
-    let long : length l ≡ observation_length = search rules in
-    becomes-as (c.write_word.ensures ∙ ap (put l (a.k * 8))
-    (record-digits a.state a.first a.n (omega arith) (omega arith) (omega arith)))
-    (becomes-record l long a.k a.state a.first a.n c.requires.0 (omega arith) (omega arith) c.requires.1)
+pub returns-in-Unused : goal.returns-in-Unused
+unfolding recorded_bytes
+returns-in-Unused c =
+    becomes-written c.args.name 0 0 0 (search rules) c.requires (omega arith, omega arith) c.in-Unused.is refl
+    c.write_record.ensures
+
+pub returns-in-Live : goal.returns-in-Live
+unfolding recorded_bytes
+returns-in-Live c =
+    becomes-written c.args.name 1 _ _ (search rules) c.requires (omega arith, omega arith) c.in-Live.is refl
+    c.write_record-in-Live.ensures
+
+pub returns-in-Dead : goal.returns-in-Dead
+unfolding recorded_bytes
+returns-in-Dead c =
+    becomes-written c.args.name 2 0 0 (search rules) c.requires (omega arith, omega arith) c.in-Dead.is refl
+    c.write_record-in-Dead.ensures
