@@ -1,2 +1,2 @@
 -- What a change answers and leaves.
-pub use Rattle.observation_answers.specs.Calls.{ObservationBecomes, Answers, noting_of, noted_observation}
+pub use Rattle.observation_answers.specs.Calls.{ObservationBecomes, Answers, noted_result}

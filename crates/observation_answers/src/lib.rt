@@ -1,9 +1,3 @@
-// What a change of the observation memory answers.
+// What a change of the observation memory answers and leaves: definitions alone.
 
 #![tactic(auto)]
-
-#[derive(Clone, Copy)]
-pub enum Noting {
-    Noted,
-    Refused(u32),
-}

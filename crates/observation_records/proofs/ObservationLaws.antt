@@ -42,7 +42,7 @@ record-past l (suc k) h =
     let p : length (observation_of l).blocks ≤ k = omega (arith, record-count l) in
     sym (get_or-eq_default (observation_of l).blocks Recorded.Dead p)
 
-pub ruleset records_by_name = (record-of-name, record-past)
+pub ruleset records = (record-of-name, record-past)
 
 -- a name whose record is not a dead one's is one of the names
 abbrev pub is_dead : Recorded → ℕ
@@ -68,6 +68,8 @@ mark-in l i h = sym (get_d_tabulate cell_count 0 i (mark_at l) false h ∙ ap (m
 
 pub mark-past : (l : List ℕ) (i : ℕ) → cell_count ≤ i → false ≡ is_marked (observation_of l) i
 mark-past l i h = sym (get_or-eq_default (observation_of l).marks false (le_trans (le_of_eq (mark-count l)) h))
+
+pub ruleset marks = (mark-in, mark-past)
 
 -- ---- the bytes at the start
 pub empty-image : observation_image empty_observation ≡ replicate observation_length 0

@@ -26,7 +26,7 @@ pub fn read_record(obs: &ObservationMemory, k: usize) -> Recorded
 }
 
 // The record of a name; a name that has none is as a dead one's.
-#[tactic(auto, using(crate::proofs::ObservationLaws::records_by_name))]
+#[tactic(auto, using(crate::proofs::ObservationLaws::records))]
 pub fn record_of(obs: &ObservationMemory, name: u16) -> Recorded
     ensures { result ≡ record_of (observation_of obs.now) name }
 {
