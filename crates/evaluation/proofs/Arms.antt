@@ -1,13 +1,12 @@
 -- What each arm of `evaluate` and `find_place` gives, from what its calls gave.
-use Prim.Native.Nat.{ℕ, ◌≤◌, ◌<◌}
+use Prim.Native.Nat.{ℕ, ◌<◌}
 use native.Mathlib.Omega.{arith}
 use mathlib.Core.List.{List}
 use mathlib.Core.Logic.{◌≢◌}
 use mathlib.Core.Path.{◌≡◌, refl, sym, ap, ap₂, ◌∙◌, subst}
 use lib.IntN.{ℤ, pos}
-use Rattle.rules.specs.Records.{record_count, kind_of, mark_of, child_a, child_b, literal_of}
+use Rattle.rules.specs.Records.{kind_of, mark_of, child_a, child_b, literal_of}
 use Rattle.rules.specs.Kinds.{target, Sort, sort_number, expression, place, child}
-use Rattle.rules.specs.Trees.{Expression, Place}
 use Rattle.rules.specs.Nodes.{operator_of, TargetNode, as_expression, as_place, sort_of_node, node_at}
 use Rattle.rules.specs.Memory.{Memory, read_cell, on_place, live_block}
 use Rattle.rules.specs.Evaluation.{Variables, Holding, held, pointed_by, address_of, operated, evaluate, find_place}
@@ -20,9 +19,7 @@ use Rattle.table.specs.Within.{Within}
 use Rattle.rules.specs.declared.{Value.Value}
 use Rattle.rules.specs.Types.{Evaluated, Found}
 use Rattle.evaluation.specs.State.{Settles}
-use Rattle.evaluation.specs.declared.Settled.{Settled}
-use Rattle.evaluation.specs.declared.Settled.TheVariants as settled
-use Rattle.std.specs.Prelude.{Err, Ok}
+use Rattle.std.specs.Prelude.{Err, Ok, Option, Some, None}
 
 abbrev pub Stands : List ℕ → ℕ → Sort → Type 0
 Stands t n s = sort_of_node target (node_at target t n) ≡ sort_number s
@@ -151,10 +148,11 @@ module _ (t : List ℕ) (τ : Holding ℕ) (ρ : Variables) (m : Memory) where
         ∙ sym (by_place (stands_at target t n 12 place h d).node)
 
 -- what an operand gives by itself
-pub settles-as : {u v : Holding ℕ → Evaluated} (j : Settled) → ((τ : Holding ℕ) → u τ ≡ v τ) → Settles j u → Settles j v
-settles-as (settled.Is e) h s = λ τ. s τ ∙ h τ
-settles-as settled.Open h s = tt
+pub settles-as : {u v : Holding ℕ → Evaluated} (j : Option Evaluated) → ((τ : Holding ℕ) → u τ ≡ v τ) → Settles j u
+    → Settles j v
+settles-as (Some e) h s = λ τ. s τ ∙ h τ
+settles-as None h s = tt
 
-pub settled-as : (v : Holding ℕ → Evaluated) (j : Settled) {e : Evaluated} → Settles j v → j ≡ settled.Is e
+pub settled-as : (v : Holding ℕ → Evaluated) (j : Option Evaluated) {e : Evaluated} → Settles j v → j ≡ Some e
     → (τ : Holding ℕ) → e ≡ v τ
-settled-as v j s h = subst (λ (j : Settled). Settles j v) h s
+settled-as v j s h = subst (λ (j : Option Evaluated). Settles j v) h s

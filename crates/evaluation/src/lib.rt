@@ -25,7 +25,12 @@ pub fn fetch(mem: &ExecutionMemory, f: Found) -> Evaluated
 }
 
 // What place n holds where it is a variable; another place says nothing yet.
-fn settle_read(table: &Table, n: usize, variables: &Variables, mem: &ExecutionMemory) -> Option<Evaluated>
+fn settle_read(
+    table: &Table,
+    n: usize,
+    variables: &Variables,
+    mem: &ExecutionMemory,
+) -> Option<Evaluated>
     requires { sort_of_node target (node_at target table.now n) ≡ sort_number place }
     ensures { Settles result (λ τ. on_place (find_place (as_place (node_at target table.now n)) τ
         (variables_of variables.now) (memory_of mem.now)) Err
@@ -44,7 +49,12 @@ fn settle_read(table: &Table, n: usize, variables: &Variables, mem: &ExecutionMe
 }
 
 // What expression n gives where it is a literal or the read of a variable.
-fn settle(table: &Table, n: usize, variables: &Variables, mem: &ExecutionMemory) -> Option<Evaluated>
+fn settle(
+    table: &Table,
+    n: usize,
+    variables: &Variables,
+    mem: &ExecutionMemory,
+) -> Option<Evaluated>
     requires { sort_of_node target (node_at target table.now n) ≡ sort_number expression }
     ensures { Settles result (λ τ. evaluate (as_expression (node_at target table.now n)) τ
         (variables_of variables.now) (memory_of mem.now)) }
@@ -159,8 +169,8 @@ pub fn find_read(
         (temporary_of (temporaries_of temporaries.now)) (variables_of variables.now)
         (memory_of mem.now) }
 {
-    let place = table::child_a(&table[..], n);
-    find_place(table, place, variables, temporaries, mem)
+    let wanted = table::child_a(&table[..], n);
+    find_place(table, wanted, variables, temporaries, mem)
 }
 
 // The value of expression n of a statement. A literal, as most sizes are, takes no call.

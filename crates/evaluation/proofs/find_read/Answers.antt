@@ -7,15 +7,15 @@ use Rattle.evaluation.specs.State.{variables_of}
 use Rattle.evaluation.proofs.Arms.{within, read_below, read-arm}
 use Rattle.evaluation.proofs.find_read.Goals as goal
 
-pub child_a-place-requires : goal.child_a-place-requires
-child_a-place-requires c = within c.args.table.now c.args.n expression c.requires.0
+pub child_a-wanted-requires : goal.child_a-wanted-requires
+child_a-wanted-requires c = within c.args.table.now c.args.n expression c.requires.0
 
 pub find_place-requires : goal.find_place-requires
 find_place-requires c =
-    rw c.child_a-place.ensures (read_below c.args.table.now c.args.n c.requires.0 c.requires.1).2
+    rw c.child_a-wanted.ensures (read_below c.args.table.now c.args.n c.requires.0 c.requires.1).2
 
 pub returns : goal.returns
 returns c =
     let a = c.args in
     read-arm a.table.now (temporary_of (temporaries_of a.temporaries.now)) (variables_of a.variables.now)
-    (memory_of a.mem.now) a.n c.requires.0 c.requires.1 c.child_a-place.ensures c.find_place.ensures refl
+    (memory_of a.mem.now) a.n c.requires.0 c.requires.1 c.child_a-wanted.ensures c.find_place.ensures refl
