@@ -7,10 +7,10 @@ ghost use Rattle.rules.specs.Memory.{recorded_of, block_of, end_block, without_c
 ghost use Rattle.rules.specs.Layout.{memory_of};
 ghost use Rattle.rules.specs.declared.{Recorded.Recorded};
 ghost use Rattle.memory_counts.specs.Counted.{Counted};
-ghost use Rattle.memory_cells.specs.Changes.{Becomes, change_number, change_memory};
+ghost use Rattle.memory_cells.specs.Changes.{Becomes, change_result, change_memory};
 ghost use Rattle.memory_freeing.specs.LetBlocks.{LetBlock};
 
-use rules::{Block, Counts, ExecutionMemory, Pointer};
+use rules::{Block, Cell, Counts, ExecutionMemory, Pointer, Stop};
 
 // Block k, which has the n cells from first on, is dead, and they are free.
 fn release(mem: &mut ExecutionMemory, counts: &mut Counts, k: u16, first: u16, n: u16)
@@ -25,29 +25,27 @@ fn release(mem: &mut ExecutionMemory, counts: &mut Counts, k: u16, first: u16, n
     memory_counts::give_back(counts, first as usize, n as usize);
 }
 
-fn free_block(mem: &mut ExecutionMemory, counts: &mut Counts, name: u16) -> u32
+fn free_block(mem: &mut ExecutionMemory, counts: &mut Counts, name: u16) -> Result<(), Stop>
     requires { Counted (memory_of mem.old) counts.old }
-    ensures number { result ≡ change_number (free_of (memory_of mem.old) name
+    ensures outcome { result ≡ change_result (free_of (memory_of mem.old) name
         (block_of (memory_of mem.old) name)) }
     ensures memory { Becomes mem.old mem.new
         (change_memory (free_of (memory_of mem.old) name (block_of (memory_of mem.old) name))) }
     ensures counts { Counted (memory_of mem.new) counts.new }
 {
-    match memory_cells::block(&*mem, name) {
-        Block::Unused => 46,
-        Block::Fixed(_, _) => 46,
+    match memory_cells::block(mem, name) {
         Block::Freeable(first, n) => {
             release(mem, counts, name, first, n);
-            0
+            Ok(())
         }
-        Block::Dead => 46,
+        Block::Unused | Block::Fixed(..) | Block::Dead => Err(Stop::WrongFree),
     }
 }
 
 // 46 where the pointer is not to the first cell of a live freeable block.
-pub fn free(mem: &mut ExecutionMemory, counts: &mut Counts, p: Pointer) -> u32
+pub fn free(mem: &mut ExecutionMemory, counts: &mut Counts, p: Pointer) -> Result<(), Stop>
     requires { Counted (memory_of mem.old) counts.old }
-    ensures number { result ≡ change_number (free_at (memory_of mem.old) p.name p.offset) }
+    ensures outcome { result ≡ change_result (free_at (memory_of mem.old) p.name p.offset) }
     ensures memory { Becomes mem.old mem.new
         (change_memory (free_at (memory_of mem.old) p.name p.offset)) }
     ensures counts { Counted (memory_of mem.new) counts.new }
@@ -55,20 +53,19 @@ pub fn free(mem: &mut ExecutionMemory, counts: &mut Counts, p: Pointer) -> u32
     if p.offset == 0 {
         free_block(mem, counts, p.name)
     } else {
-        46
+        Err(Stop::WrongFree)
     }
 }
 
 // The end of a let's block: its one cell is free, and its name is dead.
-#[tactic(auto, unfolding(rules::specs::Layout::cell_bytes))]
 pub fn end(mem: &mut ExecutionMemory, counts: &mut Counts, name: u16)
     requires { Counted (memory_of mem.old) counts.old × LetBlock (memory_of mem.old) name }
     ensures memory { Becomes mem.old mem.new
         (end_block (memory_of mem.old) name) }
     ensures counts { Counted (memory_of mem.new) counts.new }
 {
-    let first = memory_cells::first_cell(&*mem, name);
-    memory_cell_changes::put_without_value(mem, first, 0, 0);
+    let first = memory_cells::first_cell(mem, name);
+    memory_cell_changes::replace_cell(mem, first, Cell::Free);
     memory_block_changes::replace_block(mem, name, Block::Dead);
     memory_counts::give_back(counts, first, 1);
 }

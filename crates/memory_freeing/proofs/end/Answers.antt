@@ -1,8 +1,7 @@
 -- The let's block is live, and its cell is where its record says.
-use Rattle.std.proofs.Common.{◌≡◌, ◌+◌, ◌≤◌, ◌∙◌, ℕ, List, sym, ap, refl, arith}
-use Rattle.rules.specs.Sizes.{cell_count}
-use Rattle.rules.specs.Layout.{memory_of, cell_bytes}
-use Rattle.rules.specs.Memory.{Memory, recorded_of, block_of, set_cell, without_cells}
+use Rattle.std.proofs.Common.{◌≡◌, ◌∙◌, ℕ, List, sym, ap, arith}
+use Rattle.rules.specs.Layout.{memory_of}
+use Rattle.rules.specs.Memory.{Memory, recorded_of, set_cell, without_cells}
 use Rattle.rules.specs.declared.{Block.Block, Cell.Cell, Recorded.Recorded}
 use Rattle.memory_counts.specs.Counted.{after_end}
 use Rattle.memory_counts.proofs.CountLaws.{counted_is, end-counted, counted-end}
@@ -11,13 +10,12 @@ use Rattle.memory_cell_changes.proofs.Writing.{becomes-then, becomes-as}
 use Rattle.memory_freeing.proofs.Steps.{without-one}
 use Rattle.memory_freeing.proofs.end.Goals as goal
 
-pub put_without_value-requires : goal.put_without_value-requires
-unfolding cell_bytes
-put_without_value-requires c =
+pub replace_cell-requires : goal.replace_cell-requires
+replace_cell-requires c =
     let b = c.requires.1 in
     let e = ap recorded_of b.is in
     let found = c.first_cell-first.ensures b.first 1 e in
-    (omega (arith, found, c.requires.0.invariant.within c.args.name b.first 1 e), refl)
+    omega (arith, found, c.requires.0.invariant.within c.args.name b.first 1 e)
 
 pub give_back-requires : goal.give_back-requires
 give_back-requires c =
@@ -40,7 +38,7 @@ returns-clause-memory c =
     let e = ap recorded_of b.is in
     let found = c.first_cell-first.ensures b.first 1 e in
     becomes-as (ap (without_cells (memory_of c.args.mem.now) k) (sym e))
-    (one _ _ _ k b.first _ found c.put_without_value.ensures c.replace_block.ensures)
+    (one _ _ _ k b.first _ found c.replace_cell.ensures c.replace_block.ensures)
 
 pub returns-clause-counts : goal.returns-clause-counts
 returns-clause-counts c =
@@ -48,6 +46,6 @@ returns-clause-counts c =
     let b = c.requires.1 in
     let e = ap recorded_of b.is in
     let found = c.first_cell-first.ensures b.first 1 e in
-    counted_is (one _ _ _ k b.first _ found c.put_without_value.ensures c.replace_block.ensures).view
+    counted_is (one _ _ _ k b.first _ found c.replace_cell.ensures c.replace_block.ensures).view
     (c.give_back.ensures ∙ ap (λ (i : ℕ). after_end c.args.counts.now i 1) found)
     (counted-end c.requires.0 k b.first 1 e)
