@@ -1,5 +1,5 @@
 -- What each arm of `evaluate_term` and `evaluate_predicate` gives, from what its calls gave.
-use Prim.Native.Nat.{ℕ, ◌-◌, ◌≤◌, ◌<◌}
+use Prim.Native.Nat.{ℕ, ◌-◌, ◌≤◌}
 use native.Mathlib.Omega.{arith}
 use mathlib.Core.Bool.{Bool, true, false}
 use mathlib.Core.List.{List}
@@ -23,9 +23,9 @@ use Rattle.rules.proofs.Runs.SharedExpressions.{target-expression, evaluated-ali
 use Rattle.table.specs.Within.{Within}
 use Rattle.rules.specs.Types.{Evaluated, Test}
 use Rattle.evaluation_predicates.specs.Joints.{joint_of}
-use Rattle.evaluation_predicates.specs.declared.Joint.{Joint}
-use Rattle.evaluation_predicates.specs.declared.Joint.TheVariants as joint
-use Rattle.std.specs.Prelude.{Err, Ok}
+use Rattle.std.specs.Prelude.{Err, Ok, Option, Some, None}
+use Rattle.rules.specs.Trees.{Operator, Query}
+use Rattle.rules.specs.Trees as tree
 
 abbrev pub Stands : List ℕ → ℕ → Sort → Type 0
 Stands t n s = sort_of_node source (node_at source t n) ≡ sort_number s
@@ -66,17 +66,17 @@ module _ (t : List ℕ) (n : ℕ) where
   negated-below h d = (stands_at source t n 33 predicate h d).a
 
 -- B, where A leaves it open
-abbrev pub by_joint : Joint → Evaluated → Evaluated
-by_joint (joint.Decided e) b = e
-by_joint joint.Open b = b
+abbrev pub by_joint : Option Evaluated → Evaluated → Evaluated
+by_joint (Some e) b = e
+by_joint None b = b
 
 joint-and : (a b : Evaluated) → by_joint (joint_of false a) b ≡ on_value a Err (λ v. and_then v b)
 joint-and (Err k) b = refl
 joint-and (Ok v) b = go (tested v)
   where
     go : (t : Test)
-        → by_joint (on_test t (λ k. joint.Decided (Err k)) joint.Open
-        (joint.Decided (Ok v))) b
+        → by_joint (on_test t (λ k. Some (Err k)) None
+        (Some (Ok v))) b
         ≡ on_test t Err b (Ok v)
     go (Ok true) = refl
     go (Ok false) = refl
@@ -87,8 +87,8 @@ joint-or (Err k) b = refl
 joint-or (Ok v) b = go (tested v)
   where
     go : (t : Test)
-        → by_joint (on_test t (λ k. joint.Decided (Err k)) (joint.Decided (Ok v))
-        joint.Open) b
+        → by_joint (on_test t (λ k. Some (Err k)) (Some (Ok v))
+        None) b
         ≡ on_test t Err (Ok v) b
     go (Ok true) = refl
     go (Ok false) = refl
@@ -108,8 +108,8 @@ module _ (t : List ℕ) (ρ : Variables) (m : Memory) where
       → evaluate_predicate (as_predicate x) ρ m ≡ evaluate_predicate (as_predicate y) ρ m
   by-predicate e = ap (λ (x : SourceNode). evaluate_predicate (as_predicate x) ρ m) e
 
-  abbrev pub asked_of : ℕ → Evaluated → Evaluated
-  asked_of q e = on_value e Err (query_memory (query_of q) m)
+  abbrev pub asked_of : Query → Evaluated → Evaluated
+  asked_of q e = on_value e Err (query_memory q m)
 
   module _ (n : ℕ) where
     pub value-arm : {r : Evaluated} {j : ℕ} (τ : Temporaries) → Stands t n term → kind_of t n ≡ 20 → j ≡ child_a t n
@@ -126,7 +126,7 @@ module _ (t : List ℕ) (ρ : Variables) (m : Memory) where
     pub record Asked : Type 0 where
       pub low : 21 ≤ kind_of t n
       pub a : Below t n term (child_a t n)
-      pub value : term_at n ≡ asked_of (kind_of t n - 18) (term_at (child_a t n))
+      pub value : term_at n ≡ asked_of (query_of (kind_of t n - 18)) (term_at (child_a t n))
 
     asked-kind : {k : ℕ} → SourceKind term k → Stands t n term → kind_of t n ≡ k → k ≢ 20 → k ≢ 24 → Asked
     unfolding evaluate_term
@@ -145,38 +145,39 @@ module _ (t : List ℕ) (ρ : Variables) (m : Memory) where
     pub is-asked : Stands t n term → kind_of t n ≢ 20 → kind_of t n ≢ 24 → Asked
     is-asked h a b = asked-kind (stands source t n term h).kind h refl a b
 
-    pub asked-arm : {r x : Evaluated} {q j : ℕ} → Asked → j ≡ child_a t n → x ≡ term_at j → q ≡ kind_of t n - 18
+    pub asked-arm : {r x : Evaluated} {q : Query} {j : ℕ} → Asked → j ≡ child_a t n → x ≡ term_at j
+        → q ≡ query_of (kind_of t n - 18)
         → r ≡ asked_of q x → r ≡ term_at n
     asked-arm h e x q r = r ∙ ap₂ asked_of q (x ∙ ap term_at e) ∙ sym h.value
 
-    pub combined-arm : {r x y : Evaluated} {o i j : ℕ} → Stands t n term → kind_of t n ≡ 24 → o ≡ mark_of t n
-        → i ≡ child_a t n → x ≡ term_at i → j ≡ child_b t n → y ≡ term_at j → r ≡ operated (live_block m) (operator_of o) x y
+    pub combined-arm : {r x y : Evaluated} {o : Operator} {i j : ℕ} → Stands t n term → kind_of t n ≡ 24 → o ≡ operator_of (mark_of t n)
+        → i ≡ child_a t n → x ≡ term_at i → j ≡ child_b t n → y ≡ term_at j → r ≡ operated (live_block m) o x y
         → r ≡ term_at n
     unfolding evaluate_term
     combined-arm h d o e x f y r =
         r
-        ∙ (λ i. operated (live_block m) (operator_of (o i)) ((x ∙ ap term_at e) i) ((y ∙ ap term_at f) i))
+        ∙ (λ i. operated (live_block m) (o i) ((x ∙ ap term_at e) i) ((y ∙ ap term_at f) i))
         ∙ sym (by-term (stands_at source t n 24 term h d).node)
 
     pub valid-arm : {r x : Evaluated} {j : ℕ} → Stands t n predicate → kind_of t n ≡ 30 → j ≡ child_a t n
-        → x ≡ term_at j → r ≡ asked_of 1 x → r ≡ predicate_at n
+        → x ≡ term_at j → r ≡ asked_of tree.valid x → r ≡ predicate_at n
     unfolding evaluate_predicate
     valid-arm h d e x r =
-        r ∙ ap (asked_of 1) (x ∙ ap term_at e) ∙ sym (by-predicate (stands_at source t n 30 predicate h d).node)
+        r ∙ ap (asked_of tree.valid) (x ∙ ap term_at e) ∙ sym (by-predicate (stands_at source t n 30 predicate h d).node)
 
     pub initialised-arm : {r x : Evaluated} {j : ℕ} → Stands t n predicate → kind_of t n ≡ 31 → j ≡ child_a t n
-        → x ≡ term_at j → r ≡ asked_of 2 x → r ≡ predicate_at n
+        → x ≡ term_at j → r ≡ asked_of tree.initialised x → r ≡ predicate_at n
     unfolding evaluate_predicate
     initialised-arm h d e x r =
-        r ∙ ap (asked_of 2) (x ∙ ap term_at e) ∙ sym (by-predicate (stands_at source t n 31 predicate h d).node)
+        r ∙ ap (asked_of tree.initialised) (x ∙ ap term_at e) ∙ sym (by-predicate (stands_at source t n 31 predicate h d).node)
 
-    pub compared-arm : {r x y : Evaluated} {o i j : ℕ} → Stands t n predicate → kind_of t n ≡ 32 → o ≡ mark_of t n
-        → i ≡ child_a t n → x ≡ term_at i → j ≡ child_b t n → y ≡ term_at j → r ≡ operated (live_block m) (operator_of o) x y
+    pub compared-arm : {r x y : Evaluated} {o : Operator} {i j : ℕ} → Stands t n predicate → kind_of t n ≡ 32 → o ≡ operator_of (mark_of t n)
+        → i ≡ child_a t n → x ≡ term_at i → j ≡ child_b t n → y ≡ term_at j → r ≡ operated (live_block m) o x y
         → r ≡ predicate_at n
     unfolding evaluate_predicate
     compared-arm h d o e x f y r =
         r
-        ∙ (λ i. operated (live_block m) (operator_of (o i)) ((x ∙ ap term_at e) i) ((y ∙ ap term_at f) i))
+        ∙ (λ i. operated (live_block m) (o i) ((x ∙ ap term_at e) i) ((y ∙ ap term_at f) i))
         ∙ sym (by-predicate (stands_at source t n 32 predicate h d).node)
 
     pub negated-arm : {r x : Evaluated} {j : ℕ} → Stands t n predicate → kind_of t n ≡ 33 → j ≡ child_a t n
@@ -216,7 +217,7 @@ module _ (t : List ℕ) (ρ : Variables) (m : Memory) where
         → Joined
     is-joined h a b c d = joined-kind (stands source t n predicate h).kind h refl a b c d
 
-    pub joined-arm : {x y : Evaluated} {b : Bool} {u : Joint} {i : ℕ} → Joined → i ≡ child_a t n
+    pub joined-arm : {x y : Evaluated} {b : Bool} {u : Option Evaluated} {i : ℕ} → Joined → i ≡ child_a t n
         → x ≡ predicate_at i → y ≡ predicate_at (child_b t n) → b ≡ eqb (kind_of t n) 35 → u ≡ joint_of b x
         → by_joint u y ≡ predicate_at n
     joined-arm h e x y b u = ap₂ by_joint (u ∙ ap₂ joint_of b (x ∙ ap predicate_at e)) y ∙ sym h.value

@@ -11,9 +11,7 @@ ghost use Rattle.rules.specs.Evaluation.{operated, query_memory, evaluate_term, 
 ghost use Rattle.evaluation.specs.State.{variables_of};
 ghost use Rattle.evaluation_predicates.specs.Joints.{joint_of};
 
-use rules::{
-    Evaluated, ExecutionMemory, Operator, Pointer, Query, Table, Temporaries, Variables,
-};
+use rules::{Evaluated, ExecutionMemory, Operator, Pointer, Query, Table, Temporaries, Variables};
 
 // An operator on what A and B gave: the first stop stays.
 fn combine(mem: &ExecutionMemory, operator: Operator, a: Evaluated, b: Evaluated) -> Evaluated

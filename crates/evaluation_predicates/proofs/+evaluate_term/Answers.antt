@@ -1,6 +1,7 @@
 -- The calls' requirements hold by what stands at the record, and each arm gives what its calls gave.
 use Rattle.std.proofs.Common.{ℕ, ◌-◌, sym, ap, ◌∙◌, arith}
 use Rattle.rules.specs.Kinds.{term}
+use Rattle.rules.specs.Nodes.{operator_of, query_of}
 use Rattle.rules.specs.Layout.{memory_of}
 use Rattle.evaluation.specs.State.{variables_of}
 use Rattle.evaluation_temporaries.specs.Bytes.{temporaries_of}
@@ -19,8 +20,8 @@ evaluate_operand-requires t c =
     rw c.child_a-a.ensures
     (expression-below c.args.table.now c.args.n c.requires (sym c.kind-k.ensures ∙ c.in-20.is))
 
-pub mark-operator-requires : goal.mark-operator-requires
-mark-operator-requires t c = within c.args.table.now c.args.n term c.requires
+pub mark-requires : goal.mark-requires
+mark-requires t c = within c.args.table.now c.args.n term c.requires
 
 pub child_b-b-requires : goal.child_b-b-requires
 child_b-b-requires t c = within c.args.table.now c.args.n term c.requires
@@ -62,7 +63,7 @@ pub returns-in-24 : goal.returns-in-24
 returns-in-24 t c =
     let a = c.args in
     combined-arm a.table.now (variables_of a.variables.now) (memory_of a.mem.now) a.n c.requires
-    (sym c.kind-k.ensures ∙ c.in-24.is) c.mark-operator.ensures c.child_a-a.ensures c.evaluate_term-x.ensures
+    (sym c.kind-k.ensures ∙ c.in-24.is) (c.from-operator.ensures ∙ ap operator_of c.mark.ensures) c.child_a-a.ensures c.evaluate_term-x.ensures
     c.child_b-b.ensures c.evaluate_term-y.ensures (c.restate.ensures ∙ c.combine.ensures)
 
 pub returns-in_default : goal.returns-in_default
@@ -72,5 +73,5 @@ returns-in_default t c =
     let h = is-asked a.table.now (variables_of a.variables.now) (memory_of a.mem.now) a.n c.requires
     (λ k. omega arith) (λ k. omega arith) in
     asked-arm a.table.now (variables_of a.variables.now) (memory_of a.mem.now) a.n h c.child_a-a.ensures
-    c.evaluate_term-x-in_default.ensures (ap (λ (k : ℕ). k - 18) c.kind-k.ensures)
+    c.evaluate_term-x-in_default.ensures (c.from.ensures ∙ ap (λ (k : ℕ). query_of (k - 18)) c.kind-k.ensures)
     (c.restate-in_default.ensures ∙ c.ask.ensures)
