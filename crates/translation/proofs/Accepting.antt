@@ -24,7 +24,9 @@ use Rattle.rules.proofs.Acceptance.Sound.{Scope, start_scope, adding, SoundTerm,
 use Rattle.rules.proofs.Acceptance.AcceptedPrograms.{AcceptedProgram, accepted-program}
 use Rattle.rules.proofs.Translation.SizeBound.{size-bound}
 use Rattle.translation_sizes.specs.Trees.{copy_at, Sorted}
-use Rattle.translation_emission.specs.Emission.{Emitted}
+use Rattle.rules.specs.declared.Rule.{Rule}
+use Rattle.translation_emission.specs.declared.Output.{Output}
+use Rattle.translation_emission.specs.Emission.{Room, Emitted}
 use Rattle.translation_assertions.specs.Tests.{TermLevels, PredicateLevels}
 use Rattle.translation_statements.specs.Statements.{StatementLevels, StatementAt}
 use Rattle.translation_emission.proofs.Emitting.{bytes-emit}
@@ -57,7 +59,7 @@ statement-levels (tree.assert s p) ρ h = (h.0.1, predicate-levels p ρ 0 h.1)
 
 -- the translation with its test apart
 abbrev into : List ℕ → List ℕ → Bool → Translated
-into bytes o b = translated_as (refuse_if 20 b) bytes o
+into bytes o b = translated_as (refuse_if Rule.Output b) bytes o
 
 module _ (t : List ℕ) (a : check source t ≡ (Ok tt)) where
   program : AcceptedProgram source t
@@ -95,17 +97,20 @@ module _ (t : List ℕ) (a : check source t ≡ (Ok tt)) where
       let f : into (translation t) o true ≡ translated_by (Ok tt) t o = ap (into (translation t) o) (sym e) in
       (ap (λ (x : Translated). x.answer) f, ap (λ (x : Translated). x.out) f)
 
-  pub long-enough : (o o' : List ℕ) (r : ℕ) → 16 * tree_size (copy_at t (record_count t)) ≤ length o
-      → Emitted o 0 (copy_at t (record_count t)) o' r
-      → (answer 0 r 0 0 ≡ (translated_by (Ok tt) t o).answer) × (o' ≡ (translated_by (Ok tt) t o).out)
-  long-enough o o' r h w =
+  pub long-enough : (o o' : Output) → o.count ≡ 0 → Room o (copy_at t (record_count t))
+      → Emitted o (copy_at t (record_count t)) o'
+      → (answer 0 o'.count 0 0 ≡ (translated_by (Ok tt) t o.bytes.now).answer)
+      × (o'.bytes.now ≡ (translated_by (Ok tt) t o.bytes.now).out)
+  long-enough o o' first h w =
       let l = translation-length in
       let c = w.count in
-      let e : ltb (length o) (length (translation t)) ≡ false = le-ltb (length o) (length (translation t))
-      (omega arith) in
-      let k : r ≡ length (translation t) / 16 = omega arith in
-      let f : into (translation t) o false
-      ≡ translated_by (Ok tt) t o = ap (into (translation t) o) (sym e) in (
+      let e : ltb (length o.bytes.now) (length (translation t)) ≡ false = le-ltb (length o.bytes.now)
+      (length (translation t)) (omega arith) in
+      let k : o'.count ≡ length (translation t) / 16 = omega arith in
+      let f : into (translation t) o.bytes.now false
+      ≡ translated_by (Ok tt) t o.bytes.now = ap (into (translation t) o.bytes.now) (sym e) in (
         ap (λ (j : ℕ). answer 0 j 0 0) k ∙ ap (λ (x : Translated). x.answer) f,
-        w.bytes ∙ ap (put o 0) (sym accepted-bytes) ∙ ap (λ (x : Translated). x.out) f,
+        w.bytes
+            ∙ ap (λ (n : ℕ). put o.bytes.now (16 * n) (table_bytes (emit (copy_at t (record_count t)) n))) first
+            ∙ ap (put o.bytes.now 0) (sym accepted-bytes) ∙ ap (λ (x : Translated). x.out) f,
       )

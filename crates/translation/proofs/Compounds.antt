@@ -12,12 +12,12 @@ use Rattle.rules.specs.Emission.{expression_tree, statement_tree, none, node}
 use Rattle.rules.specs.Translation.{translate}
 use Rattle.rules.proofs.Acceptance.Standing.{stands_at}
 use Rattle.translation_sizes.specs.Trees.{target_tree, copy_at, sort_at}
-use Rattle.translation_emission.specs.Emission.{sequence_tree}
+use Rattle.translation_emission.specs.Emission.{sequence_tree, leaf_tree}
 use Rattle.translation_statements.specs.Statements.{StatementLevels, StatementNode, StatementAt}
 use Rattle.translation.specs.Lets.{over_tree, ending_tree, let_tree, inside_tree}
 use Rattle.translation_emission.proofs.Emitting.{Some, some, statement-some}
 use Rattle.translation_emission.proofs.Copying.{copy-at}
-use Rattle.rules.proofs.Translation.RecordSizes.{none-at, tree-as}
+use Rattle.rules.proofs.Translation.RecordSizes.{tree-as}
 use Rattle.translation_statements.proofs.Statements.{statement-sort}
 
 pub statement-as : (y : SourceNode) → node_sort y ≡ 5 → StatementLevels (source_statement y) → StatementNode y
@@ -87,14 +87,13 @@ module _ (t : List ℕ) (n : ℕ) (l : StatementAt t n) where
       )
 
   let-tree : kind_of t n ≡ 47 → (child_a t n < n) × StatementAt t (child_a t n)
-      × (copy_at t n ≡ let_tree t n (mark_of t n) (copy_at t (child_a t n)))
+      × (copy_at t n ≡ let_tree n (mark_of t n) (copy_at t (child_a t n)))
   unfolding translate statement_tree expression_tree
   let-tree d =
       let h = stands_at source t n 47 statement (statement-sort t n l) d in
       let a = tree-as statement (node_at source t (child_a t n)) 0 0 h.a.2 in
       let m = levels-of h.node in
-      let x = mark_of t n in
-      let z = none-at t 0 0 0 refl in (
+      let x = mark_of t n in (
         h.a.1,
         below (child_a t n) h.a.2 m.1,
         ap (λ (y : SourceNode). target_tree y 0 0) h.node
@@ -102,9 +101,9 @@ module _ (t : List ℕ) (n : ℕ) (l : StatementAt t n) where
             node 47 x (pos n) 0
             (sequence_tree n (over_tree 10 x (pos 0) n 60 0)
             (sequence_tree n (over_tree 1 0 (pos 1) n 61 1)
-            (sequence_tree n (node 68 0 (pos n) 0 (z i) (z i) none)
+            (sequence_tree n (leaf_tree n 68 0 0)
             (sequence_tree n (a i)
-            (sequence_tree n (over_tree 10 x (pos 0) n 60 0) (node 69 0 (pos n) 0 (z i) (z i) none))))))
+            (sequence_tree n (over_tree 10 x (pos 0) n 60 0) (leaf_tree n 69 0 0))))))
             none none),
       )
 
@@ -125,11 +124,11 @@ module _ (t : List ℕ) (n : ℕ) (l : StatementAt t n) where
   while-read d e f = rw (e, f) (while-tree t n l d)
 
   pub let-read : {x : ℕ} → kind_of t n ≡ 47 → x ≡ mark_of t n
-      → copy_at t n ≡ let_tree t n x (copy_at t (child_a t n))
+      → copy_at t n ≡ let_tree n x (copy_at t (child_a t n))
   let-read d e = rw e (let-tree t n l d).2
 
   pub inside-read : {a : ℕ} (x : ℕ) → kind_of t n ≡ 47 → a ≡ child_a t n → (a < n) × StatementAt t a
-      × (inside_tree t n x ≡ sequence_tree n (copy_at t a) (ending_tree t n x))
+      × (inside_tree t n x ≡ sequence_tree n (copy_at t a) (ending_tree n x))
   inside-read x d e = let h = let-tree t n l d in rw e (h.0, h.1, refl)
 
 pub statement-has : (t : List ℕ) (n : ℕ) → StatementAt t n → Some (copy_at t n)

@@ -1,2 +1,3 @@
--- What the code of a let is held to.
+-- What the code of a let is held to, and the translator's answer.
 pub mod Lets
+pub mod Answers

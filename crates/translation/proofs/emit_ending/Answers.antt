@@ -5,6 +5,4 @@ use Rattle.translation.proofs.emit_ending.Goals as goal
 
 pub returns : goal.returns
 returns c =
-    let last = c.emit_sequence.ensures in
-    emitted-sequence _ _ c.args.s some some c.emit_over-p.ensures c.emit_part-q.ensures c.requires.fact_2 last.bytes
-    last.count
+    emitted-sequence c.args.s some some c.emit_address.ensures c.leaf.ensures c.requires.fact_2 c.sequence.ensures
