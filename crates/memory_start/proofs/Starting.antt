@@ -17,20 +17,26 @@ use Rattle.rules.specs.Layout.{memory_of, memory_image}
 use Rattle.rules.specs.declared.{Value.Value, Block.Block, Cell.Cell}
 use Rattle.memory_cells.specs.Changes.{Exact, Becomes, empty_memory}
 use Rattle.memory_cell_changes.proofs.Clearing.{empty-view}
+use Rattle.memory_cell_changes.proofs.Writing.{unchanged, becomes-then}
 use Rattle.memory_start.specs.Starting.{with_start, with_inputs}
 
 -- ---- the inputs, one after the other
 abbrev input-cell : ℤ → Cell
 input-cell z = Cell.Holds 2 (Value.Integer z)
 
-pub inputs-none : (m : Memory) (i : List ℕ) → m ≡ with_inputs m i 0
+-- the loop: the first n inputs are in their cells
+pub inputs-start : (l i : List ℕ) → Becomes l l (with_inputs (memory_of l) i 0)
 unfolding with_inputs
-inputs-none m i = refl
+inputs-start l i = unchanged l _ refl
 
-pub inputs-more : (m : Memory) (i : List ℕ) (n : ℕ)
-    → set_cell (with_inputs m i n) (n + 1) (Cell.Holds 2 (Value.Integer (integer_at i (n * 8)))) ≡ with_inputs m i (n + 1)
+pub inputs-turn : {l l' l'' : List ℕ} (i : List ℕ) (n : ℕ) {z : ℤ} → z ≡ integer_at i (n * 8)
+    → Becomes l l' (with_inputs (memory_of l) i n) → Becomes l' l'' (set_cell (memory_of l') (n + 1) (input-cell z))
+    → Becomes l l'' (with_inputs (memory_of l) i (n + 1))
 unfolding with_inputs
-inputs-more m i n = rw (add-one n) refl
+inputs-turn i n e x y =
+    rw add-one (becomes-then (λ (m : Memory). set_cell m (suc n) (input-cell (integer_at i (n * 8)))) x (rw (add-one, e) at y))
+
+pub ruleset input_loop = (inputs-start, inputs-turn)
 
 number-next : (i : List ℕ) (n : ℕ) → integer_at (drop 8 i) (n * 8) ≡ integer_at i (suc n * 8)
 unfolding word_at

@@ -13,16 +13,15 @@ ghost use Rattle.memory_start.specs.Starting.{with_start, with_inputs};
 use rules::{Block, Cell, ExecutionMemory, Pointer, Value};
 
 // The first n inputs go into the cells from 1 on.
+#[tactic(auto, using(crate::proofs::Starting::input_loop))]
 fn put_inputs(mem: &mut ExecutionMemory, inputs: &[u8], n: usize)
     requires { n * 8 ≤ length inputs.now }
     ensures { Becomes mem.old mem.new
         (with_inputs (memory_of mem.old) inputs.now n) }
 {
-    let mut i: usize = 0;
-    while i < n {
+    for i in 0..n {
         let z = byte_words::read_i64(inputs, i * 8);
-        i += 1;
-        memory_cell_changes::put_cell(mem, i, Cell::Holds(2, Value::Integer(z)));
+        memory_cell_changes::put_cell(mem, i + 1, Cell::Holds(2, Value::Integer(z)));
     }
 }
 
