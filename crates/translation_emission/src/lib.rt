@@ -84,18 +84,14 @@ impl Output<'_> {
         if n == 0 {
             return 0;
         }
-        let a = self.copy(table, table::child_a(table, n));
-        let b = self.copy(table, table::child_b(table, n));
-        let kind = table::kind(table, n);
-        let mark = table::mark(table, n);
-        let literal = table::literal(table, n);
+        let source = table::record(table, n);
+        let a = self.copy(table, source.a);
+        let b = self.copy(table, source.b);
         self.push(Record {
-            kind,
-            mark,
             a,
             b,
             c: 0,
-            literal,
+            ..source
         });
         self.count
     }

@@ -13,28 +13,27 @@ returns-then-n-eq0 t c =
 pub copy-a-requires : goal.copy-a-requires
 copy-a-requires t c =
     let a = c.args in
-    let r = copy-a a.table.now a.n a.self.now c.requires c.if-n-eq0.false c.child_a.ensures in
+    let r = copy-a a.table.now a.n a.self.now c.requires c.if-n-eq0.false c.record-source.ensures in
     (omega arith, r.1)
 
 pub copy-b-requires : goal.copy-b-requires
 copy-b-requires t c =
     let a = c.args in
-    let r = copy-b a.table.now a.n a.self.now c.requires c.if-n-eq0.false c.child_a.ensures c.child_b.ensures
+    let r = copy-b a.table.now a.n a.self.now c.requires c.if-n-eq0.false c.record-source.ensures
     c.copy-a.ensures.emitted in
     (omega arith, r.1)
 
 pub push-requires : goal.push-requires
 push-requires t c =
     let a = c.args in
-    copy-own a.table.now a.n a.self.now c.requires c.if-n-eq0.false c.child_a.ensures c.child_b.ensures
-    c.copy-a.ensures.emitted c.copy-b.ensures.emitted
+    copy-own a.table.now a.n a.self.now c.requires c.if-n-eq0.false c.record-source.ensures c.copy-a.ensures.emitted
+    c.copy-b.ensures.emitted
 
 pub returns : goal.returns
 returns t c =
     let a = c.args in
     let x = c.copy-a.ensures in
     let y = c.copy-b.ensures in
-    let r = copy_done a.table.now a.n a.self.now c.requires c.if-n-eq0.false c.child_a.ensures c.child_b.ensures x.emitted
-    y.emitted c.kind-kind.ensures c.mark-mark.ensures c.literal-literal.ensures x.root y.root
-    (rw (to_z-of_z {w = w64} {z = c.literal-literal.result} (search rules)) at c.push.ensures) in
+    let r = copy_done a.table.now a.n a.self.now c.requires c.if-n-eq0.false c.record-source.ensures x.emitted y.emitted
+    x.root y.root (rw (to_z-of_z {w = w64} {z = c.record-source.result.literal} (search rules)) at c.push.ensures) in
     record { emitted = r.0; root = r.1 }
