@@ -2,11 +2,12 @@
 use Prim.Native.Nat.{ℕ, zero, suc, ◌+◌, ◌-◌, ◌*◌, ◌/◌, ◌≤◌}
 use native.Mathlib.Omega.{arith}
 use native.Mathlib.Numerals.{add-one}
-use mathlib.Core.Path.{◌≡◌, refl, sym, ap, ◌∙◌}
+use mathlib.Core.Path.{◌≡◌, refl, sym, ap, subst, ◌∙◌}
 use mathlib.Core.List.{List, [], ◌∷◌, ◌++◌, map}
 use lib.IntN.{ℤ, pos}
-use lib.ListN.{length, set, replicate, take, drop}
-use lib.Seq.{drop-drop}
+use lib.ListN.{length, set, replicate, take, drop, length-append, length-drop}
+use lib.Seq.{drop-drop, drop-append_seam}
+use Rattle.std.proofs.lemmas.List.{take-append-le}
 use mir.Syntax.{w64}
 use mir.Val.{to_z}
 use Rattle.rules.specs.Sizes.{name_count, cell_count}
@@ -36,7 +37,19 @@ unfolding with_inputs
 inputs-turn i n e x y =
     rw add-one (becomes-then (λ (m : Memory). set_cell m (suc n) (input-cell (integer_at i (n * 8)))) x (rw (add-one, e) at y))
 
-pub ruleset input_loop = (inputs-start, inputs-turn)
+-- the eight bytes that come, before those that are left
+pub next-input : (i : List ℕ) (at : ℕ) (x rest : List ℕ) {left : List ℕ} → left ≡ drop at i → left ≡ x ++ rest
+    → length x ≡ 8 → (integer_at x 0 ≡ integer_at i at) × (rest ≡ drop (at + 8) i) × (at + 8 ≤ length i)
+unfolding word_at
+next-input i at x rest d e n =
+    let here : drop at i ≡ x ++ rest = sym d ∙ e in
+    let eight : take 8 (drop at i) ≡ take 8 x = ap (take 8) here ∙ take-append-le 8 x rest (omega arith) in
+    let behind : drop 8 (drop at i) ≡ rest =
+    ap (drop 8) here ∙ subst (λ (k : ℕ). drop k (x ++ rest) ≡ rest) n (drop-append_seam x rest) in (
+      ap (λ (b : List ℕ). to_z w64 (little b)) (sym eight),
+      sym behind ∙ drop-drop 8 at i,
+      omega (arith, length-drop at i, ap length here, length-append x rest),
+    )
 
 number-next : (i : List ℕ) (n : ℕ) → integer_at (drop 8 i) (n * 8) ≡ integer_at i (suc n * 8)
 unfolding word_at

@@ -2,7 +2,7 @@
 
 #![tactic(auto)]
 
-ghost use Rattle.std.specs.Prelude.{◌≡◌, ◌*◌, ◌≤◌, length};
+ghost use Rattle.std.specs.Prelude.{◌≡◌, ◌*◌, ◌/◌, ◌≤◌, length};
 ghost use Rattle.rules.specs.Sizes.{input_limit};
 ghost use Rattle.rules.specs.Memory.{start_memory};
 ghost use Rattle.rules.specs.Answers.{inputs_of};
@@ -13,14 +13,12 @@ ghost use Rattle.memory_start.specs.Starting.{with_start, with_inputs};
 use rules::{Block, Cell, ExecutionMemory, Pointer, Value};
 
 // The first n inputs go into the cells from 1 on.
-#[tactic(auto, using(crate::proofs::Starting::input_loop))]
-fn put_inputs(mem: &mut ExecutionMemory, inputs: &[u8], n: usize)
-    requires { n * 8 ≤ length inputs.now }
+fn put_inputs(mem: &mut ExecutionMemory, inputs: &[u8])
     ensures { Becomes mem.old mem.new
-        (with_inputs (memory_of mem.old) inputs.now n) }
+        (with_inputs (memory_of mem.old) inputs.now (length inputs.now / 8)) }
 {
-    for i in 0..n {
-        let z = byte_words::read_i64(inputs, i * 8);
+    for (i, input) in inputs.chunks_exact(8).enumerate() {
+        let z = byte_words::read_i64(input, 0);
         memory_cell_changes::put_cell(mem, i + 1, Cell::Holds(2, Value::Integer(z)));
     }
 }
@@ -43,5 +41,5 @@ pub fn start(mem: &mut ExecutionMemory, inputs: &[u8])
     let n = inputs.len() / 8;
     memory_cell_changes::clear(mem);
     put_start(mem, n as u16);
-    put_inputs(mem, inputs, n);
+    put_inputs(mem, inputs);
 }
