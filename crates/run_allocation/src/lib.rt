@@ -10,7 +10,12 @@ ghost use Rattle.run_changes.specs.Changing.{Does};
 use rules::{Counts, Evaluated, ExecutionMemory, Found, Pointer, Stop, Use, Value};
 
 // A place takes the pointer to a new block of n cells.
-fn store_new(mem: &mut ExecutionMemory, counts: &mut Counts, p: Pointer, n: usize) -> Result<(), Stop>
+fn store_new(
+    mem: &mut ExecutionMemory,
+    counts: &mut Counts,
+    p: Pointer,
+    n: usize,
+) -> Result<(), Stop>
     requires { Counted (memory_of mem.old) counts.old }
     ensures change { Does (store_new (memory_of mem.old) p (make_block (memory_of mem.old)
         freeable n)) result mem.old mem.new }
@@ -21,7 +26,12 @@ fn store_new(mem: &mut ExecutionMemory, counts: &mut Counts, p: Pointer, n: usiz
 }
 
 // 45 where the size is below 1.
-fn new_of_size(mem: &mut ExecutionMemory, counts: &mut Counts, p: Pointer, z: i64) -> Result<(), Stop>
+fn new_of_size(
+    mem: &mut ExecutionMemory,
+    counts: &mut Counts,
+    p: Pointer,
+    z: i64,
+) -> Result<(), Stop>
     requires { Counted (memory_of mem.old) counts.old }
     ensures change { Does (new_of_size (memory_of mem.old) p z) result mem.old mem.new }
     ensures counts { Counted (memory_of mem.new) counts.new }
@@ -33,7 +43,12 @@ fn new_of_size(mem: &mut ExecutionMemory, counts: &mut Counts, p: Pointer, z: i6
 }
 
 // A place takes a new block.
-pub fn new_at(mem: &mut ExecutionMemory, counts: &mut Counts, f: Found, e: Evaluated) -> Result<(), Stop>
+pub fn new_at(
+    mem: &mut ExecutionMemory,
+    counts: &mut Counts,
+    f: Found,
+    e: Evaluated,
+) -> Result<(), Stop>
     requires { Counted (memory_of mem.old) counts.old }
     ensures change { Does (allocated (memory_of mem.old) f e) result mem.old mem.new }
     ensures counts { Counted (memory_of mem.new) counts.new }

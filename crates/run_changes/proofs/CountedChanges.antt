@@ -4,7 +4,7 @@ use mathlib.Core.List.{List}
 use mathlib.Core.Path.{◌≡◌, refl, ◌∙◌}
 use Rattle.rules.specs.Memory.{Memory, Change, changed, stopped, store_cell, assigned}
 use Rattle.rules.specs.Layout.{memory_of}
-use Rattle.rules.specs.declared.{Pointer.Pointer, Value.Value}
+use Rattle.rules.specs.declared.{Counts.Counts, Pointer.Pointer, Value.Value}
 use Rattle.rules.specs.Types.{Evaluated, Found}
 use Rattle.rules.proofs.Memory.Invariant.{changed_memory}
 use Rattle.memory_counts.specs.Counted.{Counted}
@@ -16,7 +16,7 @@ changed-is : (x : Change Memory) → change_memory x ≡ changed_memory x
 changed-is (changed m) = refl
 changed-is (stopped k m) = refl
 
-module _ {a b : List ℕ} {c : List ℕ} (h : Counted (memory_of a) c) where
+module _ {a b : List ℕ} {c : Counts} (h : Counted (memory_of a) c) where
   pub counted-stored : (p : Pointer) (v : Value) → Becomes a b (change_memory (store_cell (memory_of a) p v))
       → Counted (memory_of b) c
   counted-stored p v w =

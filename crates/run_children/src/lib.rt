@@ -82,8 +82,8 @@ pub fn test_a(
     ensures { result ≡ condition (value_in table.now (child_a table.now n)
         variables.now temporaries.now mem.now) }
 {
-    let first = table::child_a(&table[..], n);
-    let e = evaluation::evaluate_expression(table, first, variables, temporaries, mem);
+    let condition = table::child_a(&table[..], n);
+    let e = evaluation::evaluate_expression(table, condition, variables, temporaries, mem);
     value::test(e)
 }
 
