@@ -1,66 +1,77 @@
--- What a turn of each loop does to a number and to its digits.
-use Prim.Native.Nat.{ℕ, zero, suc, ◌+◌, ◌-◌, ◌*◌, ◌/◌, ◌%◌, ◌^◌, ◌≤◌, ◌<◌}
-use native.Mathlib.Nat.{pow-le-pow_right}
-use lib.Dec.{lit<}
+-- What the chain that reads makes of bytes, and what a turn of the loop that writes makes of digits.
+use Prim.Native.Nat.{ℕ, suc, ◌+◌, ◌-◌, ◌*◌, ◌/◌, ◌%◌, ◌^◌, ◌≤◌, ◌<◌}
 use native.Mathlib.Numerals.{add-one}
 use native.Mathlib.Omega.{arith}
 use mathlib.Core.Path.{◌≡◌, refl, sym, ap, ◌∙◌}
-use mathlib.Core.List.{List, []}
-use lib.ListN.{length, take, drop, get_or, set}
-use lib.Seq.{drop-cons, paste, paste-suc, take_all}
-use Rattle.rules.specs.Words.{little, digits, part, put}
+use mathlib.Core.List.{List, [], ◌∷◌, ◌++◌, reverse, append_assoc}
+use lib.Dec.{lit<}
+use lib.ListN.{length, take, drop, get_or, set, length-take}
+use lib.Seq.{drop-drop, take_all, take-suc, take-suc-set}
+use borrow.Rule.Slice.PartMut.{put_mid}
+use Rattle.std.specs.List.{fold, between}
+use Rattle.std.specs.Int.RustNames.{bit_or}
+use Rattle.std.proofs.lemmas.Nat.{or_shifted, shl_whole}
+use Rattle.std.proofs.lemmas.List.{reverse-append}
+use Rattle.std.proofs.lemmas.List.Sums.{fold-append}
+use Rattle.rules.specs.Words.{little, digits, part, put, word_at}
+use Rattle.rules.proofs.Lists.WordLaws.{Bytes, no_bytes, more_bytes, bytes_take, bytes_drop, little-below, word_below}
+use Rattle.rules.proofs.Lists.WordLaws.{length_digits, digits-next}
 
--- ---- reading: one byte more in front
-pub little_step : (s : List ℕ) (j k : ℕ) → j < length s
-    → little (take (suc k) (drop j s)) ≡ get_or s j 0 + 256 * little (take k (drop (suc j) s))
+-- ---- reading, from the last byte on
+abbrev pub shifted_in : ℕ → ℕ → ℕ
+shifted_in v b = bit_or (v * 2 ^ 8 % 2 ^ 64) b
+
+shift_one : (v b : ℕ) → v < 256 ^ 7 → b < 256 → shifted_in v b ≡ b + 256 * v
+shift_one v b h k = rw (shl_whole v 56 8 64 h (lit< tt)) (rw (or_shifted v 8 b k) (omega arith))
+
+read_back : {l : List ℕ} → Bytes l → length l ≤ 8 → fold shifted_in 0 (reverse l) ≡ little l
 unfolding little
-little_step s j k h = rw (drop-cons s j 0 h) refl
+read_back no_bytes h = refl
+read_back (more_bytes {b} {bs} k f) h =
+    ap (fold shifted_in 0) (reverse-append (b ∷ []) bs)
+    ∙ fold-append shifted_in 0 (reverse bs) (b ∷ [])
+    ∙ ap (λ (v : ℕ). shifted_in v b) (read_back f (omega arith))
+    ∙ shift_one (little bs) b (little-below 7 f (omega arith)) k
 
-pub little-nil : little [] ≡ 0
-unfolding little
-little-nil = refl
+bytes : (l : List ℕ) → ((i : ℕ) → get_or l i 0 < 256) → Bytes l
+bytes [] f = no_bytes
+bytes (b ∷ l) f = more_bytes (f 0) (bytes l (λ i. f (suc i)))
 
--- ---- writing
-pub length_digits : (n v : ℕ) → length (digits n v) ≡ n
-unfolding digits
-length_digits zero v = refl
-length_digits (suc n) v = ap suc (length_digits n (v / 256))
+pub word_read : (s : List ℕ) (at n v : ℕ) → n ≤ 8 → ((i : ℕ) → get_or s i 0 < 256)
+    → v ≡ fold shifted_in 0 (reverse (between at (at + n) s)) → (v ≡ word_at n s at) × (v < 256 ^ n)
+unfolding word_at
+word_read s at n v h f e = (value, rw value (word_below n at (bytes s f)))
+  where
+    same : at + n - at ≡ n
+    same = omega arith
 
--- what is left of the digits after some: the digits of what is left
-pub digits-next : (n i v r k : ℕ) → drop i (digits n v) ≡ digits (suc k) r → i < n
-    → (get_or (digits n v) i 0 ≡ r % 256) × (drop (suc i) (digits n v) ≡ digits k (r / 256))
-unfolding digits
-digits-next n i v r k e h =
-    let l : i < length (digits n v) = rw (length_digits n v) h in
-    let both = sym (drop-cons (digits n v) i 0 l) ∙ e in
-    (ap (λ (t : List ℕ). get_or t 0 0) both, ap (λ (t : List ℕ). drop 1 t) both)
+    value : v ≡ little (part n s at)
+    value =
+        rw same at e
+        ∙ read_back (bytes_take n (bytes_drop at (bytes s f))) (omega (arith, length-take n (drop at s)))
 
-pub paste-put : (l : List ℕ) (at n v : ℕ) → paste l at (digits n v) n ≡ put l at (digits n v)
-paste-put l at n v = rw (take_all n (digits n v) (omega (arith, length_digits n v)), length_digits n v)
+-- ---- writing, from the lowest byte on
+module _ (l : List ℕ) (n v r i : ℕ) (long : length l ≡ n) (h : i < n)
+    (f : drop i (digits n v) ≡ digits (n - i) r) where
+  next : (get_or (digits n v) i 0 ≡ r % 256) × (drop (suc i) (digits n v) ≡ digits (n - (i + 1)) (r / 256))
+  next = let k : n - i ≡ suc (n - (i + 1)) = omega arith in digits-next n i v r (n - (i + 1)) (rw k at f) h
 
--- a turn of the loop that writes
-pub write-more : (l d : List ℕ) (at n v r i : ℕ) → at + n ≤ length l → i < n
-    → d ≡ paste l at (digits n v) i → drop i (digits n v) ≡ digits (n - i) r
-    → (set d (at + i) (r % 256) ≡ paste l at (digits n v) (i + 1))
-    × (drop (i + 1) (digits n v) ≡ digits (n - (i + 1)) (r / 256))
-write-more l d at n v r i room h e f =
-    let k : n - i ≡ suc (n - (i + 1)) = omega arith in
-    let next = digits-next n i v r (n - (i + 1)) (rw k at f) h in
-    let inside : at + i < length l = omega arith in
-    let there : i < length (digits n v) = rw (length_digits n v) h in
-    let step = paste-suc l at (digits n v) i 0 inside there in
-    (rw (e, add-one i, ← next.0) step, rw (add-one i) (rw (add-one i) at next.1))
+  pub others_more : drop (i + 1) (digits n v) ≡ digits (n - (i + 1)) (r / 256)
+  others_more = rw (add-one i) (rw (add-one i) at next.1)
 
--- a turn of the loop that reads
-pub read_more : (s : List ℕ) (at n i v : ℕ) → at + n ≤ length s → 0 < i → i ≤ n → v ≡ little (part (n - i) s (at + i))
-    → v * 256 + get_or s (at + (i - 1)) 0 ≡ little (part (n - (i - 1)) s (at + (i - 1)))
-read_more s at n i v room p h e =
-    let j : ℕ = at + (i - 1) in
-    let k : n - (i - 1) ≡ suc (n - i) = omega arith in
-    let m : at + i ≡ suc j = omega arith in
-    let l : j < length s = omega arith in
-    let f : v ≡ little (take (n - i) (drop (suc j) s)) = rw m at e in
-    rw k (rw (little_step s j (n - i) l) (rw (← f) (omega arith)))
+  pub written_more : take i l ≡ take i (digits n v) → take (i + 1) (set l i (r % 256)) ≡ take (i + 1) (digits n v)
+  written_more e =
+      let inside : i < length l = omega arith in
+      let there : i < length (digits n v) = omega (arith, length_digits n v) in
+      rw (add-one i)
+      (take-suc-set l i (r % 256) inside ∙ ap (λ (t : List ℕ). t ++ (r % 256) ∷ []) e
+      ∙ ap (λ (b : ℕ). take i (digits n v) ++ b ∷ []) (sym next.0) ∙ sym (take-suc (digits n v) i 0 there))
 
-pub small_power : (k : ℕ) → k ≤ 7 → 256 ^ k ≤ 256 ^ 7
-small_power k h = pow-le-pow_right (lit< tt) h
+pub written : (d l : List ℕ) (at n v k : ℕ) → k ≡ n → length l ≡ n → take n l ≡ take n (digits n v)
+    → put_mid at k d l ≡ put d at (digits n v)
+written d l at n v k e long t =
+    let m = length_digits n v in
+    let whole : l ≡ digits n v = sym (take_all n l (omega arith)) ∙ t ∙ take_all n (digits n v) (omega arith) in
+    rw (whole, e, drop-drop n at d, m) (sym (append_assoc (take at d) (digits n v) (drop (at + n) d)))
+
+pub ruleset digits_written = (others_more, written_more, written)

@@ -1,16 +1,10 @@
--- After i turns the first i digits are in place, and `rest` has the others.
-use Rattle.std.proofs.Common.{◌-◌, ◌≡◌, ◌≤◌, length, drop}
-use lib.Seq.{paste}
+-- The bytes so far are the first digits, and `rest` has the others.
+use Rattle.std.proofs.Common.{◌≡◌, ◌-◌, take, drop}
 use Rattle.rules.specs.Words.{digits}
 use Rattle.byte_words.proofs.write_word.Given as goal
 
-abbrev pub invariant-loop-i : goal.invariant-loop-i
-invariant-loop-i l = record {
-  in_range : l.i ≤ l.n;
-  same_length : length l.d ≡ length l.fn.d;
-  written : l.d ≡ paste l.fn.d l.at (digits l.n l.v) l.i;
-  others : drop l.i (digits l.n l.v) ≡ digits (l.n - l.i) l.rest;
+abbrev pub invariant-loop-byte : goal.invariant-loop-byte
+invariant-loop-byte l = record {
+  written : take l.byte-index l.byte-items ≡ take l.byte-index (digits l.n l.v);
+  others : drop l.byte-index (digits l.n l.v) ≡ digits (l.n - l.byte-index) l.rest;
 }
-
-abbrev pub decreases-loop-i : goal.decreases-loop-i
-decreases-loop-i l = l.n - l.i
