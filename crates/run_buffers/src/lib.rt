@@ -12,13 +12,7 @@ use rules::INPUT_LIMIT;
 pub fn has_inputs_fault(inputs: &[u8]) -> bool
     ensures { result ≡ inputs_fault inputs.now }
 {
-    if inputs.len() % 8 != 0 {
-        return true;
-    }
-    if inputs.len() == 0 {
-        return true;
-    }
-    INPUT_LIMIT < inputs.len() / 8
+    inputs.len() % 8 != 0 || inputs.is_empty() || INPUT_LIMIT < inputs.len() / 8
 }
 
 // The bytes of `from` are put over the first ones of `to`.
@@ -26,9 +20,5 @@ pub fn copy(to: &mut [u8], from: &[u8])
     requires { length from.now ≤ length to.old }
     ensures { to.new ≡ put to.old 0 from.now }
 {
-    let mut i: usize = 0;
-    while i < from.len() {
-        to[i] = from[i];
-        i += 1;
-    }
+    to[..from.len()].copy_from_slice(from);
 }
