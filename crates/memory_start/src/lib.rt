@@ -12,7 +12,7 @@ ghost use Rattle.memory_start.specs.Starting.{with_start, with_inputs};
 
 use rules::{Block, Cell, ExecutionMemory, Pointer, Value};
 
-// The first n inputs go into the cells from 1 on.
+// The inputs go into the cells from 1 on, eight bytes each.
 fn put_inputs(mem: &mut ExecutionMemory, inputs: &[u8])
     ensures { Becomes mem.old mem.new
         (with_inputs (memory_of mem.old) inputs.now (length inputs.now / 8)) }
@@ -38,8 +38,7 @@ pub fn start(mem: &mut ExecutionMemory, inputs: &[u8])
     requires { length inputs.now ≤ input_limit * 8 }
     ensures { mem.new ≡ memory_image (start_memory (inputs_of inputs.now)) }
 {
-    let n = inputs.len() / 8;
     memory_cell_changes::clear(mem);
-    put_start(mem, n as u16);
+    put_start(mem, (inputs.len() / 8) as u16);
     put_inputs(mem, inputs);
 }
