@@ -3,13 +3,13 @@ use Prim.Native.Nat.{ℕ, zero, suc, ◌*◌, ◌/◌, ◌%◌, ◌^◌, ◌<◌
 use native.Mathlib.Omega.{arith}
 use native.Mathlib.Decide.{ℕ_discrete}
 use native.Mathlib.Nat.{div-div-eq-div-mul, pow-suc, pow-succ', mod-eq_of_lt, one-mul, div-one}
-use mathlib.Core.Bool.{Bool, true, false, not, ◌&&◌, ◌||◌}
+use mathlib.Core.Bool.{Bool, true, false, ◌&&◌, ◌||◌}
 use mathlib.Core.Path.{◌≡◌, refl, sym, ap, ◌∙◌}
 use borrow.Author.Tests.{eq-eqb, ne_eqb, eqb-true}
 use lib.Bits.{bit_or, or_mod, or_shr}
 use lib.Dec.{eqb, eqb-zero-suc, eqb-suc-zero, eqb-suc-suc}
 use lib.Pow.{pow-lt}
-use Rattle.checker.specs.Scopes.{bit, out_of_scope}
+use Rattle.checker.specs.Scopes.{bit}
 
 pub bit_shifted : (x s : ℕ) → eqb (s / 2 ^ x % 2) 1 ≡ bit s x
 unfolding bit
@@ -58,20 +58,7 @@ bit-with x s y h =
     bit-or y ((1 * 2 ^ x) % 2 ^ 64) s
     ∙ ap (λ (b : Bool). b || bit s y) (ap (λ (n : ℕ). bit n y) power ∙ bit-power x y)
 
--- ---- rule 7 at a record, and the scope below it
-pub out-use : (k v s : ℕ) → k ≡ 10 → not (bit s v) ≡ out_of_scope k v s
-out-use k v s e = sym (ap (λ (n : ℕ). out_of_scope n v s) e)
-
-pub out-let : (k v s : ℕ) → k ≡ 47 → bit s v ≡ out_of_scope k v s
-out-let k v s e = sym (ap (λ (n : ℕ). out_of_scope n v s) e)
-
-pub out-other : (k v s : ℕ) → (k ≡ 10 → ⊥) → (k ≡ 47 → ⊥) → false ≡ out_of_scope k v s
-out-other k v s p q =
-    sym (λ i. elim (ne_eqb k 10 p i) as (λ x. Bool) [
-      | true ↦ not (bit s v)
-      | false ↦ elim (ne_eqb k 47 q i) as (λ x. Bool) [ true ↦ bit s v | false ↦ false ]
-    ])
-
+-- ---- the scope below a record
 pub below-let : (k v y : ℕ) (b : Bool) → k ≡ 47 → (eqb v y || b) ≡ ((eqb k 47 && eqb v y) || b)
 below-let k v y b e = sym (ap (λ (p : Bool). (p && eqb v y) || b) (eq-eqb k 47 e))
 

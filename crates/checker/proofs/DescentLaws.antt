@@ -1,25 +1,20 @@
 -- From the last record down: what is noted of a record is right once its parent has been passed.
-use Rattle.rules.specs.declared.{Language.Language}
-use Prim.Native.Nat.{ℕ, ◌-◌, ◌/◌, ◌%◌, ◌<◌, ◌≤◌}
+use Rattle.rules.specs.Kinds.{Language}
+use Prim.Native.Nat.{ℕ, ◌-◌, ◌<◌, ◌≤◌}
 use native.Mathlib.Omega.{arith}
 use native.Mathlib.Decide.{dec_lt}
 use mathlib.Core.Bool.{Bool, cond}
 use mathlib.Core.List.{List}
-use mathlib.Core.Path.{◌≡◌, refl, sym, ap, subst, ◌∙◌}
+use mathlib.Core.Path.{◌≡◌, sym, ap, subst, ◌∙◌}
 use borrow.Author.Tests.{lt-ltb, le-ltb}
 use lib.Dec.{ltb}
 use lib.ListN.{length, get_or}
-use Rattle.rules.specs.Records.{record_count, kind_of, child_a, child_b, child_c}
-use Rattle.rules.specs.Kinds.{Field}
-use Rattle.rules.specs.Checker.{record_fault, shape_fault, times_in, times_child_of}
+use Rattle.rules.specs.Records.{record_count}
+use Rattle.rules.specs.Checker.{record_fault, shape_fault, times_child_of}
 use Rattle.rules.proofs.Acceptance.ParentLaws.{Passed, IsParent, parent_above, has-parent, child-once, times-both}
 use Rattle.rules.proofs.Acceptance.SaidLaws.{no-err-kept}
 use Rattle.rules.proofs.Acceptance.CheckLaws.{each-passes}
-use Rattle.checker_forms.specs.Codes.{field_from, Coded}
-use Rattle.checker.specs.Searches.{put_in, put_three}
 use Rattle.checker.specs.Scopes.{Given, Formed, Kept}
-use Rattle.checker.proofs.NoteLaws.{put_step, put-length, field-has}
-use Rattle.checker.proofs.TimesLaws.{times-as}
 use Rattle.std.specs.Prelude.{Ok, is_err}
 
 pub no-fault : (l : Language) (t : List ℕ) → Formed l t → (n : ℕ) → 1 ≤ n → n ≤ record_count t → record_fault l t n ≡ Ok tt
@@ -101,58 +96,3 @@ fresh-down l t keeps n f notes notes' a b size g h m j p q =
     g.values j (omega (arith, below, p.in_table, size))
     ∙ ap (λ (x : Bool). cond x (f j) (get_or notes j 0)) (le-ltb 0 (times_child_of l t n j) other)
     ∙ h m j p (omega arith)
-
--- so 0 need not be put
-pub given-none : (l : Language) (t : List ℕ) (n : ℕ) (f : ℕ → ℕ) (notes : List ℕ) → ((j : ℕ) → f j ≡ 0)
-    → ((j : ℕ) → 0 < times_child_of l t n j → get_or notes j 0 ≡ 0) → Given l t n f notes notes
-given-none l t n f notes zero_of h = record { size = refl; values = λ j p. go j (dec_lt 0 (times_child_of l t n j)) }
-  where
-    go : (j : ℕ) → Dec (0 < times_child_of l t n j)
-        → get_or notes j 0 ≡ cond (ltb 0 (times_child_of l t n j)) (f j) (get_or notes j 0)
-    go j (yes p) =
-        h j p ∙ sym (zero_of j)
-        ∙ sym (ap (λ (x : Bool). cond x (f j) (get_or notes j 0)) (lt-ltb 0 (times_child_of l t n j) p))
-    go j (no p) =
-        sym (ap (λ (x : Bool). cond x (f j) (get_or notes j 0)) (le-ltb 0 (times_child_of l t n j) (omega arith)))
-
--- what is put by the fields of record n is given to its children
-module _ (l : Language) (t : List ℕ) (n x : ℕ) (k : Coded l (kind_of t n) x) (u v w : ℕ) (f : ℕ → ℕ) (notes : List ℕ)
-    (p : u ≡ f (child_a t n)) (q : v ≡ f (child_b t n)) (r : w ≡ f (child_c t n)) where
-  abbrev Right : ℕ → ℕ → Type 0
-  Right j y = y ≡ cond (ltb 0 (times_child_of l t n j)) (f j) (get_or notes j 0)
-
-  abbrev first : List ℕ
-  first = put_in (field_from (x / 4096 % 16)) (child_a t n) u notes
-
-  abbrev second : List ℕ
-  second = put_in (field_from (x / 256 % 16)) (child_b t n) v first
-
-  first-length : length first ≡ length notes
-  first-length = put-length (field_from (x / 4096 % 16)) (child_a t n) u notes
-
-  second-length : length second ≡ length notes
-  second-length = put-length (field_from (x / 256 % 16)) (child_b t n) v first ∙ first-length
-
-  its-child : (j : ℕ) (d : Field) (y z : ℕ) → z ≡ f y → times_in d y j ≤ times_child_of l t n j → 0 < times_in d y j
-      → Right j z
-  its-child j d y z e h g =
-      e ∙ ap f (field-has d y j g) ∙ sym (ap (λ (b : Bool). cond b (f j) (get_or notes j 0))
-      (lt-ltb 0 (times_child_of l t n j) (omega arith)))
-
-  right : (j : ℕ) → j < length notes
-      → Right j (get_or (put_three x (child_a t n) (child_b t n) (child_c t n) u v w notes) j 0)
-  right j h =
-      let times = times-as l t n x j k in
-      put_step (Right j) (field_from (x / 16 % 16)) (child_c t n) w second j (omega (arith, second-length))
-      (its-child j (field_from (x / 16 % 16)) (child_c t n) w r (omega arith))
-      (λ ec. put_step (Right j) (field_from (x / 256 % 16)) (child_b t n) v first j (omega (arith, first-length))
-      (its-child j (field_from (x / 256 % 16)) (child_b t n) v q (omega arith))
-      (λ eb. put_step (Right j) (field_from (x / 4096 % 16)) (child_a t n) u notes j h
-      (its-child j (field_from (x / 4096 % 16)) (child_a t n) u p (omega arith))
-      (λ ea. sym (ap (λ (b : Bool). cond b (f j) (get_or notes j 0)) (le-ltb 0 (times_child_of l t n j) (omega arith))))))
-
-  pub given-three : Given l t n f notes (put_three x (child_a t n) (child_b t n) (child_c t n) u v w notes)
-  given-three = record {
-    size = put-length (field_from (x / 16 % 16)) (child_c t n) w second ∙ second-length;
-    values = right;
-  }

@@ -4,6 +4,7 @@ pub mod TimesLaws
 pub mod BitLaws
 pub mod ShapeLaws
 pub mod DescentLaws
+pub mod GivenLaws
 pub mod TallyLaws
 pub mod LevelLaws
 pub mod RightLaws

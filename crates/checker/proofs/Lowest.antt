@@ -31,8 +31,3 @@ lowest-down p m n found r b z q e h i =
     let same : suc (n - 1) ≡ n = omega arith in
     let more : m - (n - 1) ≡ suc (m - n) = omega arith in
     (λ j. lowest p (same j) (more j)) ∙ lowest-first p n (m - n) found b e i ∙ sym h
-
-pub lowest-end : (p : ℕ → Bool) (m n : ℕ) (found : Search) → n ≡ 0 → Lowest p m n found → lowest p 1 m ≡ found
-lowest-end p m n found e i =
-    let whole : m ≡ m - n = omega arith in
-    (λ j. lowest p (suc (sym e j)) (whole j)) ∙ i

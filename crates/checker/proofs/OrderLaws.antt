@@ -1,6 +1,6 @@
 -- A rule's answer from the record found, and the rules in their order.
-use Rattle.rules.specs.declared.{Language.Language, Rule.Rule, Refusal.Refusal}
-use Prim.Native.Nat.{ℕ, ◌+◌, ◌/◌, ◌%◌, ◌<◌, ◌≤◌}
+use Rattle.rules.specs.declared.{Rule.Rule, Refusal.Refusal}
+use Prim.Native.Nat.{ℕ, ◌+◌, ◌%◌, ◌<◌, ◌≤◌}
 use native.Mathlib.Omega.{arith}
 use native.Mathlib.Decide.{dec_lt}
 use mathlib.Core.Bool.{Bool, true, false, not, ◌||◌}
@@ -12,11 +12,11 @@ use lib.ListN.{length}
 use Rattle.rules.specs.Sizes.{target_limit}
 use Rattle.rules.specs.Types.{Search, Checked}
 use Rattle.rules.specs.Records.{record_count}
-use Rattle.rules.specs.Kinds.{record_limit}
+use Rattle.rules.specs.Kinds.{Language, source, target, record_limit}
 use Rattle.rules.specs.Checker.{lowest_record, length_fault, count_fault, record_fault, shape_fault, scope_fault}
 use Rattle.rules.specs.Checker.{refused, refuse_at, refuse_if, refused_at, refuse_by, ◌otherwise◌, last_rule, check}
 use Rattle.rules.proofs.Lists.SearchLaws.{lowest-at, lowest-nothing, Outcome, lowest-outcome}
-use Rattle.checker_forms.specs.Codes.{Before}
+use Rattle.checker_forms.specs.Forms.{Before}
 use Rattle.checker.specs.Scopes.{Sized, Formed, Found, Kept}
 use Rattle.checker.specs.Order.{from_scopes, from_shapes, from_records}
 use Rattle.std.specs.Prelude.{Result, Err, None, Some, Ok, IfSome}
@@ -134,11 +134,8 @@ check-rest l t d e h =
     (le-ltb (record_limit l) (record_count t) h i) (from_records l t)))
 
 pub limit-most : (l : Language) → record_limit l ≤ target_limit
-limit-most Language.Source = omega arith
-limit-most Language.Target = omega arith
-
-pub some-record : (n : ℕ) → (n ≡ 0 → ⊥) → n % 16 ≡ 0 → 0 < n / 16
-some-record n d e = omega arith
+limit-most source = omega arith
+limit-most target = omega arith
 
 -- a record that is found stands in the table
 pub found-fits : (l : Language) (t : List ℕ) (p : ℕ → Bool) (found : Search) → Sized l t → lowest_record t p ≡ found

@@ -1,5 +1,4 @@
 -- What is noted of a record going down is its scope, or its level.
-use Rattle.rules.specs.declared.{Language.Language}
 use Prim.Native.Nat.{ℕ, zero, suc, ◌*◌, ◌<◌, ◌≤◌}
 use native.Mathlib.Omega.{arith}
 use mathlib.Core.Bool.{Bool, true, false, not, ◌&&◌, ◌||◌}
@@ -9,7 +8,7 @@ use mathlib.Core.Path.{◌≡◌, refl, sym, ap, ◌∙◌}
 use borrow.Author.Tests.{leb-true, eqb-true}
 use lib.Dec.{eqb, leb, eqb-suc-zero}
 use Rattle.rules.specs.Records.{fields_of, record_count, kind_of, mark_of, record_at}
-use Rattle.rules.specs.Kinds.{Field, up_to, Form, look_up, form_of}
+use Rattle.rules.specs.Kinds.{Language, source, target, Field, up_to, Form, look_up, form_of}
 use Rattle.rules.specs.Checker.{field_fits, fields_fit, children_fit, fault_of, record_fault, parent_of}
 use Rattle.rules.specs.Checker.{is_let_of, in_scope, mark_in_scope, scope_fault, level_below, position_in, level_of}
 use Rattle.rules.specs.Checker.{level_fault}
@@ -20,7 +19,7 @@ use Rattle.rules.proofs.Acceptance.SaidLaws.{faults}
 use Rattle.rules.proofs.Acceptance.FormLaws.{fields_split}
 use Rattle.rules.proofs.Acceptance.ScopeLaws.{scope-child, scope-last, level-child, level-last}
 use Rattle.checker.specs.Scopes.{bit, out_of_scope, too_deep, child_level}
-use Rattle.checker.proofs.LevelLaws.{below-most, below-outside, position-most}
+use Rattle.checker.proofs.LevelLaws.{below-most, position-most}
 use Rattle.std.specs.Prelude.{None, Some}
 use Rattle.std.specs.Prelude.{Ok}
 
@@ -42,17 +41,17 @@ mark-of l t n f e m h =
 
 use-form : (l : Language) → form_of l 10 ≡ some (form_at l 10)
 unfolding form_of look_up
-use-form Language.Source = refl
-use-form Language.Target = refl
+use-form source = refl
+use-form target = refl
 
 let-form : (l : Language) → form_of l 47 ≡ some (form_at l 47)
 unfolding form_of look_up
-let-form Language.Source = refl
-let-form Language.Target = refl
+let-form source = refl
+let-form target = refl
 
 use-mark : (l : Language) → ((form_at l 10).mark ≡ up_to 63) × ((form_at l 47).mark ≡ up_to 63)
-use-mark Language.Source = (refl, refl)
-use-mark Language.Target = (refl, refl)
+use-mark source = (refl, refl)
+use-mark target = (refl, refl)
 
 pub mark-used : (l : Language) (t : List ℕ) (n : ℕ) → record_fault l t n ≡ Ok tt → kind_of t n ≡ 10 → mark_of t n < 64
 mark-used l t n h e = mark-of l t n (form_at l 10) (ap (form_of l) e ∙ use-form l) (use-mark l).0 h
@@ -105,7 +104,7 @@ Levelled t j v = v ≡ level_of t (record_count t) j
 pub level-most : (t : List ℕ) (d n : ℕ) → level_of t d n ≤ 4 * d
 unfolding level_of
 level-most t zero n = omega arith
-level-most t (suc d) n = go (parent_of Language.Source t n) (λ m. level-most t d m)
+level-most t (suc d) n = go (parent_of source t n) (λ m. level-most t d m)
   where
     go : (s : Search) → ((m : ℕ) → level_of t d m ≤ 4 * d)
         → elim s as (λ q. ℕ) [
@@ -122,16 +121,10 @@ level-most t (suc d) n = go (parent_of Language.Source t n) (λ m. level-most t 
           position-most (fields_of (record_at t m)) n,
         )
 
-pub child-outside : (t : List ℕ) (n v k : ℕ) → k ≡ kind_of t n → (21 ≤ k → k ≤ 35 → ⊥) → (j : ℕ)
-    → child_level t n v j ≡ 0
-child-outside t n v k e h j =
-    ap (λ (i : ℕ). level_below i (position_in (fields_of (record_at t n)) j) v) (sym e)
-    ∙ below-outside k (position_in (fields_of (record_at t n)) j) v h
-
-pub levelled-last : (t : List ℕ) → Passed Language.Source t → (v : ℕ) → v ≡ 0 → Levelled t (record_count t) v
+pub levelled-last : (t : List ℕ) → Passed source t → (v : ℕ) → v ≡ 0 → Levelled t (record_count t) v
 levelled-last t keeps v e = e ∙ sym (level-last t keeps)
 
-pub levelled-child : (t : List ℕ) → Passed Language.Source t → (n j v : ℕ) → IsParent Language.Source t n j → Levelled t n v
+pub levelled-child : (t : List ℕ) → Passed source t → (n j v : ℕ) → IsParent source t n j → Levelled t n v
     → Levelled t j (child_level t n v j)
 levelled-child t keeps n j v p h =
     ap (level_below (kind_of t n) (position_in (fields_of (record_at t n)) j)) h ∙ sym (level-child t keeps n j p)

@@ -1,5 +1,5 @@
 -- Rule 6 at a record.
-use Rattle.rules.specs.declared.{Language.Language}
+use Rattle.rules.specs.Kinds.{Language}
 use Prim.Native.Nat.{ℕ}
 use mathlib.Core.Bool.{Bool, true, false, not}
 use mathlib.Core.List.{List}

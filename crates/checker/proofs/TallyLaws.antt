@@ -1,5 +1,5 @@
 -- What is noted of a record tells how many parents were met: none, one, or more.
-use Rattle.rules.specs.declared.{Language.Language}
+use Rattle.rules.specs.Kinds.{Language}
 use Prim.Native.Nat.{ℕ, zero, suc, ◌+◌, ◌-◌, ◌%◌, ◌<◌, ◌≤◌}
 use native.Mathlib.Omega.{arith}
 use native.Mathlib.Decide.{dec_lt}
@@ -14,7 +14,7 @@ use Rattle.rules.specs.Records.{record_count}
 use Rattle.rules.specs.Checker.{times_child_of, times_child, shape_fault}
 use Rattle.rules.proofs.Acceptance.ParentLaws.{Passed, child-below, child-once, child-single, times-suc, times_none}
 use Rattle.rules.proofs.Acceptance.ParentLaws.{times-least}
-use Rattle.checker.specs.Searches.{joined, noted}
+use Rattle.checker.specs.Notes.{joined, noted}
 use Rattle.checker.specs.Scopes.{Given, Noted, Formed, Ready}
 use Rattle.checker.proofs.TimesLaws.{times-up}
 use Rattle.checker.proofs.ShapeLaws.{shape-other}

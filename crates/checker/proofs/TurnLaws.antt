@@ -1,5 +1,5 @@
 -- The pass for rules 6 and 7, record by record: what is known after the records above n.
-use Rattle.rules.specs.declared.{Language.Language}
+use Rattle.rules.specs.Kinds.{Language}
 use Prim.Native.Nat.{ℕ, ◌-◌, ◌%◌, ◌<◌, ◌≤◌}
 use native.Mathlib.Omega.{arith}
 use mathlib.Core.Bool.{Bool, false, cond, ◌&&◌, ◌||◌}
@@ -12,11 +12,11 @@ use Rattle.rules.specs.Records.{record_count, kind_of, mark_of}
 use Rattle.std.specs.Prelude.{None, Some}
 use Rattle.rules.specs.Types.{Search}
 use Rattle.rules.specs.Checker.{shape_fault, scope_fault}
-use Rattle.checker.specs.Scopes.{bit, out_of_scope, Noted, Formed, Kept, Ready, Found}
+use Rattle.checker.specs.Scopes.{bit, out_of_scope, Noted, Formed, Kept, Ready}
 use Rattle.checker.proofs.DescentLaws.{no-fault, passed-of, Known, known_start, known-here, known-down}
 use Rattle.checker.proofs.TallyLaws.{Tallied, tallied-start, tallied-here, tallied-down, given-noted}
 use Rattle.checker.proofs.RightLaws.{Scoped, scoped-last, scoped-child, scoped-fault}
-use Rattle.checker.proofs.Lowest.{Lowest, lowest_start, lowest-down, lowest-end}
+use Rattle.checker.proofs.Lowest.{Lowest, lowest_start, lowest-down}
 
 -- scopes are right where no record is misshapen
 pub record Passing (l : Language) (t : List ℕ) (notes : List ℕ) (misshapen hidden : Search) (n : ℕ) : Type 0 where
@@ -75,11 +75,3 @@ passing-down l t formed notes notes' misshapen misshapen' hidden hidden' n s out
           lowest-down (scope_fault l t) (record_count t) n hidden hidden' out a h.within
           (eo ∙ scoped-fault l t n scope (no-fault l t formed n a h.within) (here kept)) eh (h.scopes kept);
     }
-
-pub passing-end : (l : Language) (t : List ℕ) → Formed l t → (notes : List ℕ) (misshapen hidden : Search) (n : ℕ) → n ≡ 0
-    → Passing l t notes misshapen hidden n → Found l t misshapen hidden
-passing-end l t formed notes misshapen hidden n e h = record {
-  formed = formed;
-  shapes = lowest-end (shape_fault l t) (record_count t) n misshapen e h.shapes;
-  scopes = λ kept. lowest-end (scope_fault l t) (record_count t) n hidden e (h.scopes kept);
-}

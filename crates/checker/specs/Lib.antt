@@ -1,3 +1,3 @@
-pub mod Searches
+pub mod Notes
 pub mod Scopes
 pub mod Order

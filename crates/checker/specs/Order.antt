@@ -1,5 +1,6 @@
 -- The rules in their order, from each on.
-use Rattle.rules.specs.declared.{Language.Language, Rule.Rule}
+use Rattle.rules.specs.Kinds.{Language}
+use Rattle.rules.specs.declared.{Rule.Rule}
 use Rattle.std.specs.Prelude.{ℕ, List}
 use Rattle.rules.specs.Types.{Checked}
 use Rattle.rules.specs.Checker.{lowest_record, record_fault, shape_fault, scope_fault, refuse_by, refuse_at, ◌otherwise◌, last_rule}

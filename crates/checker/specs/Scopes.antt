@@ -1,12 +1,11 @@
 -- Variables in scope as the bits of a number, and what is noted below a record.
-use Rattle.rules.specs.declared.{Language.Language}
 use Rattle.std.specs.Prelude.{ℕ, zero, suc, ◌/◌, ◌%◌, ◌<◌, ◌≤◌, Bool, true, false, not, cond, List, ◌≡◌, eqb, ltb, leb, length, get_or}
 use Rattle.rules.specs.Sizes.{temporary_count}
 use Rattle.rules.specs.Records.{fields_of, record_count, kind_of, record_at}
-use Rattle.rules.specs.Kinds.{record_limit}
+use Rattle.rules.specs.Kinds.{Language, record_limit}
 use Rattle.rules.specs.Checker.{lowest_record, record_fault, times_child_of, shape_fault, scope_fault, is_term_or_predicate}
 use Rattle.rules.specs.Checker.{level_below, position_in, highest_named}
-use Rattle.checker.specs.Searches.{noted}
+use Rattle.checker.specs.Notes.{noted}
 use Rattle.std.specs.Prelude.{None}
 use Rattle.rules.specs.Types.{Search}
 use Rattle.std.specs.Prelude.{is_err}

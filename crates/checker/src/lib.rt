@@ -11,57 +11,38 @@ mod scopes;
 mod searches;
 mod shapes;
 
-ghost use Rattle.std.specs.Prelude.{◌≡◌, ◌≤◌, ◌<◌};
-ghost use Rattle.rules.specs.Sizes.{source_limit, target_limit};
+ghost use Rattle.std.specs.Prelude.{◌≡◌, ◌+◌, ◌≤◌, ◌<◌};
+ghost use Rattle.rules.specs.Sizes.{target_limit};
 ghost use Rattle.rules.specs.Records.{record_count};
-ghost use Rattle.rules.specs.Kinds.{record_limit};
+ghost use Rattle.rules.specs.Kinds.{source, target, record_limit};
 ghost use Rattle.rules.specs.Checker.{record_fault, refused_at, check};
 ghost use Rattle.table.specs.Within.{Within};
-ghost use Rattle.checker_forms.specs.Codes.{Before};
+ghost use Rattle.checker_forms.specs.Forms.{Before};
 ghost use Rattle.checker.specs.Scopes.{Sized, Formed};
 ghost use Rattle.checker.specs.Order.{from_shapes, from_records};
 
 use rules::{Checked, Language, Refusal, Rule, SOURCE_LIMIT, TARGET_LIMIT};
 
-// How many records have their notes in a shorter array, which is sooner cleared.
+// How many records have their notes in a shorter array, which is sooner cleared; and a note for each record and for 0.
 const SMALL_LIMIT: usize = 64;
+
+const SMALL_NOTES: usize = SMALL_LIMIT + 1;
+
+const SHORT_NOTES: usize = SOURCE_LIMIT + 1;
 
 const MIDDLE_LIMIT: usize = 1024;
 
-// Rules 6 to 8, with notes for a small table.
-fn check_small(language: Language, table: &[u8]) -> Checked
-    requires { Formed language table.now × (record_count table.now ≤ 64) }
-    ensures { result ≡ from_shapes language table.now }
-{
-    let mut notes = [0u64; SMALL_LIMIT + 1];
-    shapes::check_shapes(language, table, &mut notes[..])
-}
+const MIDDLE_NOTES: usize = MIDDLE_LIMIT + 1;
 
-// With notes for the longest source table.
-fn check_short(language: Language, table: &[u8]) -> Checked
-    requires { Formed language table.now × (record_count table.now ≤ source_limit) }
-    ensures { result ≡ from_shapes language table.now }
-{
-    let mut notes = [0u64; SOURCE_LIMIT + 1];
-    shapes::check_shapes(language, table, &mut notes[..])
-}
+const LONG_NOTES: usize = TARGET_LIMIT + 1;
 
-// With notes for most target tables.
-fn check_middle(language: Language, table: &[u8]) -> Checked
-    requires { Formed language table.now × (record_count table.now ≤ 1024) }
+// Rules 6 to 8.
+fn check_with<const NOTES: usize>(language: Language, table: &[u8]) -> Checked
+    requires { Formed language table.now × (record_count table.now < NOTES) × (NOTES ≤ target_limit + 1) }
     ensures { result ≡ from_shapes language table.now }
 {
-    let mut notes = [0u64; MIDDLE_LIMIT + 1];
-    shapes::check_shapes(language, table, &mut notes[..])
-}
-
-// With notes for a table of any length.
-fn check_long(language: Language, table: &[u8]) -> Checked
-    requires { Formed language table.now }
-    ensures { result ≡ from_shapes language table.now }
-{
-    let mut notes = [0u64; TARGET_LIMIT + 1];
-    shapes::check_shapes(language, table, &mut notes[..])
+    let mut notes = [0u64; NOTES];
+    shapes::check_shapes(language, table, &mut notes)
 }
 
 // A short table has few notes to clear.
@@ -69,16 +50,12 @@ fn check_formed(language: Language, table: &[u8]) -> Checked
     requires { Formed language table.now }
     ensures { result ≡ from_shapes language table.now }
 {
-    if table.len() / 16 <= SMALL_LIMIT {
-        return check_small(language, table);
+    match table.len() / 16 {
+        0..=SMALL_LIMIT => check_with::<SMALL_NOTES>(language, table),
+        0..=SOURCE_LIMIT => check_with::<SHORT_NOTES>(language, table),
+        0..=MIDDLE_LIMIT => check_with::<MIDDLE_NOTES>(language, table),
+        _ => check_with::<LONG_NOTES>(language, table),
     }
-    if table.len() / 16 <= SOURCE_LIMIT {
-        return check_short(language, table);
-    }
-    if table.len() / 16 <= MIDDLE_LIMIT {
-        return check_middle(language, table);
-    }
-    check_long(language, table)
 }
 
 // Rules 3 to 5 at a record.
@@ -132,13 +109,13 @@ fn check_table(language: Language, table: &[u8]) -> Checked
 }
 
 pub fn check_source(table: &[u8]) -> Checked
-    ensures { result ≡ check Language.Source table.now }
+    ensures { result ≡ check source table.now }
 {
     check_table(Language::Source, table)
 }
 
 pub fn check_target(table: &[u8]) -> Checked
-    ensures { result ≡ check Language.Target table.now }
+    ensures { result ≡ check target table.now }
 {
     check_table(Language::Target, table)
 }

@@ -21,13 +21,11 @@ pub fn is_out_of_scope(kind: u8, mark: u8, scope: u64) -> bool
     requires { (kind ≡ 10 → mark < 64) × (kind ≡ 47 → mark < 64) }
     ensures { result ≡ out_of_scope kind mark scope }
 {
-    if kind == 10 {
-        return !has_bit(scope, mark as u64);
+    match kind {
+        10 => !has_bit(scope, u64::from(mark)),
+        47 => has_bit(scope, u64::from(mark)),
+        _ => false,
     }
-    if kind == 47 {
-        return has_bit(scope, mark as u64);
-    }
-    false
 }
 
 // The variables in scope below it, 0 among them also where it is misshapen and has no scope.
@@ -38,7 +36,8 @@ pub fn scope_below(kind: u8, mark: u8, scope: u64) -> u64
 {
     let odd = with_bit(scope, 0);
     if kind == 47 {
-        return with_bit(odd, mark as u64);
+        with_bit(odd, u64::from(mark))
+    } else {
+        odd
     }
-    odd
 }

@@ -9,7 +9,7 @@ use super::answers::conclude;
 use super::descent::pass_scope;
 use super::scopes::{is_out_of_scope, scope_below};
 use super::searches::lower;
-use rules::{Checked, Language};
+use rules::{Checked, Language, Sort};
 
 // The last record is no child. As a statement it has variable 0 alone in scope; otherwise it is noted as misshapen.
 fn last_note(language: Language, table: &[u8]) -> u64
@@ -18,10 +18,7 @@ fn last_note(language: Language, table: &[u8]) -> u64
         0 1 }
 {
     let n = table.len() / 16;
-    if checker_forms::sort_of(table::kind(table, n)) == 5 {
-        return 1;
-    }
-    0
+    u64::from(checker_forms::sort_of(table::kind(table, n)) == Sort::Statement)
 }
 
 // Rules 6 to 8. A record is misshapen where its note is even.

@@ -1,5 +1,3 @@
 -- Facts about forms.
-pub mod MatchLaws
-pub mod CodeLaws
-pub mod FieldLaws
-pub mod FaultLaws
+pub mod FormLaws
+pub mod KeptLaws

@@ -1,2 +1,2 @@
 -- What a form is.
-pub mod Codes
+pub mod Forms

@@ -1,7 +1,7 @@
 -- The first record that breaks one of rules 3 to 5 is the lowest; where none does, the others follow.
 use Rattle.std.proofs.Common.{◌+◌, ◌∙◌, arith}
 use Rattle.std.proofs.lemmas.Result.{err_from_is_err_and}
-use Rattle.checker_forms.specs.Codes.{Before}
+use Rattle.checker_forms.specs.Forms.{Before}
 use Rattle.checker.specs.Scopes.{Formed}
 use Rattle.checker.proofs.OrderLaws.{record-refused, record-kept, records-kept, shapes-next}
 use Rattle.checker.proofs.check_records.Goals as goal

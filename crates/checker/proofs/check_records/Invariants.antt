@@ -1,5 +1,5 @@
 -- The records before n keep rules 3 to 5.
-use Rattle.checker_forms.specs.Codes.{Before}
+use Rattle.checker_forms.specs.Forms.{Before}
 use Rattle.checker.proofs.check_records.Given as goal
 
 abbrev pub invariant-loop-n : goal.invariant-loop-n

@@ -1,53 +1,34 @@
--- The form of the record's kind is what that kind asks; each answer is one case of the rules.
-use Rattle.rules.specs.declared.{Rule.Rule}
-use Rattle.std.proofs.Common.{◌≡◌, ℕ, Bool, true, cond, sym, ap, subst, ◌∙◌}
-use Rattle.std.specs.Prelude.{Ok, Err}
-use Rattle.rules.specs.Records.{kind_of, record_at}
-use Rattle.rules.specs.Checker.{fields_fit, children_fit}
-use Rattle.checker_forms.specs.Codes.{entry, Coded}
-use Rattle.checker_forms.proofs.FaultLaws.{fault-none, fault-some}
+-- Each answer is one case of what the form of the record's kind says.
+use Rattle.std.proofs.Common.{◌≡◌, Bool, sym, ap, ap₂, ◌∙◌}
+use Rattle.rules.specs.Records.{record_at}
+use Rattle.rules.specs.Checker.{fields_fit, children_fit, record_fault}
+use Rattle.rules.proofs.Acceptance.SaidLaws.{faults}
+use Rattle.checker_forms.specs.Forms.{form_from}
+use Rattle.checker_forms.proofs.KeptLaws.{some_form}
 use Rattle.checker_forms.proofs.record_fault.Goals as goal
+use Rattle.checker_forms.proofs.record_fault.Goals.{In_ok-form}
 
-pub returns-then-form-eq0 : goal.returns-then-form-eq0
-returns-then-form-eq0 c =
+said : (c : In_ok-form) → let a = c.args in let f = form_from 0 c.in_ok-form.form in
+    record_fault a.language a.table.now a.n ≡ faults (fields_fit f (record_at a.table.now a.n))
+    (children_fit a.language a.table.now a.n f (record_at a.table.now a.n))
+said c =
     let a = c.args in
-    let l = a.language in
-    let t = a.table.now in
-    let x = c.form_of-form.result in
-    let k : Coded l (kind_of t a.n) x = subst (λ (k : ℕ). Coded l k x) c.kind.ensures c.form_of-form.ensures in
-    fault-none l t a.n x k c.if-form-eq0.true
+    some_form a.language a.table.now a.n c.kind.result c.form_of.result c.kind.ensures c.form_of.ensures
+    c.in_ok-form.form c.in_ok-form.ensures.ok_part
 
 pub returns-then-not-fields_fit : goal.returns-then-not-fields_fit
 returns-then-not-fields_fit c =
     let a = c.args in
-    let l = a.language in
-    let t = a.table.now in
-    let x = c.form_of-form.result in
-    let k : Coded l (kind_of t a.n) x = subst (λ (k : ℕ). Coded l k x) c.kind.ensures c.form_of-form.ensures in
-    sym (fault-some l t a.n x k c.if-form-eq0.false
-    ∙ ap (λ (b : Bool). cond b (cond (children_fit l t a.n (entry 0 x) (record_at t a.n)) (Ok tt) (Err Rule.Child)) (Err Rule.Field))
-    (sym c.fields_fit.ensures ∙ c.if-not-fields_fit.true))
+    let children = children_fit a.language a.table.now a.n (form_from 0 c.in_ok-form.form) (record_at a.table.now a.n) in
+    sym (said (goal.at.returns-then-not-fields_fit c).In_ok-form
+    ∙ ap (λ (b : Bool). faults b children) (sym c.if-not-fields_fit.ensures))
 
 pub returns-then-not-children_fit : goal.returns-then-not-children_fit
 returns-then-not-children_fit c =
-    let a = c.args in
-    let l = a.language in
-    let t = a.table.now in
-    let x = c.form_of-form.result in
-    let k : Coded l (kind_of t a.n) x = subst (λ (k : ℕ). Coded l k x) c.kind.ensures c.form_of-form.ensures in
-    let fit : fields_fit (entry 0 x) (record_at t a.n) ≡ true =
-    sym c.fields_fit.ensures ∙ c.if-not-fields_fit.false in
-    sym (fault-some l t a.n x k c.if-form-eq0.false
-    ∙ (λ i. cond (fit i) (cond ((sym c.children_fit.ensures ∙ c.if-not-children_fit.true) i) (Ok tt) (Err Rule.Child)) (Err Rule.Field)))
+    sym (said (goal.at.returns-then-not-children_fit c).In_ok-form
+    ∙ ap₂ faults (sym c.if-not-fields_fit.ensures) (sym c.if-not-children_fit.ensures))
 
 pub returns : goal.returns
 returns c =
-    let a = c.args in
-    let l = a.language in
-    let t = a.table.now in
-    let x = c.form_of-form.result in
-    let k : Coded l (kind_of t a.n) x = subst (λ (k : ℕ). Coded l k x) c.kind.ensures c.form_of-form.ensures in
-    let fit : fields_fit (entry 0 x) (record_at t a.n) ≡ true =
-    sym c.fields_fit.ensures ∙ c.if-not-fields_fit.false in
-    sym (fault-some l t a.n x k c.if-form-eq0.false
-    ∙ (λ i. cond (fit i) (cond ((sym c.children_fit.ensures ∙ c.if-not-children_fit.false) i) (Ok tt) (Err Rule.Child)) (Err Rule.Field)))
+    sym (said (goal.at.returns c).In_ok-form
+    ∙ ap₂ faults (sym c.if-not-fields_fit.ensures) (sym c.if-not-children_fit.ensures))
