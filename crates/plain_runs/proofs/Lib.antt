@@ -2,4 +2,3 @@
 pub mod Laws
 pub mod ReadyLaws
 pub mod MemberLaws
-pub mod CountedRuns

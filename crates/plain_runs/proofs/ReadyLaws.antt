@@ -1,55 +1,39 @@
 -- A statement that may run: so may its parts.
-use Prim.Native.Nat.{ℕ, ◌≤◌, ◌<◌}
+use Prim.Native.Nat.{ℕ, ◌+◌, ◌≤◌, ◌<◌}
+use native.Mathlib.Decide.{ℕ_discrete}
 use native.Mathlib.Omega.{arith}
 use mathlib.Core.List.{List}
-use mathlib.Core.Path.{◌≡◌, refl, sym, subst}
-use mir.Syntax.{w32}
-use mir.Val.{Fits}
+use mathlib.Core.Path.{◌≡◌, sym, subst}
+use Rattle.std.specs.Prelude.{Option, Some, None}
 use Rattle.rules.specs.Kinds.{source, expression, statement}
-use Rattle.rules.specs.Nodes.{SourceNode, source_statement, statement_at}
+use Rattle.rules.specs.Nodes.{statement_at}
 use Rattle.rules.specs.Records.{kind_of, mark_of, child_a, child_b, child_c}
-use Rattle.rules.proofs.Acceptance.KindViews.{form_at, SourceKind, skip, assign, new, free, sequence, branch, while}
-use Rattle.rules.proofs.Acceptance.KindViews.{let_in, assert}
-use Rattle.rules.proofs.Acceptance.FormLaws.{node_as}
-use Rattle.rules.proofs.Acceptance.Standing.{stands, stands_at}
-use Rattle.rules.proofs.Acceptance.Sound.{adding, Numbered, SoundStatement}
+use Rattle.rules.proofs.Acceptance.Sound.{adding, SoundStatement}
 use Rattle.rules.proofs.Runs.StatementArms.{statement-within, sequence-children, branch-children, while-children}
 use Rattle.rules.proofs.Runs.StatementArms.{let-child, sound-sequence, sound-branch, sound-while}
 use Rattle.rules.proofs.Runs.StatementArms.{sound-let}
 use Rattle.rules.proofs.Runs.PlainArms.{Under}
 use Rattle.table.specs.Within.{Within}
 use Rattle.run_children.specs.Children.{first_of, rest_of}
-use Rattle.run_children.proofs.Sequences.{rest-is, first_by, first-within, first-smaller, rest-smaller, first_alone}
+use Rattle.run_children.proofs.Sequences.{rest-is, rest-nothing, first_by, first-within, first-smaller}
 use Rattle.plain_runs.specs.Running.{Ready, Inside}
+
+-- what is left to run, if anything, may run, and is no later record than n
+abbrev pub LeftReady : List ℕ → ℕ → Option ℕ → Type 0
+LeftReady t n (Some k) = Ready t k × (k ≤ n)
+LeftReady t n None = Unit {0}
+
+-- how much that is
+abbrev pub left_size : Option ℕ → ℕ
+left_size (Some k) = k + 1
+left_size None = 0
 
 module _ {t : List ℕ} {n : ℕ} (r : Ready t n) where
   pub ready-within : Within t n
   ready-within = statement-within source t n r.is
 
-  -- its number is at most 256
-  sound-of : (k : ℕ) → kind_of t n ≡ k
-      → SoundStatement (source_statement (node_as source (form_at source k).kind t n)) r.scope
-  sound-of k e =
-      subst (λ (x : SourceNode). SoundStatement (source_statement x) r.scope)
-      (stands_at source t n k statement r.is e).node r.sound
-
-  numbered-kind : {k : ℕ} → SourceKind statement k → kind_of t n ≡ k → Numbered n
-  numbered-kind skip e = sound-of 40 e
-  numbered-kind assign e = (sound-of 41 e).0
-  numbered-kind new e = (sound-of 42 e).0
-  numbered-kind free e = (sound-of 43 e).0
-  numbered-kind sequence e = (sound-of 44 e).0
-  numbered-kind branch e = (sound-of 45 e).0
-  numbered-kind while e = (sound-of 46 e).0
-  numbered-kind let_in e = (sound-of 47 e).0
-  numbered-kind assert e = (sound-of 48 e).0
-
-  pub ready-number : Fits w32 n
-  ready-number =
-      record { fits = omega (arith, numbered-kind (stands source t n statement r.is).kind refl) }
-
   -- its parts
-  pub sequence-parts : kind_of t n ≡ 44 → Under statement t n (child_a t n) × Under statement t n (child_b t n)
+  sequence-parts : kind_of t n ≡ 44 → Under statement t n (child_a t n) × Under statement t n (child_b t n)
   sequence-parts = sequence-children source t n r.is
 
   pub branch-parts : kind_of t n ≡ 45
@@ -62,35 +46,38 @@ module _ {t : List ℕ} {n : ℕ} (r : Ready t n) where
   ready-part : (x : ℕ) → Under statement t n x → SoundStatement (statement_at t x) r.scope → Ready t x
   ready-part x h s = record { is = h.2; scope = r.scope; sound = s }
 
-  pub ready-first : kind_of t n ≡ 44 → Ready t (child_a t n)
-  ready-first e =
-      ready-part (child_a t n) (sequence-parts e).0 (sound-sequence source t n r.is r.scope r.sound e).0
+  -- what it runs first, and what is left then
+  pub ready-first : Ready t (first_of t n)
+  ready-first =
+      first_by t n (Ready t)
+      (λ q. ready-part (child_a t n) (sequence-parts q).0 (sound-sequence source t n r.is r.scope r.sound q).0)
+      (λ d. r)
 
-  pub ready-second : kind_of t n ≡ 44 → Ready t (child_b t n)
-  ready-second e =
-      ready-part (child_b t n) (sequence-parts e).1 (sound-sequence source t n r.is r.scope r.sound e).1
+  pub first-up-to : first_of t n ≤ n
+  first-up-to = first-within t n (λ q. (sequence-parts q).0.1)
 
-  -- what it runs first and then
-  pub ready-run-first : Ready t (first_of t n)
-  ready-run-first = first_by t n (Ready t) ready-first (λ d. r)
+  pub first-below : kind_of t n ≡ 44 → first_of t n < n
+  first-below = first-smaller t n (λ q. (sequence-parts q).0.1)
 
-  pub ready-run-then : kind_of t n ≡ 44 → Ready t (rest_of t n)
-  ready-run-then q = subst (Ready t) (sym (rest-is t n q)) (ready-second q)
+  rest_by : (P : Option ℕ → Type 0) → (kind_of t n ≡ 44 → P (Some (child_b t n))) → P None → P (rest_of t n)
+  rest_by P a b = by (ℕ_discrete (kind_of t n) 44)
+    where
+      by : Dec (kind_of t n ≡ 44) → P (rest_of t n)
+      by (yes q) = subst P (sym (rest-is t n q)) (a q)
+      by (no d) = subst P (sym (rest-nothing t n d)) b
 
-  sequence-numbers : kind_of t n ≡ 44 → (1 ≤ child_b t n) × (child_b t n < n)
-  sequence-numbers q = ((sequence-parts q).1.0, (sequence-parts q).1.1)
+  pub ready-rest : {m : ℕ} → n ≤ m → LeftReady t m (rest_of t n)
+  ready-rest {m} l =
+      rest_by (LeftReady t m)
+      (λ q. (
+        ready-part (child_b t n) (sequence-parts q).1 (sound-sequence source t n r.is r.scope r.sound q).1,
+        omega (arith, (sequence-parts q).1.1),
+      ))
+      tt
 
-  pub run-first-within : first_of t n ≤ n
-  run-first-within = first-within t n (λ q. (sequence-parts q).0.1) sequence-numbers
-
-  pub run-first-smaller : kind_of t n ≡ 44 → first_of t n < n
-  run-first-smaller = first-smaller t n (λ q. (sequence-parts q).0.1) sequence-numbers
-
-  pub run-then-smaller : kind_of t n ≡ 44 → rest_of t n < n
-  run-then-smaller = rest-smaller t n (λ q. (sequence-parts q).0.1) sequence-numbers
-
-  pub run-first-alone : rest_of t n ≡ 0 → first_of t n ≡ n
-  run-first-alone = first_alone t n (λ q. (sequence-parts q).0.1) sequence-numbers
+  pub rest-below : left_size (rest_of t n) < left_size (Some n)
+  rest-below =
+      rest_by (λ x. left_size x < left_size (Some n)) (λ q. omega (arith, (sequence-parts q).1.1)) (omega arith)
 
   pub ready-then : kind_of t n ≡ 45 → Ready t (child_b t n)
   ready-then e =

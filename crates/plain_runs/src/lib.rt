@@ -3,22 +3,19 @@
 #![tactic(auto)]
 
 ghost use Rattle.std.specs.Prelude.{◌≡◌, ◌≢◌};
-ghost use Rattle.rules.specs.Kinds.{expression, predicate, source, target, sort_number};
+ghost use Rattle.rules.specs.Kinds.{expression, predicate, source};
 ghost use Rattle.rules.specs.Records.{kind_of, child_a};
 ghost use Rattle.rules.specs.Evaluation.{evaluate_source, evaluate_predicate, condition};
 ghost use Rattle.rules.specs.Plain.{run};
 ghost use Rattle.rules.specs.Layout.{memory_of};
-ghost use Rattle.rules.specs.Nodes.{HasSort, expression_at, predicate_at, statement_at, node_at, sort_of_node};
+ghost use Rattle.rules.specs.Nodes.{HasSort, expression_at, predicate_at, statement_at};
 ghost use Rattle.table.specs.Within.{Within};
 ghost use Rattle.memory_counts.specs.Counted.{Counted};
 ghost use Rattle.memory_freeing.specs.LetBlocks.{LetBlock};
-ghost use Rattle.run_children.specs.Children.{value_in};
-ghost use Rattle.run_endings.specs.Ending.{fuel_in};
 ghost use Rattle.evaluation.specs.State.{variables_of};
-ghost use Rattle.plain_runs.specs.Running.{Ready, Inside, enclosed, Ran};
+ghost use Rattle.plain_runs.specs.Running.{Ready, Inside, enclosed, Ran, CountsKept};
 
-use memory_blocks::Making;
-use rules::{Counts, Evaluated, ExecutionMemory, Progress, Table, Temporaries, Test, Variables};
+use rules::{Counts, ExecutionMemory, Progress, Stop, Table, Temporaries, Test, Use, Variables};
 
 // What condition A says.
 fn test_a(
@@ -59,17 +56,18 @@ fn assign(
     temporaries: &Temporaries,
     mem: &mut ExecutionMemory,
     progress: &mut Progress,
-) -> u32
+) -> Result<(), Stop>
     requires { Ready table.now n
         × (kind_of table.now n ≡ 41) }
-    ensures { Ran (run (statement_at table.now n) (variables_of variables.now)
-        (memory_of mem.old) (fuel_in progress.old)) result progress.new
+    ensures outcome { Ran (run (statement_at table.now n) (variables_of variables.now)
+        (memory_of mem.old) progress.old.fuel) result progress.new
         mem.old mem.new }
+    ensures counts { CountsKept mem.old mem.new }
 {
-    let f = run_children::find_a(table, n, variables, temporaries, &*mem);
-    let e = run_children::evaluate_b(table, n, variables, temporaries, &*mem);
-    let number = run_changes::store_at(mem, f, e);
-    run_endings::stop_at(progress, number, n as u32)
+    let place = run_children::find_a(table, n, variables, temporaries, &*mem);
+    let value = run_children::evaluate_b(table, n, variables, temporaries, &*mem);
+    let outcome = run_changes::store_at(mem, place, value);
+    run_endings::stop_at(progress, outcome, n as u32)
 }
 
 // Place A takes a new block of B cells.
@@ -81,41 +79,19 @@ fn allocate(
     mem: &mut ExecutionMemory,
     counts: &mut Counts,
     progress: &mut Progress,
-) -> u32
+) -> Result<(), Stop>
     requires { Ready table.now n
         × (kind_of table.now n ≡ 42)
         × Counted (memory_of mem.old) counts.old }
     ensures outcome { Ran (run (statement_at table.now n) (variables_of variables.now)
-        (memory_of mem.old) (fuel_in progress.old)) result progress.new
+        (memory_of mem.old) progress.old.fuel) result progress.new
         mem.old mem.new }
     ensures counts { Counted (memory_of mem.new) counts.new }
 {
-    let f = run_children::find_a(table, n, variables, temporaries, &*mem);
-    let e = run_children::evaluate_b(table, n, variables, temporaries, &*mem);
-    let number = run_allocation::new_at(mem, counts, f, e);
-    run_endings::stop_at(progress, number, n as u32)
-}
-
-// What is freed: the value of child A. Most often it is a read, whose place is found here and not by a call. The compiler
-// takes in a function that has one caller, so each statement that gains by it has its own.
-fn freed_value(
-    table: &Table,
-    n: usize,
-    variables: &Variables,
-    temporaries: &Temporaries,
-    mem: &ExecutionMemory,
-) -> Evaluated
-    requires { Within table.now n
-        × (sort_of_node target (node_at target table.now (child_a table.now n)) ≡ sort_number expression) }
-    ensures { result ≡ value_in table.now (child_a table.now n)
-        variables.now temporaries.now mem.now }
-{
-    let a = table::child_a(&table[..], n);
-    if table::kind(&table[..], a) == 2 {
-        let f = evaluation::find_read(table, a, variables, temporaries, mem);
-        return evaluation::fetch(mem, f);
-    }
-    evaluation::evaluate_expression(table, a, variables, temporaries, mem)
+    let place = run_children::find_a(table, n, variables, temporaries, &*mem);
+    let size = run_children::evaluate_b(table, n, variables, temporaries, &*mem);
+    let outcome = run_allocation::new_at(mem, counts, place, size);
+    run_endings::stop_at(progress, outcome, n as u32)
 }
 
 // What A points to is freed.
@@ -127,18 +103,18 @@ fn release(
     mem: &mut ExecutionMemory,
     counts: &mut Counts,
     progress: &mut Progress,
-) -> u32
+) -> Result<(), Stop>
     requires { Ready table.now n
         × (kind_of table.now n ≡ 43)
         × Counted (memory_of mem.old) counts.old }
     ensures outcome { Ran (run (statement_at table.now n) (variables_of variables.now)
-        (memory_of mem.old) (fuel_in progress.old)) result progress.new
+        (memory_of mem.old) progress.old.fuel) result progress.new
         mem.old mem.new }
     ensures counts { Counted (memory_of mem.new) counts.new }
 {
-    let e = freed_value(table, n, variables, temporaries, &*mem);
-    let number = run_changes::free_at(mem, counts, e);
-    run_endings::stop_at(progress, number, n as u32)
+    let value = run_children::evaluate_a(table, n, variables, temporaries, &*mem);
+    let outcome = run_changes::free_at(mem, counts, value);
+    run_endings::stop_at(progress, outcome, n as u32)
 }
 
 // Predicate A is asserted.
@@ -147,22 +123,21 @@ fn assert(
     n: usize,
     variables: &Variables,
     temporaries: &Temporaries,
-    mem: &mut ExecutionMemory,
+    mem: &ExecutionMemory,
     progress: &mut Progress,
-) -> u32
+) -> Result<(), Stop>
     requires { Ready table.now n
         × (kind_of table.now n ≡ 48) }
     ensures { Ran (run (statement_at table.now n) (variables_of variables.now)
-        (memory_of mem.old) (fuel_in progress.old)) result progress.new
-        mem.old mem.new }
+        (memory_of mem.now) progress.old.fuel) result progress.new
+        mem.now mem.now }
 {
-    let t = test_predicate(table, n, variables, temporaries, &*mem);
-    let number = run_endings::assert_number(t);
-    run_endings::stop_at(progress, number, n as u32)
+    let outcome = run_endings::assert_true(test_predicate(table, n, variables, temporaries, mem));
+    run_endings::stop_at(progress, outcome, n as u32)
 }
 
-// Runs statement n. Of a sequence A runs, and B where A finished; as B may be one again, they are a loop. Only an A that
-// is a sequence is run by a call of its own.
+// Runs statement n. Of a sequence A runs, and B where A finished; as B may be one again, they are a loop. Only an A
+// that is a sequence is run by a call of its own.
 #[cycle(run)]
 pub fn run(
     table: &Table,
@@ -172,34 +147,25 @@ pub fn run(
     mem: &mut ExecutionMemory,
     counts: &mut Counts,
     progress: &mut Progress,
-) -> u32
+) -> Result<(), Stop>
     requires { Ready table.now n
         × Counted (memory_of mem.old) counts.old }
     ensures outcome { Ran (run (statement_at table.now n) (variables_of variables.now)
-        (memory_of mem.old) (fuel_in progress.old)) result progress.new
+        (memory_of mem.old) progress.old.fuel) result progress.new
         mem.old mem.new }
     ensures counts { Counted (memory_of mem.new) counts.new }
 {
-    let mut at = n;
-    loop {
-        let rest = run_children::rest_of(table, at);
+    let mut next = Some(n);
+    while let Some(at) = next {
         let first = run_children::first_of(table, at);
+        next = run_children::rest_of(table, at);
         if table::kind(&table[..], first) == 44 {
-            let r = run(table, first, variables, temporaries, mem, counts, progress);
-            if r != 0 {
-                return r;
-            }
+            run(table, first, variables, temporaries, mem, counts, progress)?;
         } else {
-            let r = run_single(table, first, variables, temporaries, mem, counts, progress);
-            if rest == 0 {
-                return r;
-            }
-            if r != 0 {
-                return r;
-            }
+            run_single(table, first, variables, temporaries, mem, counts, progress)?;
         }
-        at = rest;
     }
+    Ok(())
 }
 
 // Runs statement n, which is no sequence.
@@ -212,24 +178,24 @@ fn run_single(
     mem: &mut ExecutionMemory,
     counts: &mut Counts,
     progress: &mut Progress,
-) -> u32
+) -> Result<(), Stop>
     requires { Ready table.now n
         × (kind_of table.now n ≢ 44)
         × Counted (memory_of mem.old) counts.old }
     ensures outcome { Ran (run (statement_at table.now n) (variables_of variables.now)
-        (memory_of mem.old) (fuel_in progress.old)) result progress.new
+        (memory_of mem.old) progress.old.fuel) result progress.new
         mem.old mem.new }
     ensures counts { Counted (memory_of mem.new) counts.new }
 {
     match table::kind(&table[..], n) {
-        40 => 0,
+        40 => Ok(()),
         41 => assign(table, n, variables, temporaries, mem, progress),
         42 => allocate(table, n, variables, temporaries, mem, counts, progress),
         43 => release(table, n, variables, temporaries, mem, counts, progress),
         45 => branch(table, n, variables, temporaries, mem, counts, progress),
         46 => repeat(table, n, variables, temporaries, mem, counts, progress),
         47 => enclose(table, n, variables, temporaries, mem, counts, progress),
-        _ => assert(table, n, variables, temporaries, mem, progress),
+        _ => assert(table, n, variables, temporaries, &*mem, progress),
     }
 }
 
@@ -243,35 +209,25 @@ fn branch(
     mem: &mut ExecutionMemory,
     counts: &mut Counts,
     progress: &mut Progress,
-) -> u32
+) -> Result<(), Stop>
     requires { Ready table.now n
         × (kind_of table.now n ≡ 45)
         × Counted (memory_of mem.old) counts.old }
     ensures outcome { Ran (run (statement_at table.now n) (variables_of variables.now)
-        (memory_of mem.old) (fuel_in progress.old)) result progress.new
+        (memory_of mem.old) progress.old.fuel) result progress.new
         mem.old mem.new }
     ensures counts { Counted (memory_of mem.new) counts.new }
 {
     match test_a(table, n, variables, temporaries, &*mem) {
-        Test::Yes => run(
-            table,
-            table::child_b(&table[..], n),
-            variables,
-            temporaries,
-            mem,
-            counts,
-            progress,
-        ),
-        Test::No => run(
-            table,
-            table::child_c(&table[..], n),
-            variables,
-            temporaries,
-            mem,
-            counts,
-            progress,
-        ),
-        Test::Stopped(k) => run_endings::stop_at(progress, k, n as u32),
+        Ok(true) => {
+            let b = table::child_b(&table[..], n);
+            run(table, b, variables, temporaries, mem, counts, progress)
+        }
+        Ok(false) => {
+            let c = table::child_c(&table[..], n);
+            run(table, c, variables, temporaries, mem, counts, progress)
+        }
+        Err(stop) => run_endings::stop_at(progress, Err(stop), n as u32),
     }
 }
 
@@ -285,34 +241,25 @@ fn repeat(
     mem: &mut ExecutionMemory,
     counts: &mut Counts,
     progress: &mut Progress,
-) -> u32
+) -> Result<(), Stop>
     requires { Ready table.now n
         × (kind_of table.now n ≡ 46)
         × Counted (memory_of mem.old) counts.old }
     ensures outcome { Ran (run (statement_at table.now n) (variables_of variables.now)
-        (memory_of mem.old) (fuel_in progress.old)) result progress.new
+        (memory_of mem.old) progress.old.fuel) result progress.new
         mem.old mem.new }
     ensures counts { Counted (memory_of mem.new) counts.new }
 {
     let b = table::child_b(&table[..], n);
-    while progress[0] > 0 {
+    while progress.fuel > 0 {
         run_endings::take_fuel(progress);
         match test_a(table, n, variables, temporaries, &*mem) {
-            Test::Yes => {
-                let r = run(table, b, variables, temporaries, mem, counts, progress);
-                if r != 0 {
-                    return r;
-                }
-            }
-            Test::No => {
-                return 0;
-            }
-            Test::Stopped(k) => {
-                return run_endings::stop_at(progress, k, n as u32);
-            }
+            Ok(true) => run(table, b, variables, temporaries, mem, counts, progress)?,
+            Ok(false) => return Ok(()),
+            Err(stop) => return run_endings::stop_at(progress, Err(stop), n as u32),
         }
     }
-    run_endings::stop_at(progress, 32, n as u32)
+    run_endings::stop_at(progress, Err(Stop::NoFuel), n as u32)
 }
 
 // A, with a new block of one cell for the variable.
@@ -325,18 +272,18 @@ fn enclose(
     mem: &mut ExecutionMemory,
     counts: &mut Counts,
     progress: &mut Progress,
-) -> u32
+) -> Result<(), Stop>
     requires { Ready table.now n
         × (kind_of table.now n ≡ 47)
         × Counted (memory_of mem.old) counts.old }
     ensures outcome { Ran (run (statement_at table.now n) (variables_of variables.now)
-        (memory_of mem.old) (fuel_in progress.old)) result progress.new
+        (memory_of mem.old) progress.old.fuel) result progress.new
         mem.old mem.new }
     ensures counts { Counted (memory_of mem.new) counts.new }
 {
-    match memory_blocks::make(mem, counts, false, 1) {
-        Making::Name(k) => run_inside(table, n, *variables, temporaries, mem, counts, progress, k),
-        Making::Stopped(c) => run_endings::stop_at(progress, c, n as u32),
+    match memory_blocks::make(mem, counts, Use::Fixed, 1) {
+        Ok(k) => run_inside(table, n, *variables, temporaries, mem, counts, progress, k),
+        Err(stop) => run_endings::stop_at(progress, Err(stop), n as u32),
     }
 }
 
@@ -351,29 +298,20 @@ fn run_inside(
     counts: &mut Counts,
     progress: &mut Progress,
     k: u16,
-) -> u32
+) -> Result<(), Stop>
     requires { Inside table.now n
         × Counted (memory_of mem.old) counts.old
         × LetBlock (memory_of mem.old) k }
     ensures outcome { Ran (enclosed table.now n (variables_of variables)
-        (memory_of mem.old) (fuel_in progress.old) k) result progress.new
+        (memory_of mem.old) progress.old.fuel k) result progress.new
         mem.old mem.new }
     ensures counts { Counted (memory_of mem.new) counts.new }
 {
     let v = table::mark(&table[..], n) as usize;
     let mut inner = variables;
     inner[v] = k;
-    let r = run(
-        table,
-        table::child_a(&table[..], n),
-        &inner,
-        temporaries,
-        mem,
-        counts,
-        progress,
-    );
-    if r == 0 {
-        memory_freeing::end(mem, counts, k);
-    }
-    r
+    let a = table::child_a(&table[..], n);
+    run(table, a, &inner, temporaries, mem, counts, progress)?;
+    memory_freeing::end(mem, counts, k);
+    Ok(())
 }

@@ -1,119 +1,88 @@
--- What runs first of a statement is part of what remains of it; the members ask of one another what stands in the table.
-use Rattle.std.proofs.Common.{◌≡◌, ◌≢◌, ℕ, List, ◌-◌, ◌<◌, refl, sym, ap, ◌∙◌, length, set, arith, rules}
-use Rattle.rules.specs.Records.{kind_of, mark_of, child_a, child_b}
-use Rattle.rules.specs.Nodes.{expression_at, statement_at}
-use Rattle.rules.specs.Flow.{ending}
+-- What is left of a statement as it runs; the members ask of one another what stands in the table.
+use Rattle.std.proofs.Common.{◌≡◌, ◌≢◌, ℕ, List, ◌<◌, refl, ◌∙◌, length, set, arith, rules}
+use Rattle.std.specs.Prelude.{Ok, Err, true, false}
+use Rattle.rules.specs.Records.{kind_of, mark_of, child_a}
+use Rattle.rules.specs.Nodes.{statement_at}
+use Rattle.rules.specs.Memory.{Memory, stopped, end_block}
+use Rattle.rules.specs.Flow.{finished, into, next}
 use Rattle.rules.specs.Plain as plain
-use Rattle.rules.specs.Layout.{memory_of}
-use Rattle.rules.specs.Evaluation.{Variables, condition, evaluate_source, extend}
+use Rattle.rules.specs.declared.{Stop.Stop}
 use Rattle.rules.proofs.Runs.PlainArms.{statement-kinds, run-skip}
 use Rattle.evaluation.specs.State.{variables_of}
-use Rattle.run_changes.proofs.ChangeLaws.{becomes-same, let-block}
-use Rattle.run_children.specs.Children.{first_of, rest_of}
-use Rattle.run_children.proofs.Sequences.{sequence-first, sequence-rest}
-use Rattle.run_endings.specs.Ending.{fuel_in, after_turn}
+use Rattle.run_changes.proofs.ChangeLaws.{does-stop, let-block}
+use Rattle.run_children.specs.Children.{first_of}
+use Rattle.run_children.proofs.Sequences.{sequence-first}
+use Rattle.run_endings.specs.Ending.{after_turn}
 use Rattle.run_variables.proofs.VariableLaws.{variables-set}
-use Rattle.plain_runs.specs.Running.{Ready, Ran}
-use Rattle.plain_runs.proofs.CountedRuns.{assign-counted, assert-counted}
-use Rattle.plain_runs.proofs.Laws.{ran-is, ran-stops}
-use Rattle.plain_runs.proofs.MemberLaws.{Remaining, Part, part-ends, part-finishes, part-spends, branch_by, branch-stops}
-use Rattle.plain_runs.proofs.MemberLaws.{ran-from, ran-finished, run-first-then, turn_by, turn-stops, turn-out}
-use Rattle.plain_runs.proofs.MemberLaws.{let-made, let-unmade, inside-block, inside-ends, inside-stays}
+use Rattle.plain_runs.specs.Running.{enclosed}
+use Rattle.plain_runs.proofs.Laws.{ends-is, ends-from, ends-finished, ends-into, ends-then, ends-stopped}
+use Rattle.plain_runs.proofs.Laws.{ran-does, ran-exits}
+use Rattle.plain_runs.proofs.MemberLaws.{left_ready, left-goes, left-stops, branch_by, turn_by, turn-out}
+use Rattle.plain_runs.proofs.MemberLaws.{turn-goes, turn-stops, turn-spends, let-made, let-unmade, does-unmade}
+use Rattle.plain_runs.proofs.MemberLaws.{inside-block}
 use Rattle.plain_runs.proofs.ReadyLaws.{ready-within, branch-parts, ready-then, ready-else, while-parts}
-use Rattle.plain_runs.proofs.ReadyLaws.{ready-turn, ready-inside, ready-run-first, ready-run-then, run-first-within}
-use Rattle.plain_runs.proofs.ReadyLaws.{run-first-smaller, run-then-smaller, run-first-alone}
+use Rattle.plain_runs.proofs.ReadyLaws.{ready-turn, ready-inside, ready-first, first-up-to, first-below, rest-below}
 use Rattle.plain_runs.proofs.+run.Goals as goal
-use Rattle.std.specs.Prelude.{Ok}
-use Rattle.std.specs.Prelude.{true, false}
-
-module _ {T : List ℕ} {n : ℕ} {ρ : Variables} {entry : List ℕ} {fuel m : ℕ} {l : List ℕ} {r : ℕ} (p : List ℕ) {l₁ : List ℕ} where
-  -- of sequence m the first child ran
-  first : {left : ℕ} → Remaining T n ρ entry fuel m l left → Ready T m → kind_of T m ≡ 44
-      → (x : ℕ) → x ≡ first_of T m → Ran (plain.run (statement_at T x) ρ (memory_of l) left) r p l l₁
-      → Part T n ρ entry fuel m l left (first_of T m) (rest_of T m) left r p l₁
-  first {left} e h q x i w =
-      record { earlier = e; ran = rw i at w; leads = run-first-then ρ h q (memory_of l) left }
-
-  -- of while m a turn's condition is true, and its child ran
-  turn : (f : List ℕ) → Remaining T n ρ entry fuel m l (fuel_in f) → Ready T m → kind_of T m ≡ 46 → 0 < fuel_in f
-      → condition (evaluate_source (expression_at T (child_a T m)) ρ (memory_of l)) ≡ (Ok true)
-      → (x : ℕ) → x ≡ child_b T m → (g : List ℕ) → g ≡ after_turn f
-      → Ran (plain.run (statement_at T x) ρ (memory_of l) (fuel_in g)) r p l l₁
-      → Part T n ρ entry fuel m l (fuel_in f) (child_b T m) m (fuel_in f - 1) r p l₁
-  turn f e h q z y x i g j w =
-      record { earlier = e; ran = rw (i, j) at w; leads = turn_by ρ h q (memory_of l) (fuel_in f) z (Ok true) y }
 
 pub branch-test_a-requires : goal.branch-test_a-requires
 branch-test_a-requires t c =
     let h = c.requires in
     (ready-within h.0, (branch-parts h.0 h.1).0.2)
 
-pub branch-child_b-requires : goal.branch-child_b-requires
-branch-child_b-requires t c = ready-within c.requires.0
+pub branch-child_b-b-requires : goal.branch-child_b-b-requires
+branch-child_b-b-requires t c = ready-within c.requires.0
 
 pub branch-run-requires : goal.branch-run-requires
 branch-run-requires t c =
     let h = c.requires in
-    rw c.child_b.ensures (omega (arith, (branch-parts h.0 h.1).1.1), (ready-then h.0 h.1, h.2))
+    rw c.child_b-b.ensures (omega (arith, (branch-parts h.0 h.1).1.1), (ready-then h.0 h.1, h.2))
 
-pub branch-child_c-requires : goal.branch-child_c-requires
-branch-child_c-requires t c = ready-within c.requires.0
+pub branch-child_c-c-requires : goal.branch-child_c-c-requires
+branch-child_c-c-requires t c = ready-within c.requires.0
 
-pub branch-run-requires-in-No : goal.branch-run-requires-in-No
-branch-run-requires-in-No t c =
+pub branch-run-requires-in-Ok-false : goal.branch-run-requires-in-Ok-false
+branch-run-requires-in-Ok-false t c =
     let h = c.requires in
-    rw c.child_c.ensures (omega (arith, (branch-parts h.0 h.1).2.1), (ready-else h.0 h.1, h.2))
+    rw c.child_c-c.ensures (omega (arith, (branch-parts h.0 h.1).2.1), (ready-else h.0 h.1, h.2))
 
-pub branch-returns-in-Yes-clause-outcome : goal.branch-returns-in-Yes-clause-outcome
-branch-returns-in-Yes-clause-outcome t c =
-    let a = c.args in
-    ran-is
-    (branch_by (variables_of a.variables.now) c.requires.0 c.requires.1 (memory_of a.mem.now) (fuel_in a.progress.now)
-    (Ok true) (sym c.test_a.ensures ∙ c.in-Yes.is))
-    (rw c.child_b.ensures at c.run.ensures.outcome)
+pub branch-returns-in-Ok-true-clause-outcome : goal.branch-returns-in-Ok-true-clause-outcome
+branch-returns-in-Ok-true-clause-outcome t c =
+    let h = c.requires in
+    ends-is (branch_by _ h.0 h.1 _ _ (Ok true) (cc c.in-Ok-true.ensures))
+    (ends-into 1 _ (rw c.child_b-b.ensures at c.run.ensures.outcome))
 
-pub branch-returns-in-No-clause-outcome : goal.branch-returns-in-No-clause-outcome
-branch-returns-in-No-clause-outcome t c =
-    let a = c.args in
-    ran-is
-    (branch_by (variables_of a.variables.now) c.requires.0 c.requires.1 (memory_of a.mem.now) (fuel_in a.progress.now)
-    (Ok false) (sym c.test_a.ensures ∙ c.in-No.is))
-    (rw c.child_c.ensures at c.run-in-No.ensures.outcome)
+pub branch-returns-in-Ok-false-clause-outcome : goal.branch-returns-in-Ok-false-clause-outcome
+branch-returns-in-Ok-false-clause-outcome t c =
+    let h = c.requires in
+    ends-is (branch_by _ h.0 h.1 _ _ (Ok false) (cc c.in-Ok-false.ensures))
+    (ends-into 2 _ (rw c.child_c-c.ensures at c.run-in-Ok-false.ensures.outcome))
 
-pub branch-returns-in-Stopped-clause-outcome : goal.branch-returns-in-Stopped-clause-outcome
-branch-returns-in-Stopped-clause-outcome t c =
-    let a = c.args in
-    let k = c.in-Stopped.k in
-    let ρ = variables_of a.variables.now in
-    let l = a.mem.now in
-    let p = a.progress.now in
-    rw c.stop_at.ensures.number
-    (ran-stops (statement_at a.table.now a.n) ρ (fuel_in p) k a.n (memory_of l) p
-    (branch-stops ρ c.requires.0 c.requires.1 (memory_of l) (fuel_in p) k (sym c.test_a.ensures ∙ c.in-Stopped.is))
-    c.stop_at.ensures.progress (becomes-same refl))
+pub branch-returns-in-Err-clause-outcome : goal.branch-returns-in-Err-clause-outcome
+branch-returns-in-Err-clause-outcome t c =
+    let h = c.requires in
+    ran-does c.args.n _ c.args.progress.now (stopped c.in-Err.stop _)
+    (branch_by _ h.0 h.1 _ _ (Err c.in-Err.stop) c.in-Err.ensures)
+    (does-stop c.in-Err.stop c.args.mem.now) c.stop_at.ensures.outcome c.stop_at.ensures.progress
 
 pub enclose-run_inside-requires : goal.enclose-run_inside-requires
 enclose-run_inside-requires t c =
     let h = c.requires in
-    let w = c.make.ensures in
-    (omega arith, (ready-inside h.0 h.1, w.counts, let-block h.2.invariant w.memory (sym c.in-Name.is ∙ w.answer)))
+    let w = c.in-Ok.ensures in
+    (omega arith, (ready-inside h.0 h.1, w.counts, let-block h.2.invariant w.memory w.answer))
 
-pub enclose-returns-in-Name-clause-outcome : goal.enclose-returns-in-Name-clause-outcome
-enclose-returns-in-Name-clause-outcome t c =
-    let a = c.args in
-    let w = c.make.ensures in
-    ran-is
-    (let-made (variables_of a.variables.now) c.requires.0 c.requires.1 w.memory (fuel_in a.progress.now)
-    (sym c.in-Name.is ∙ w.answer))
-    (ran-from w.memory c.run_inside.ensures.outcome)
+pub enclose-returns-in-Ok-clause-outcome : goal.enclose-returns-in-Ok-clause-outcome
+enclose-returns-in-Ok-clause-outcome t c =
+    let h = c.requires in
+    let w = c.in-Ok.ensures in
+    ends-is (let-made _ h.0 h.1 _ _ w.memory w.answer) (ends-from w.memory c.run_inside.ensures.outcome)
 
-pub enclose-returns-in-Stopped-clause-outcome : goal.enclose-returns-in-Stopped-clause-outcome
-enclose-returns-in-Stopped-clause-outcome t c =
-    let a = c.args in
-    let w = c.make.ensures in
-    rw c.stop_at.ensures.number
-    (let-unmade (variables_of a.variables.now) c.requires.0 c.requires.1 w.memory a.progress.now c.in-Stopped.c
-    (sym c.in-Stopped.is ∙ w.answer) c.stop_at.ensures.progress)
+pub enclose-returns-in-Err-clause-outcome : goal.enclose-returns-in-Err-clause-outcome
+enclose-returns-in-Err-clause-outcome t c =
+    let h = c.requires in
+    let w = c.in-Err.ensures in
+    ran-does c.args.n _ c.args.progress.now (stopped c.in-Err.stop _) (let-unmade _ h.0 h.1 _ _ w.answer)
+    (does-unmade _ c.in-Err.stop w.memory w.answer)
+    c.stop_at.ensures.outcome c.stop_at.ensures.progress
 
 pub repeat-child_b-b-requires : goal.repeat-child_b-b-requires
 repeat-child_b-b-requires t c = ready-within c.requires.0
@@ -121,173 +90,129 @@ repeat-child_b-b-requires t c = ready-within c.requires.0
 pub repeat-test_a-requires : goal.repeat-test_a-requires
 repeat-test_a-requires t c = (ready-within c.requires.0, (while-parts c.requires.0 c.requires.1).0.2)
 
-pub repeat-run-r-requires : goal.repeat-run-r-requires
-repeat-run-r-requires t c =
+pub repeat-run-requires : goal.repeat-run-requires
+repeat-run-requires t c =
     let h = c.requires in
     rw c.child_b-b.ensures
     (omega (arith, (while-parts h.0 h.1).1.1), (ready-turn h.0 h.1, c.loop-progress.invariant.counted))
-
-pub repeat-returns-then-r-ne0-clause-outcome : goal.repeat-returns-then-r-ne0-clause-outcome
-repeat-returns-then-r-ne0-clause-outcome t c =
-    let h = c.requires in
-    let i = c.loop-progress in
-    part-ends
-    (turn c.run-r.new.progress i.progress i.invariant.remaining h.0 h.1 (omega arith) (sym c.test_a.ensures ∙ c.in-Yes.is) _
-    c.child_b-b.ensures _ c.take_fuel.ensures c.run-r.ensures.outcome)
-    c.if-r-ne0.true
 
 pub repeat-loop-progress-smaller : goal.repeat-loop-progress-smaller
 repeat-loop-progress-smaller t c =
     let h = c.requires in
     let i = c.loop-progress in
-    part-spends
-    (turn c.run-r.new.progress i.progress i.invariant.remaining h.0 h.1 (omega arith) (sym c.test_a.ensures ∙ c.in-Yes.is) _
-    c.child_b-b.ensures _ c.take_fuel.ensures c.run-r.ensures.outcome)
-    c.if-r-ne0.false (omega arith)
+    turn-spends _ h.0 h.1 i.mem i.progress.fuel (omega arith) (cc c.in-Ok-true.ensures) c.run.new.progress
+    (rw (c.child_b-b.ensures, c.take_fuel.ensures) at c.in_ok-run-in-Ok-true.ensures.outcome)
 
 pub repeat-loop-progress-preserved : goal.repeat-loop-progress-preserved
 repeat-loop-progress-preserved t c =
     let h = c.requires in
     let i = c.loop-progress in
+    let w = rw (c.child_b-b.ensures, c.take_fuel.ensures) at c.in_ok-run-in-Ok-true.ensures.outcome in
     record {
-      remaining = part-finishes
-          (turn c.run-r.new.progress i.progress i.invariant.remaining h.0 h.1 (omega arith) (sym c.test_a.ensures ∙ c.in-Yes.is) _
-          c.child_b-b.ensures _ c.take_fuel.ensures c.run-r.ensures.outcome)
-          c.if-r-ne0.false;
-      counted = c.run-r.ensures.counts;
+      leads = λ r b v.
+          i.invariant.leads r b
+          (turn-goes _ h.0 h.1 i.mem i.progress.fuel (omega arith) (cc c.in-Ok-true.ensures) c.run.new.progress w r
+          b v);
+      counted = c.run.ensures.counts;
     }
 
-pub repeat-returns-in-No-clause-outcome : goal.repeat-returns-in-No-clause-outcome
-repeat-returns-in-No-clause-outcome t c =
-    let a = c.args in
+pub repeat-returns-in_err-run-in-Ok-true-clause-outcome : goal.repeat-returns-in_err-run-in-Ok-true-clause-outcome
+repeat-returns-in_err-run-in-Ok-true-clause-outcome t c =
+    let h = c.requires in
+    let i = c.loop-progress in
+    let w = rw (c.child_b-b.ensures, c.take_fuel.ensures) at c.in_err-run-in-Ok-true.ensures.outcome in
+    ran-exits _ c.from_residual.ensures.1
+    (i.invariant.leads _ _
+    (turn-stops _ h.0 h.1 i.mem i.progress.fuel (omega arith) (cc c.in-Ok-true.ensures) c.run.new.progress w))
+
+pub repeat-returns-in-Ok-false-clause-outcome : goal.repeat-returns-in-Ok-false-clause-outcome
+repeat-returns-in-Ok-false-clause-outcome t c =
+    let h = c.requires in
     let i = c.loop-progress in
     rw c.take_fuel.ensures
-    (ran-is
-    (i.invariant.remaining.rest
-    ∙ turn_by (variables_of a.variables.now) c.requires.0 c.requires.1 (memory_of i.mem) (fuel_in i.progress)
-    (omega arith) (Ok false) (sym c.test_a.ensures ∙ c.in-No.is))
-    (ran-from i.invariant.remaining.bytes (ran-finished i.mem (after_turn i.progress))))
+    (i.invariant.leads _ _
+    (ends-is (turn_by _ h.0 h.1 _ _ (omega arith) (Ok false) (cc c.in-Ok-false.ensures)) (ends-finished i.mem _)))
 
-pub repeat-returns-in-Stopped-clause-outcome : goal.repeat-returns-in-Stopped-clause-outcome
-repeat-returns-in-Stopped-clause-outcome t c =
-    let a = c.args in
+pub repeat-returns-in-Err-clause-outcome : goal.repeat-returns-in-Err-clause-outcome
+repeat-returns-in-Err-clause-outcome t c =
+    let h = c.requires in
     let i = c.loop-progress in
-    let ρ = variables_of a.variables.now in
-    let k = c.in-Stopped.k in
-    rw c.stop_at.ensures.number
-    (ran-is i.invariant.remaining.rest
-    (ran-from i.invariant.remaining.bytes
-    (ran-stops (statement_at a.table.now a.n) ρ (fuel_in i.progress) k a.n (memory_of i.mem) (after_turn i.progress)
-    (turn-stops ρ c.requires.0 c.requires.1 (memory_of i.mem) (fuel_in i.progress) (omega arith) k
-    (sym c.test_a.ensures ∙ c.in-Stopped.is))
-    (rw c.take_fuel.ensures at c.stop_at.ensures.progress) (becomes-same refl))))
+    let k = c.in-Err.stop in
+    i.invariant.leads _ _
+    (ran-does c.args.n _ (after_turn i.progress) (stopped k _)
+    (turn_by _ h.0 h.1 _ _ (omega arith) (Err k) c.in-Err.ensures)
+    (does-stop k i.mem) c.stop_at.ensures.outcome (rw c.take_fuel.ensures at c.stop_at.ensures.progress))
 
 pub repeat-returns-clause-outcome : goal.repeat-returns-clause-outcome
 repeat-returns-clause-outcome t c =
-    let a = c.args in
+    let h = c.requires in
     let i = c.loop-progress in
-    let ρ = variables_of a.variables.now in
-    rw c.stop_at-2.ensures.number
-    (ran-is i.invariant.remaining.rest
-    (ran-from i.invariant.remaining.bytes
-    (ran-stops (statement_at a.table.now a.n) ρ (fuel_in i.progress) 32 a.n (memory_of i.mem) i.progress
-    (turn-out ρ c.requires.0 c.requires.1 (memory_of i.mem) (fuel_in i.progress) c.loop-progress-test.false)
-    c.stop_at-2.ensures.progress (becomes-same refl))))
-
-pub run-rest_of-rest-requires : goal.run-rest_of-rest-requires
-run-rest_of-rest-requires t c = ready-within c.loop-mem.invariant.ready
+    i.invariant.leads _ _
+    (ran-does c.args.n _ i.progress (stopped Stop.NoFuel _) (turn-out _ h.0 h.1 _ _ c.loop-progress-test.false)
+    (does-stop Stop.NoFuel i.mem) c.stop_at-2.ensures.outcome c.stop_at-2.ensures.progress)
 
 pub run-first_of-first-requires : goal.run-first_of-first-requires
-run-first_of-first-requires t c = ready-within c.loop-mem.invariant.ready
+run-first_of-first-requires t c = ready-within (left_ready c.loop-next.invariant.left c.in-Some.is).0
+
+pub run-rest_of-next-requires : goal.run-rest_of-next-requires
+run-rest_of-next-requires t c = ready-within (left_ready c.loop-next.invariant.left c.in-Some.is).0
 
 pub run-kind-requires : goal.run-kind-requires
-run-kind-requires t c = rw c.first_of-first.ensures (ready-within (ready-run-first c.loop-mem.invariant.ready))
+run-kind-requires t c =
+    rw c.first_of-first.ensures (ready-within (ready-first (left_ready c.loop-next.invariant.left c.in-Some.is).0))
 
--- the kind that was read is that of what runs first
-sequence : (T : List ℕ) (m x k : ℕ) → x ≡ first_of T m → k ≡ kind_of T x → k ≡ 44 → kind_of T m ≡ 44
-sequence T m x k i e z = sequence-first T m (sym (e ∙ ap (kind_of T) i) ∙ z)
-
-pub run-run-r-requires : goal.run-run-r-requires
-run-run-r-requires t c =
-    let i = c.loop-mem in
-    let h = i.invariant.ready in
-    let q = sequence c.args.table.now i.at _ _ c.first_of-first.ensures c.kind.ensures c.if-kind-eq44.true in
+pub run-run-requires : goal.run-run-requires
+run-run-requires t c =
+    let i = c.loop-next.invariant in
+    let r = left_ready i.left c.in-Some.is in
+    let T = c.args.table.now in
+    let m = c.in-Some.at in
+    let q : kind_of T (first_of T m) ≡ 44 = cc in
     rw c.first_of-first.ensures
-    (omega (arith, run-first-smaller h q, i.invariant.within), (ready-run-first h, i.invariant.counted))
+    (omega (arith, first-below r.0 (sequence-first T m q), r.1), (ready-first r.0, i.counted))
 
-pub run-returns-then-r-ne0-clause-outcome : goal.run-returns-then-r-ne0-clause-outcome
-run-returns-then-r-ne0-clause-outcome t c =
-    let i = c.loop-mem in
-    let q = sequence c.args.table.now i.at _ _ c.first_of-first.ensures c.kind.ensures c.if-kind-eq44.true in
-    part-ends (first c.run-r.new.progress i.invariant.remaining i.invariant.ready q _ c.first_of-first.ensures c.run-r.ensures.outcome)
-    c.if-r-ne0.true
-
-pub run-run_single-r-requires : goal.run-run_single-r-requires
-run-run_single-r-requires t c =
-    let i = c.loop-mem in
-    let h = i.invariant.ready in
-    let d : kind_of c.args.table.now c.first_of-first.result ≢ 44 = λ e. c.if-kind-eq44.false (c.kind.ensures ∙ e) in
-    rw c.first_of-first.ensures (
-      omega (arith, run-first-within h, i.invariant.within),
-      (ready-run-first h, rw c.first_of-first.ensures at d, i.invariant.counted),
+pub run-run_single-requires : goal.run-run_single-requires
+run-run_single-requires t c =
+    let i = c.loop-next.invariant in
+    let r = left_ready i.left c.in-Some.is in
+    let d : kind_of c.args.table.now c.first_of-first.result ≢ 44 = λ e. c.if-kind-eq44.false (c.kind.ensures ∙ e) in (
+      rw c.first_of-first.ensures (omega (arith, first-up-to r.0, r.1)),
+      (rw c.first_of-first.ensures (ready-first r.0), d, i.counted),
     )
 
-pub run-returns-then-rest-eq0-clause-outcome : goal.run-returns-then-rest-eq0-clause-outcome
-run-returns-then-rest-eq0-clause-outcome t c =
-    let i = c.loop-mem.invariant in
-    let alone = run-first-alone i.ready (sym c.rest_of-rest.ensures ∙ c.if-rest-eq0.true) in
-    ran-is i.remaining.rest
-    (ran-from i.remaining.bytes (rw (c.first_of-first.ensures ∙ alone) at c.run_single-r.ensures.outcome))
+pub run-loop-next-smaller-in-Continue-1 : goal.run-loop-next-smaller-in-Continue-1
+run-loop-next-smaller-in-Continue-1 t c =
+    rw (c.rest_of-next.ensures, c.in-Some.is) (rest-below (left_ready c.loop-next.invariant.left c.in-Some.is).0)
 
-pub run-returns-then-r-ne0-2-clause-outcome : goal.run-returns-then-r-ne0-2-clause-outcome
-run-returns-then-r-ne0-2-clause-outcome t c =
-    let i = c.loop-mem in
-    let q = sequence-rest c.args.table.now i.at (λ e. c.if-rest-eq0.false (c.rest_of-rest.ensures ∙ e)) in
-    part-ends
-    (first c.run_single-r.new.progress i.invariant.remaining i.invariant.ready q _ c.first_of-first.ensures c.run_single-r.ensures.outcome)
-    c.if-r-ne0-2.true
+pub run-loop-next-smaller : goal.run-loop-next-smaller
+run-loop-next-smaller t c =
+    rw (c.rest_of-next.ensures, c.in-Some.is) (rest-below (left_ready c.loop-next.invariant.left c.in-Some.is).0)
 
--- the measure falls, and the invariant holds of what follows
-pub run-loop-mem-smaller-else-r-ne0 : goal.run-loop-mem-smaller-else-r-ne0
-run-loop-mem-smaller-else-r-ne0 t c =
-    let i = c.loop-mem in
-    let q = sequence c.args.table.now i.at _ _ c.first_of-first.ensures c.kind.ensures c.if-kind-eq44.true in
-    omega (arith, c.rest_of-rest.ensures, run-then-smaller i.invariant.ready q)
+pub run-loop-next-preserved-in-Continue-1 : goal.run-loop-next-preserved-in-Continue-1
+run-loop-next-preserved-in-Continue-1 t c = record {
+  left = left-goes c.loop-next.invariant.left c.in-Some.is c.first_of-first.ensures c.run.new.progress
+      c.in_ok-run.ensures.outcome c.rest_of-next.ensures;
+  counted = c.run.ensures.counts;
+}
 
-pub run-loop-mem-preserved-else-r-ne0 : goal.run-loop-mem-preserved-else-r-ne0
-run-loop-mem-preserved-else-r-ne0 t c =
-    let i = c.loop-mem in
-    let h = i.invariant.ready in
-    let q = sequence c.args.table.now i.at _ _ c.first_of-first.ensures c.kind.ensures c.if-kind-eq44.true in
-    rw c.rest_of-rest.ensures
-    (record {
-      remaining = part-finishes
-          (first c.run-r.new.progress i.invariant.remaining h q _ c.first_of-first.ensures c.run-r.ensures.outcome) c.if-r-ne0.false;
-      ready = ready-run-then h q;
-      within = omega (arith, run-then-smaller h q, i.invariant.within);
-      counted = c.run-r.ensures.counts;
-    })
+pub run-loop-next-preserved : goal.run-loop-next-preserved
+run-loop-next-preserved t c = record {
+  left = left-goes c.loop-next.invariant.left c.in-Some.is c.first_of-first.ensures c.run_single.new.progress
+      c.in_ok-run_single.ensures.outcome c.rest_of-next.ensures;
+  counted = c.run_single.ensures.counts;
+}
 
-pub run-loop-mem-smaller : goal.run-loop-mem-smaller
-run-loop-mem-smaller t c =
-    let i = c.loop-mem in
-    let q = sequence-rest c.args.table.now i.at (λ e. c.if-rest-eq0.false (c.rest_of-rest.ensures ∙ e)) in
-    omega (arith, c.rest_of-rest.ensures, run-then-smaller i.invariant.ready q)
+pub run-returns-in_err-run-clause-outcome : goal.run-returns-in_err-run-clause-outcome
+run-returns-in_err-run-clause-outcome t c =
+    ran-exits _ c.from_residual.ensures.1
+    (left-stops c.loop-next.invariant.left c.in-Some.is c.first_of-first.ensures c.run.new.progress
+    c.in_err-run.ensures.outcome)
 
-pub run-loop-mem-preserved : goal.run-loop-mem-preserved
-run-loop-mem-preserved t c =
-    let i = c.loop-mem in
-    let h = i.invariant.ready in
-    let q = sequence-rest c.args.table.now i.at (λ e. c.if-rest-eq0.false (c.rest_of-rest.ensures ∙ e)) in
-    rw c.rest_of-rest.ensures
-    (record {
-      remaining = part-finishes
-          (first c.run_single-r.new.progress i.invariant.remaining h q _ c.first_of-first.ensures c.run_single-r.ensures.outcome)
-          c.if-r-ne0-2.false;
-      ready = ready-run-then h q;
-      within = omega (arith, run-then-smaller h q, i.invariant.within);
-      counted = c.run_single-r.ensures.counts;
-    })
+pub run-returns-in_err-run_single-clause-outcome : goal.run-returns-in_err-run_single-clause-outcome
+run-returns-in_err-run_single-clause-outcome t c =
+    ran-exits _ c.from_residual-in_err-run_single.ensures.1
+    (left-stops c.loop-next.invariant.left c.in-Some.is c.first_of-first.ensures c.run_single.new.progress
+    c.in_err-run_single.ensures.outcome)
 
 pub run_single-kind-requires : goal.run_single-kind-requires
 run_single-kind-requires t c = ready-within c.requires.0
@@ -305,58 +230,33 @@ run_single-assert-requires t c =
 pub run_single-returns-in-40-clause-outcome : goal.run_single-returns-in-40-clause-outcome
 run_single-returns-in-40-clause-outcome t c =
     let a = c.args in
-    ran-is
-    (ap ending (run-skip a.table.now a.n c.requires.0.is (variables_of a.variables.now) (memory_of a.mem.now)
-    (fuel_in a.progress.now) (sym c.kind.ensures ∙ c.in-40.is)))
-    (ran-finished a.mem.now a.progress.now)
-
-pub run_single-returns-in-41-clause-counts : goal.run_single-returns-in-41-clause-counts
-run_single-returns-in-41-clause-counts t c =
-    let a = c.args in
-    assign-counted (variables_of a.variables.now) a.mem.now (fuel_in a.progress.now) c.requires.0 c.assign.result
-    c.assign.new.progress (sym c.kind.ensures ∙ c.in-41.is) c.requires.2 c.assign.ensures
-
-pub run_single-returns-in_default-clause-counts : goal.run_single-returns-in_default-clause-counts
-run_single-returns-in_default-clause-counts t c =
-    let a = c.args in
-    let h = c.requires in
-    let k = c.kind.ensures in
-    let q = statement-kinds a.table.now a.n h.0.is (λ e. omega arith) (λ e. omega arith) (λ e. omega arith)
-    (λ e. omega arith) h.1 (λ e. omega arith) (λ e. omega arith) (λ e. omega arith) in
-    assert-counted (variables_of a.variables.now) a.mem.now (fuel_in a.progress.now) h.0 c.assert.result
-    c.assert.new.progress q h.2 c.assert.ensures
-
--- of a let the child ran, its variable being block k
-child : (T : List ℕ) (n k x v r : ℕ) (vs l p l₁ : List ℕ) (f : ℕ) → length vs ≡ 64 → x ≡ child_a T n → v ≡ mark_of T n
-    → mark_of T n < 64
-    → Ran (plain.run (statement_at T x) (variables_of (set vs v k)) (memory_of l) f) r p l l₁
-    → Ran (plain.run (statement_at T (child_a T n)) (extend (variables_of vs) (mark_of T n) k) (memory_of l) f) r p l l₁
-child T n k x v r vs l p l₁ f g i j h w =
-    rw (i, variables-set vs v k (omega (arith, g, j, h)), j) at w
+    ends-is (run-skip a.table.now a.n c.requires.0.is _ _ _ (cc)) (ends-finished a.mem.now a.progress.now.fuel)
 
 -- whatever the variables are with which the child ran
 pub run_inside-end-requires : goal.run_inside-end-requires
 run_inside-end-requires t c =
     let h = c.requires in
-    let w = c.run-r.ensures in
-    (w.counts, inside-block _ _ c.args.k c.run-r.result c.run-r.new.progress _ w.outcome h.1.invariant h.2)
+    let w = c.run.ensures in
+    (w.counts, inside-block _ _ _ w.outcome h.1.invariant h.2)
 
-pub run_inside-returns-then-r-eq0-clause-outcome : goal.run_inside-returns-then-r-eq0-clause-outcome
-run_inside-returns-then-r-eq0-clause-outcome t c =
-    let a = c.args in
-    let h = c.requires in
-    let g : length a.variables ≡ 64 = search rules in
-    let w = child a.table.now a.n a.k _ _ _ a.variables a.mem.now c.run-r.new.progress _ (fuel_in a.progress.now) g
-    c.child_a.ensures c.mark-v.ensures h.0.mark c.run-r.ensures.outcome in
-    inside-ends a.table.now a.n (variables_of a.variables) a.k c.run-r.result c.run-r.new.progress
-    (fuel_in a.progress.now) w c.if-r-eq0.true c.end.ensures.memory
+-- of a let the child runs, its variable being block k
+inside : (T : List ℕ) (n k : ℕ) (vs : List ℕ) (m : Memory) (f : ℕ) {x v : ℕ} → length vs ≡ 64 → x ≡ child_a T n
+    → v ≡ mark_of T n → mark_of T n < 64
+    → enclosed T n (variables_of vs) m f k
+    ≡ next (into 0 (plain.run (statement_at T x) (variables_of (set vs v k)) m f))
+    (λ m₁ f₁. finished (end_block m₁ k) f₁)
+inside T n k vs m f {x} {v} g i j h = rw (i, variables-set vs v k (omega (arith, g, j, h)), j)
 
-pub run_inside-returns-else-r-eq0-clause-outcome : goal.run_inside-returns-else-r-eq0-clause-outcome
-run_inside-returns-else-r-eq0-clause-outcome t c =
-    let a = c.args in
-    let h = c.requires in
-    let g : length a.variables ≡ 64 = search rules in
-    let w = child a.table.now a.n a.k _ _ _ a.variables a.mem.now c.run-r.new.progress _ (fuel_in a.progress.now) g
-    c.child_a.ensures c.mark-v.ensures h.0.mark c.run-r.ensures.outcome in
-    inside-stays a.table.now a.n (variables_of a.variables) a.k c.run-r.result c.run-r.new.progress
-    (fuel_in a.progress.now) w c.if-r-eq0.false
+pub run_inside-returns-clause-outcome : goal.run_inside-returns-clause-outcome
+run_inside-returns-clause-outcome t c =
+    let g : length c.args.variables ≡ 64 = search rules in
+    ends-is (inside _ _ _ _ _ _ g c.child_a-a.ensures c.mark-v.ensures c.requires.0.mark)
+    (ends-then 0 _ c.run.new.progress _ c.in_ok-run.ensures.outcome
+    (record { answer = refl; memory = c.end.ensures.memory }))
+
+pub run_inside-returns-in_err-run-clause-outcome : goal.run_inside-returns-in_err-run-clause-outcome
+run_inside-returns-in_err-run-clause-outcome t c =
+    let g : length c.args.variables ≡ 64 = search rules in
+    ran-exits _ c.from_residual.ensures.1
+    (ends-is (inside _ _ _ _ _ _ g c.child_a-a.ensures c.mark-v.ensures c.requires.0.mark)
+    (ends-stopped 0 _ c.run.new.progress _ _ c.in_err-run.ensures.outcome))

@@ -1,12 +1,13 @@
 -- The measures, by the record number. In a run's loop what remains is at the record that the loop has come to; in a
 -- while's loop, at the while itself, by the fuel that is left.
-use Rattle.std.proofs.Common.{◌+◌, ◌*◌, ◌≤◌}
+use Rattle.std.proofs.Common.{◌+◌, ◌*◌}
+use Rattle.rules.specs.Nodes.{statement_at}
+use Rattle.rules.specs.Plain as plain
 use Rattle.rules.specs.Layout.{memory_of}
 use Rattle.memory_counts.specs.Counted.{Counted}
 use Rattle.evaluation.specs.State.{variables_of}
-use Rattle.run_endings.specs.Ending.{fuel_in}
-use Rattle.plain_runs.specs.Running.{Ready}
-use Rattle.plain_runs.proofs.MemberLaws.{Remaining}
+use Rattle.plain_runs.proofs.ReadyLaws.{left_size}
+use Rattle.plain_runs.proofs.MemberLaws.{Leads, Left}
 use Rattle.plain_runs.proofs.+run.Given as goal
 
 abbrev pub decreases-branch : goal.decreases-branch
@@ -27,24 +28,23 @@ decreases-run_inside l = l.n * 4
 abbrev pub decreases-run_single : goal.decreases-run_single
 decreases-run_single l = l.n * 4 + 2
 
-abbrev pub invariant-run-loop-mem : goal.invariant-run-loop-mem
-invariant-run-loop-mem l = record {
-  remaining : Remaining l.table l.n (variables_of l.variables) l.fn.mem (fuel_in l.fn.progress) l.at l.mem
-      (fuel_in l.progress);
-  ready : Ready l.table l.at;
-  within : l.at ≤ l.n;
+abbrev pub invariant-run-loop-next : goal.invariant-run-loop-next
+invariant-run-loop-next l = record {
+  left : Left l.table l.n (variables_of l.variables) l.fn.mem l.fn.progress.fuel l.next l.mem l.progress.fuel;
   counted : Counted (memory_of l.mem) l.counts;
 }
 
-abbrev pub decreases-run-loop-mem : goal.decreases-run-loop-mem
-decreases-run-loop-mem l = l.at
+abbrev pub decreases-run-loop-next : goal.decreases-run-loop-next
+decreases-run-loop-next l = left_size l.next
 
 abbrev pub invariant-repeat-loop-progress : goal.invariant-repeat-loop-progress
 invariant-repeat-loop-progress l = record {
-  remaining : Remaining l.table l.n (variables_of l.variables) l.fn.mem (fuel_in l.fn.progress) l.n l.mem
-      (fuel_in l.progress);
+  leads : Leads
+      (plain.run (statement_at l.table l.n) (variables_of l.variables) (memory_of l.fn.mem) l.fn.progress.fuel)
+      l.fn.mem
+      (plain.run (statement_at l.table l.n) (variables_of l.variables) (memory_of l.mem) l.progress.fuel) l.mem;
   counted : Counted (memory_of l.mem) l.counts;
 }
 
 abbrev pub decreases-repeat-loop-progress : goal.decreases-repeat-loop-progress
-decreases-repeat-loop-progress l = fuel_in l.progress
+decreases-repeat-loop-progress l = l.progress.fuel

@@ -1,51 +1,34 @@
-use Rattle.std.proofs.Common.{sym, ap, ap₂, ◌∙◌}
-use Rattle.rules.specs.Flow.{after}
-use Rattle.rules.specs.Layout.{memory_of}
-use Rattle.rules.specs.Memory.{assigned}
-use Rattle.rules.specs.Records.{child_a, child_b}
 use Rattle.rules.specs.Kinds.{source}
-use Rattle.rules.specs.Nodes.{statement_at}
 use Rattle.rules.proofs.Runs.StatementArms.{assign-children}
 use Rattle.rules.proofs.Runs.SharedExpressions.{target-expression, target-place, evaluated-alike, found_alike}
 use Rattle.rules.proofs.Runs.PlainArms.{run-assign}
-use Rattle.evaluation.specs.State.{variables_of}
-use Rattle.evaluation_temporaries.specs.Bytes.{temporaries_of}
-use Rattle.run_endings.specs.Ending.{fuel_in}
+use Rattle.run_changes.proofs.CountedChanges.{counted-assigned}
 use Rattle.plain_runs.proofs.Laws.{ran-does}
 use Rattle.plain_runs.proofs.ReadyLaws.{ready-within}
 use Rattle.plain_runs.proofs.assign.Goals as goal
 
-pub find_a-f-requires : goal.find_a-f-requires
-find_a-f-requires c =
-    let T = c.args.table.now in
-    let n = c.args.n in
+pub find_a-place-requires : goal.find_a-place-requires
+find_a-place-requires c =
     let r = c.requires in
-    (ready-within r.0, target-place T (child_a T n) (assign-children source T n r.0.is r.1).0.2)
+    (ready-within r.0, target-place _ _ (assign-children source _ _ r.0.is r.1).0.2)
 
-pub evaluate_b-e-requires : goal.evaluate_b-e-requires
-evaluate_b-e-requires c =
-    let T = c.args.table.now in
-    let n = c.args.n in
+pub evaluate_b-value-requires : goal.evaluate_b-value-requires
+evaluate_b-value-requires c =
     let r = c.requires in
-    (ready-within r.0, target-expression T (child_b T n) (assign-children source T n r.0.is r.1).1.2)
+    (ready-within r.0, target-expression _ _ (assign-children source _ _ r.0.is r.1).1.2)
 
-pub returns : goal.returns
-returns c =
+pub returns-clause-outcome : goal.returns-clause-outcome
+returns-clause-outcome c =
     let r = c.requires in
-    let T = c.args.table.now in
-    let n = c.args.n in
-    let ρ = variables_of c.args.variables.now in
-    let τ = temporaries_of c.args.temporaries.now in
-    let l = c.args.mem.now in
-    let p = c.args.progress.now in
-    let f = fuel_in p in
-    let q = assign-children source T n r.0.is r.1 in
-    rw c.stop_at.ensures.number
-    (ran-does (statement_at T n) ρ n (assigned (memory_of l) c.find_a-f.result c.evaluate_b-e.result)
-    c.store_at-number.result p c.stop_at.new.progress l c.store_at-number.new.mem
-    (run-assign T n r.0.is ρ (memory_of l) f r.1
-    ∙ sym (ap (after n ρ f)
-    (ap₂ (assigned (memory_of l)) (c.find_a-f.ensures ∙ found_alike T (child_a T n) τ ρ (memory_of l) q.0.2)
-    (c.evaluate_b-e.ensures ∙ evaluated-alike T (child_b T n) τ ρ (memory_of l) q.1.2))))
-    (record { number = c.store_at-number.ensures.number; memory = c.store_at-number.ensures.memory })
-    c.stop_at.ensures.progress)
+    let q = assign-children source _ _ r.0.is r.1 in
+    ran-does c.args.n _ c.args.progress.now _ (run-assign _ _ r.0.is _ _ _ r.1)
+    (rw (
+      c.find_a-place.ensures,
+      found_alike _ _ _ _ _ q.0.2,
+      c.evaluate_b-value.ensures,
+      evaluated-alike _ _ _ _ _ q.1.2,
+    ) at c.store_at-outcome.ensures)
+    c.stop_at.ensures.outcome c.stop_at.ensures.progress
+
+pub returns-clause-counts : goal.returns-clause-counts
+returns-clause-counts c = λ k h. counted-assigned h _ _ c.store_at-outcome.ensures.memory

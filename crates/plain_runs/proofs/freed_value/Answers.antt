@@ -1,6 +1,0 @@
-use Rattle.rules.specs.Kinds.{expression}
-use Rattle.evaluation.proofs.Arms.{within}
-use Rattle.plain_runs.proofs.freed_value.Goals as goal
-
-pub kind-requires : goal.kind-requires
-kind-requires c = rw c.child_a-a.ensures (within c.args.table.now _ expression c.requires.1)
