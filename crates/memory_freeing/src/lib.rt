@@ -58,6 +58,7 @@ pub fn free(mem: &mut ExecutionMemory, counts: &mut Counts, p: Pointer) -> Resul
 }
 
 // The end of a let's block: its one cell is free, and its name is dead.
+#[tactic(auto, using(crate::proofs::Steps::ended))]
 pub fn end(mem: &mut ExecutionMemory, counts: &mut Counts, name: u16)
     requires { Counted (memory_of mem.old) counts.old × LetBlock (memory_of mem.old) name }
     ensures memory { Becomes mem.old mem.new
