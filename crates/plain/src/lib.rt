@@ -2,11 +2,10 @@
 
 #![tactic(auto)]
 
-ghost use Rattle.std.specs.Prelude.{◌≡◌, false};
+ghost use Rattle.std.specs.Prelude.{◌≡◌, false, Ok};
 ghost use Rattle.rules.specs.Checker.{check, inputs_fault, memory_fault};
 ghost use Rattle.rules.specs.Nodes.{source_program, statement_at};
 ghost use Rattle.rules.specs.Answers.{plain_ended, plain_outcome, plain_by, run_plain};
-ghost use Rattle.rules.specs.declared.{Checked.Checked};
 ghost use Rattle.rules.specs.Kinds.{source};
 ghost use Rattle.rules.specs.Flow.{ending};
 ghost use Rattle.rules.specs.Plain.{run, start_variables};
@@ -16,8 +15,8 @@ ghost use Rattle.plain_runs.specs.Running.{Ready, EndsSo};
 ghost use Rattle.plain.specs.Answering.{AnsweredBy};
 
 use rules::{
-    Answer, Checked, Counts, ExecutionMemory, MEMORY_LENGTH, TABLE_LENGTH, TEMPORARIES_LENGTH,
-    Table,
+    Answer, Counts, ExecutionMemory, MEMORY_LENGTH, Progress, Rule, TABLE_LENGTH,
+    TEMPORARIES_LENGTH, Table,
 };
 use run_endings::Ended;
 
@@ -30,14 +29,14 @@ fn run_from_start(
     fuel: u32,
 ) -> Ended
     requires { Ready table.now n × Counted (memory_of mem.old) counts.old }
-    ensures outcome { EndsSo (ending (run (statement_at table.now n) start_variables
-        (memory_of mem.old) fuel)) result mem.old mem.new }
+    ensures outcome { EndsSo (run (statement_at table.now n) start_variables
+        (memory_of mem.old) fuel) result mem.old mem.new }
     ensures counts { Counted (memory_of mem.new) counts.new }
 {
     let variables = run_variables::start_variables();
     let temporaries = [0u8; TEMPORARIES_LENGTH];
-    let mut progress = [fuel, 0];
-    let number = plain_runs::run(
+    let mut progress = Progress { fuel, statement: 0 };
+    let outcome = plain_runs::run(
         table,
         n,
         &variables,
@@ -46,15 +45,15 @@ fn run_from_start(
         counts,
         &mut progress,
     );
-    run_endings::conclude(number, progress[1], progress[0])
+    run_endings::conclude(outcome, progress.statement, progress.fuel)
 }
 
 // Runs an accepted table from a memory that holds the inputs.
 fn run_table(table: &[u8], mem: &mut ExecutionMemory, counts: &mut Counts, fuel: u32) -> Ended
-    requires { (check source table.now ≡ Checked.Accepted)
+    requires { (check source table.now ≡ Ok tt)
         × Counted (memory_of mem.old) counts.old }
-    ensures outcome { EndsSo (ending (run (source_program table.now) start_variables
-        (memory_of mem.old) fuel)) result mem.old mem.new }
+    ensures outcome { EndsSo (run (source_program table.now) start_variables
+        (memory_of mem.old) fuel) result mem.old mem.new }
     ensures counts { Counted (memory_of mem.new) counts.new }
 {
     let mut whole = [0u8; TABLE_LENGTH];
@@ -64,7 +63,7 @@ fn run_table(table: &[u8], mem: &mut ExecutionMemory, counts: &mut Counts, fuel:
 
 // Lays out the inputs and runs an accepted table; the memory that it leaves is copied out.
 fn run_inputs(table: &[u8], inputs: &[u8], fuel: u32, memory: &mut [u8]) -> Answer
-    requires { (check source table.now ≡ Checked.Accepted) × (inputs_fault inputs.now ≡ false)
+    requires { (check source table.now ≡ Ok tt) × (inputs_fault inputs.now ≡ false)
         × (memory_fault memory.old ≡ false) }
     ensures { AnsweredBy (plain_ended (ending (plain_outcome table.now inputs.now fuel))) result
         memory.new }
@@ -72,27 +71,22 @@ fn run_inputs(table: &[u8], inputs: &[u8], fuel: u32, memory: &mut [u8]) -> Answ
     let mut mem = [0u8; MEMORY_LENGTH];
     memory_start::start(&mut mem, inputs);
     let mut counts = memory_counts::start(inputs.len() / 8);
-    let r = run_table(table, &mut mem, &mut counts, fuel);
+    let ended = run_table(table, &mut mem, &mut counts, fuel);
     run_buffers::copy(memory, &mem[..]);
-    Answer {
-        number: r.number,
-        record: r.statement,
-        fuel: r.fuel,
-        free_cells: counts[0] as u32,
-    }
+    run_endings::answer_of(ended, counts.free as u32)
 }
 
 // The plain run of an accepted table.
 fn run_accepted(table: &[u8], inputs: &[u8], fuel: u32, memory: &mut [u8]) -> Answer
-    requires { check source table.now ≡ Checked.Accepted }
-    ensures { AnsweredBy (plain_by Checked.Accepted table.now inputs.now fuel
+    requires { check source table.now ≡ Ok tt }
+    ensures { AnsweredBy (plain_by (Ok tt) table.now inputs.now fuel
         memory.old) result memory.new }
 {
     if run_buffers::has_inputs_fault(inputs) {
-        return run_endings::refuse(9, 0);
+        return run_endings::refuse(Rule::Inputs, 0);
     }
     if memory.len() != MEMORY_LENGTH {
-        return run_endings::refuse(21, 0);
+        return run_endings::refuse(Rule::Memory, 0);
     }
     run_inputs(table, inputs, fuel, memory)
 }
@@ -103,7 +97,7 @@ pub fn run_plain(table: &[u8], inputs: &[u8], fuel: u32, memory: &mut [u8]) -> A
         memory.new }
 {
     match checker::check_source(table) {
-        Checked::Accepted => run_accepted(table, inputs, fuel, memory),
-        Checked::Refused(k, n) => run_endings::refuse(k, n),
+        Ok(()) => run_accepted(table, inputs, fuel, memory),
+        Err(refusal) => run_endings::refuse(refusal.rule, refusal.record),
     }
 }

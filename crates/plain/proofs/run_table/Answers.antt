@@ -1,11 +1,10 @@
-use Rattle.std.proofs.Common.{ℕ, ◌*◌, ◌≤◌, length, sym, ap, subst}
-use lib.ListN.{replicate, length-replicate}
+use Rattle.std.proofs.Common.{◌*◌, sym, ap}
+use lib.ListN.{replicate}
 use Rattle.rules.specs.Sizes.{target_limit}
 use Rattle.rules.specs.Trees.{Statement}
-use Rattle.rules.specs.Flow.{ending}
 use Rattle.rules.specs.Plain.{run, start_variables}
 use Rattle.rules.specs.Layout.{memory_of}
-use Rattle.plain_runs.proofs.Laws.{ran-is}
+use Rattle.plain_runs.proofs.Laws.{ends-is}
 use Rattle.plain.proofs.EntryLaws.{table-length, ready-start, same-program}
 use Rattle.plain.proofs.run_table.Goals as goal
 
@@ -19,7 +18,7 @@ run_from_start-requires c =
 pub returns-clause-outcome : goal.returns-clause-outcome
 returns-clause-outcome c =
     let T = c.args.table.now in
-    ran-is
-    (ap (λ (x : Statement). ending (run x start_variables (memory_of c.args.mem.now) c.args.fuel))
+    ends-is
+    (ap (λ (x : Statement). run x start_variables (memory_of c.args.mem.now) c.args.fuel)
     (sym (same-program T (replicate (target_limit * 16) 0) c.requires.0)))
     (rw c.copy.ensures at c.run_from_start.ensures.outcome)
