@@ -141,6 +141,3 @@ statement-has t n l = go (node_at source t n) l
     go (predicate_node x) h = elim h [ ]
     go (statement_node x) h = statement-some (translate x)
     go junk h = elim h [ ]
-
-pub copy-has : (t : List ℕ) (n : ℕ) → (1 ≤ sort_at t n) × (sort_at t n ≤ 2) → Some (copy_at t n)
-copy-has t n h = subst Some (sym (copy-at t n h.0 h.1).tree) some

@@ -80,7 +80,3 @@ module _ (t : List ℕ) (n s v : ℕ) (l : LevelsAt t n v) where
 
 pub within_ready : {t : List ℕ} {n : ℕ} {o : Output} {s v : ℕ} → Ready t n o s v → Within t n
 within_ready {t} {n} {s = s} {v} r = (test_at t n s v r.levels).law.within
-
-pub either-kind : {j k x y : ℕ} → j ≡ k → (j ≡ x) ⊎ (j ≡ y) → (k ≡ x) ⊎ (k ≡ y)
-either-kind e (inl p) = inl (sym e ∙ p)
-either-kind e (inr p) = inr (sym e ∙ p)

@@ -57,11 +57,6 @@ emitted-none o = record {
 }
 
 -- the lent bytes are as many as before
-pub pushed-length : {o o' : Output} {r : Record} → RoomFor o 1 → Pushed o r o' → length o'.bytes.now ≡ length o.bytes.now
-pushed-length {o} {o'} {r} room p =
-    let size = length-record r in
-    ap length p.bytes ∙ length-put o.bytes.now (record_bytes r) (16 * o.count) (omega arith)
-
 pub emitted-length : {o o' : Output} {w : RecordTree} → Room o w → Emitted o w o' → length o'.bytes.now ≡ length o.bytes.now
 emitted-length {o} {o'} {w} room e =
     let size = bytes-emit w o.count in
