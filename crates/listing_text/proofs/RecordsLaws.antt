@@ -1,50 +1,54 @@
 -- The lines of a table's records: a turn of the loop over them, and what is left to write.
-use Prim.Native.Nat.{ℕ, suc, ◌+◌, ◌-◌, ◌≤◌, ◌<◌}
+use Prim.Native.Nat.{ℕ, zero, suc, ◌+◌, ◌-◌, ◌≤◌}
 use native.Mathlib.Omega.{arith}
-use native.Mathlib.Numerals.{add-one}
 use mathlib.Core.Path.{◌≡◌, refl, sym, ap, ◌∙◌, subst}
 use mathlib.Core.List.{List, [], ◌++◌}
 use lib.ListN.{length, length-append}
 use Rattle.rules.specs.Words.{put, tabulate}
-use Rattle.rules.specs.Records.{record_count, record_at}
+use Rattle.rules.specs.Records.{Record, record_count, record_at}
 use Rattle.rules.specs.Listing.{record_line, record_lines}
 use Rattle.rules.proofs.Lists.WordLaws.{length-put, put-put}
 use Rattle.translation_emission.proofs.Puts.{put-none}
-use Rattle.listing_text.specs.Text.{Room, Written, table_lines}
+use Rattle.listing_text.specs.declared.Text.{Text}
+use Rattle.listing_text.specs.Writing.{Room, Written}
+use Rattle.listing_text.specs.Text.{table_lines}
 
 -- to put the text that is left is to put the whole
-pub record Remaining (l whole d : List ℕ) (at : ℕ) (rest : List ℕ) : Type 0 where
-  pub same : put l 0 whole ≡ put d at rest
-  pub ends : at + length rest ≡ length whole
-  pub size : length d ≡ length l
+pub record Remaining (o : Text) (whole : List ℕ) (d : Text) (rest : List ℕ) : Type 0 where
+  pub name : d.bytes.ghost_name ≡ o.bytes.ghost_name
+  pub same : put o.bytes.now o.length whole ≡ put d.bytes.now d.length rest
+  pub ends : d.length + length rest ≡ o.length + length whole
+  pub size : length d.bytes.now ≡ length o.bytes.now
 
-pub remaining-as : {l whole d xs ys : List ℕ} {at : ℕ} → xs ≡ ys → Remaining l whole d at xs → Remaining l whole d at ys
-remaining-as {l} {whole} {d} {xs} {ys} {at} e h = subst (Remaining l whole d at) e h
+pub remaining-as : {o d : Text} {whole xs ys : List ℕ} → xs ≡ ys → Remaining o whole d xs → Remaining o whole d ys
+remaining-as {o} {d} {whole} e h = subst (Remaining o whole d) e h
 
-module _ (l whole : List ℕ) (room : Room l 0 whole) where
-  pub remaining-start : Remaining l whole l 0 whole
-  remaining-start = record { same = refl; ends = omega arith; size = refl }
+module _ (o : Text) (whole : List ℕ) (room : Room o whole) where
+  pub remaining-start : Remaining o whole o whole
+  remaining-start = record { name = refl; same = refl; ends = refl; size = refl }
 
-  module _ (xs ys : List ℕ) {d : List ℕ} {at : ℕ} (h : Remaining l whole d at (xs ++ ys)) where
-    pub remaining-room : Room d at xs
+  module _ (xs ys : List ℕ) {d : Text} (h : Remaining o whole d (xs ++ ys)) where
+    pub remaining-room : Room d xs
     remaining-room = omega (arith, h.ends, h.size, length-append xs ys)
 
-    pub remaining-step : {o : List ℕ} {next : ℕ} → Written d at xs o next → Remaining l whole o next ys
-    remaining-step {o} {next} w =
+    pub remaining-step : {e : Text} → Written d xs e → Remaining o whole e ys
+    remaining-step {e} w =
         let both = length-append xs ys in
-        let one : at + length xs + length ys ≤ length d = omega (arith, h.ends, h.size) in
-        let more = put-put d xs ys at one in
+        let one : d.length + length xs + length ys ≤ length d.bytes.now = omega (arith, h.ends, h.size) in
+        let more = put-put d.bytes.now xs ys d.length one in
         record {
+          name = w.same ∙ h.name;
           same = h.same ∙ sym more
-              ∙ ap (λ (n : ℕ). put (put d at xs) n ys) (sym w.place)
-              ∙ ap (λ (x : List ℕ). put x next ys) (sym w.bytes);
+              ∙ ap (λ (n : ℕ). put (put d.bytes.now d.length xs) n ys) (sym w.place)
+              ∙ ap (λ (x : List ℕ). put x e.length ys) (sym w.bytes);
           ends = omega (arith, h.ends, w.place);
-          size = ap length w.bytes ∙ length-put d xs at (omega arith) ∙ h.size;
+          size = ap length w.bytes ∙ length-put d.bytes.now xs d.length (omega arith) ∙ h.size;
         }
 
-  pub remaining-none : {d : List ℕ} {at : ℕ} → Remaining l whole d at [] → Written l 0 whole d at
-  remaining-none {d} {at} h = record {
-    bytes = sym (h.same ∙ put-none d at);
+  pub remaining-none : {d : Text} → Remaining o whole d [] → Written o whole d
+  remaining-none {d} h = record {
+    same = h.name;
+    bytes = sym (h.same ∙ put-none d.bytes.now d.length);
     place = omega (arith, h.ends);
   }
 
@@ -65,8 +69,13 @@ lines-suc : (t : List ℕ) (n k : ℕ)
 unfolding lines_from record_lines tabulate
 lines-suc t n k = refl
 
-pub lines_next : (t : List ℕ) (n count : ℕ) → n < count
-    → lines_from t n (count - n) ≡ record_line (n + 1) (record_at t (n + 1)) ++ lines_from t (n + 1) (count - (n + 1))
-lines_next t n count h =
-    let e : count - n ≡ suc (count - (n + 1)) = omega arith in
-    rw (e, lines-suc t n (count - (n + 1)), add-one n) refl
+-- the lines from record n on, to record `count`
+pub lines_next : (t : List ℕ) (n count : ℕ) {r : Record} → 1 ≤ n → n ≤ count → r ≡ record_at t n
+    → lines_from t (n - 1) (count + 1 - n) ≡ record_line n r ++ lines_from t (n + 1 - 1) (count + 1 - (n + 1))
+lines_next t zero count h k d = absurd (omega arith)
+lines_next t (suc n) count h k d =
+    let left : count + 1 - suc n ≡ suc (count + 1 - (suc n + 1)) = omega arith in
+    let before : suc n - 1 ≡ n = omega arith in
+    let after : suc n ≡ suc n + 1 - 1 = omega arith in
+    (λ i. lines_from t (before i) (left i)) ∙ lines-suc t n (count + 1 - (suc n + 1))
+    ∙ (λ i. record_line (suc n) (sym d i) ++ lines_from t (after i) (count + 1 - (suc n + 1)))

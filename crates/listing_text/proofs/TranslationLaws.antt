@@ -31,7 +31,24 @@ use Rattle.rules.proofs.Translation.RecordBytes.{AllFit, no_record, table-record
 use Rattle.rules.proofs.Lists.Rows.{tabulate-list}
 use Rattle.listing_text.specs.Text.{records_of, table_lines, translated_lines, longest_text}
 use Rattle.listing_text.proofs.LongestText.{length-lines}
-use Rattle.std.specs.Prelude.{Ok}
+use Rattle.std.specs.Prelude.{Ok, Err}
+use Rattle.rules.specs.Types.{rule_number}
+use Rattle.rules.specs.declared.Rule.{Rule}
+use Rattle.translation.specs.Answers.{translated_answer}
+
+rule_some : (rule : Rule) → 1 ≤ rule_number rule
+rule_some Rule.Length = omega arith
+rule_some Rule.Count = omega arith
+rule_some Rule.Kind = omega arith
+rule_some Rule.Field = omega arith
+rule_some Rule.Child = omega arith
+rule_some Rule.Shape = omega arith
+rule_some Rule.Scope = omega arith
+rule_some Rule.Level = omega arith
+rule_some Rule.Inputs = omega arith
+rule_some Rule.Output = omega arith
+rule_some Rule.Memory = omega arith
+rule_some Rule.Observation = omega arith
 
 module _ (t : List ℕ) (a : check source t ≡ (Ok tt)) where
   tree-small : tree_size (statement_tree (translate (source_program t))) ≤ 3584
@@ -61,33 +78,41 @@ module _ (t : List ℕ) (a : check source t ≡ (Ok tt)) where
       refl (λ j l. table-record (translated_records t) j records-fit l)
 
   -- what the translator hands back, in an output that is long enough
-  module _ (o : List ℕ) (room : 57344 ≤ length o) (m : List ℕ) (r : Answer)
-      (e : r ≡ (translated_by (Ok tt) t o).answer) (f : m ≡ (translated_by (Ok tt) t o).out) where
+  module _ (o : List ℕ) (room : 57344 ≤ length o) where
     size : length (translation t) ≡ 16 * length (translated_records t)
     size = table-length (translated_records t)
 
     enough : ltb (length o) (length (translation t)) ≡ false
     enough = le-ltb (length o) (length (translation t)) (omega (arith, size, few-records))
 
-    pub record-count : r.«record» * 16 ≡ length (translation t)
-    record-count =
-        let k : (translated_by (Ok tt) t o).answer.«record» ≡ record_count (translation t) =
-        rw (enough, translated_by) in
-        omega (arith, ap (λ (x : Answer). x.«record») e, k, table-count (translated_records t), size)
+    pub never-refused : (rule : Rule) → translated_answer (Err rule) ≡ (translated_by (Ok tt) t o).answer → ⊥
+    never-refused rule e =
+        let none : (translated_by (Ok tt) t o).answer.number ≡ 0 = rw (enough, translated_by) in
+        let some = rule_some rule in
+        let same = ap (λ (x : Answer). x.number) e in
+        absurd (omega arith)
 
-    bytes-put : m ≡ put o 0 (translation t)
-    bytes-put = f ∙ rw (enough, translated_by)
+    module _ (m : List ℕ) (r : ℕ) (e : translated_answer (Ok r) ≡ (translated_by (Ok tt) t o).answer)
+        (f : m ≡ (translated_by (Ok tt) t o).out) where
+      pub record-count : r * 16 ≡ length (translation t)
+      record-count =
+          let k : (translated_by (Ok tt) t o).answer.«record» ≡ record_count (translation t) =
+          rw (enough, translated_by) in
+          omega (arith, ap (λ (x : Answer). x.«record») e, k, table-count (translated_records t), size)
 
-    pub inside : r.«record» * 16 ≤ length m
-    inside =
-        let small : 0 + length (translation t) ≤ length o = omega (arith, size, few-records) in
-        omega (arith, record-count, ap length bytes-put, length-put o (translation t) 0 small)
+      bytes-put : m ≡ put o 0 (translation t)
+      bytes-put = f ∙ rw (enough, translated_by)
 
-    pub bytes_back : take (r.«record» * 16) m ≡ translation t
-    bytes_back =
-        ap (λ (n : ℕ). take n m) record-count
-        ∙ ap (take (length (translation t))) bytes-put
-        ∙ take-append_seam (translation t) _
+      pub inside : r * 16 ≤ length m
+      inside =
+          let small : 0 + length (translation t) ≤ length o = omega (arith, size, few-records) in
+          omega (arith, record-count, ap length bytes-put, length-put o (translation t) 0 small)
 
-    pub lines-back : table_lines (take (r.«record» * 16) m) ≡ translated_lines t
-    lines-back = ap table_lines bytes_back ∙ ap (record_lines 1) records-back
+      pub bytes_back : take (r * 16) m ≡ translation t
+      bytes_back =
+          ap (λ (n : ℕ). take n m) record-count
+          ∙ ap (take (length (translation t))) bytes-put
+          ∙ take-append_seam (translation t) _
+
+      pub lines-back : table_lines (take (r * 16) m) ≡ translated_lines t
+      lines-back = ap table_lines bytes_back ∙ ap (record_lines 1) records-back

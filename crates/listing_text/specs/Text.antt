@@ -1,23 +1,9 @@
 -- The pieces that a listing's text is written in.
-use Rattle.std.specs.Prelude.{ℕ, zero, suc, ◌+◌, ◌*◌, ◌/◌, ◌%◌, ◌≤◌, ◌≡◌, true, false, List, [], ◌∷◌, ◌++◌, length, ltb}
+use Rattle.std.specs.Prelude.{ℕ, suc, ◌*◌, true, false, List, [], ◌∷◌, ◌++◌, length, ltb}
 use Rattle.rules.specs.Words.{put, tabulate}
 use Rattle.rules.specs.Records.{Record, record_count, record_at}
 use Rattle.rules.specs.Translation.{translated_records}
 use Rattle.rules.specs.Listing.{natural, integer, line, record_lines, listing}
-
--- a number's low digits, as many as asked
-unfoldable pub low_digits : ℕ → ℕ → List ℕ
-low_digits zero n = []
-low_digits (suc k) n = low_digits k (n / 10) ++ ((48 + n % 10) ∷ [])
-
--- there is room for a text at a place
-abbrev pub Room : List ℕ → ℕ → List ℕ → Type 0
-Room out at text = at + length text ≤ length out
-
--- the text is put at a place, and the next place is behind it
-pub record Written (before : List ℕ) (at : ℕ) (text after : List ℕ) (next : ℕ) : Type 0 where
-  pub bytes : after ≡ put before at text
-  pub place : next ≡ at + length text
 
 -- a number and the space behind it
 abbrev pub spaced : List ℕ → List ℕ

@@ -3,168 +3,119 @@
 
 #![tactic(auto)]
 
-ghost use Rattle.std.specs.Prelude.{◌≡◌, ◌+◌, ◌≤◌, [], ◌∷◌, length};
-ghost use Rattle.rules.specs.Words.{put};
-ghost use Rattle.rules.specs.Listing.{natural, integer, record_line};
+ghost use Rattle.std.specs.Prelude.{◌≡◌, ◌≤◌, Ok, length};
+ghost use Rattle.rules.specs.Listing.{natural, integer, record_line, listing};
 ghost use Rattle.rules.specs.Kinds.{source};
 ghost use Rattle.rules.specs.Checker.{check};
-ghost use Rattle.rules.specs.declared.{Checked.Checked};
-ghost use Rattle.rules.specs.Records.{record_at};
-ghost use Rattle.table.specs.Within.{Within};
-ghost use Rattle.listing_text.specs.Text.{low_digits, Room, Written, spaced, three, head_text, children_text};
-ghost use Rattle.listing_text.specs.Text.{literal_text, refusal_line, table_lines, translated_lines};
+ghost use Rattle.rules.specs.Types.{rule_number};
+ghost use Rattle.listing_text.specs.Writing.{Room, RoomFor, Written};
+ghost use Rattle.listing_text.specs.Text.{spaced, three, refusal_line, table_lines, translated_lines};
 ghost use Rattle.listing_text.specs.Text.{longest_text, listed};
 
-use rules::Checked;
+use itoa::Buffer;
+use rules::{Record, Refusal};
 
-// How many decimal digits a number has.
-fn count_digits(n: u64) -> usize
-    ensures { result ≡ length (natural n) }
-{
-    let mut rest = n;
-    let mut count: usize = 1;
-    while 10 <= rest {
-        rest = rest / 10;
-        count += 1;
+// A text at the start of lent bytes, and its length.
+#[derive(Drop)]
+struct Text<'a> {
+    bytes: &'a mut [u8],
+    length: usize,
+}
+
+impl Text<'_> {
+    fn push(&mut self, text: &[u8])
+        requires { Room self.old text.now }
+        ensures { Written self.old text.now self.new }
+    {
+        let end = self.length + text.len();
+        self.bytes[self.length..end].copy_from_slice(text);
+        self.length = end;
     }
-    count
-}
 
-// The low digits of a number, the lowest first, from the back.
-fn write_digits(out: &mut [u8], at: usize, count: usize, n: u64)
-    requires { at + count ≤ length out.old }
-    ensures { out.new ≡ put out.old at (low_digits count n) }
-{
-    let mut rest = n;
-    let mut left = count;
-    while 0 < left {
-        left -= 1;
-        out[at + left] = 48 + (rest % 10) as u8;
-        rest = rest / 10;
+    fn natural(&mut self, n: u64)
+        requires { Room self.old (natural n) }
+        ensures { Written self.old (natural n) self.new }
+    {
+        self.push(Buffer::new().format(n).as_bytes());
     }
-}
 
-fn write_natural(out: &mut [u8], at: usize, n: u64) -> usize
-    requires { Room out.old at (natural n) }
-    ensures { Written out.old at (natural n) out.new result }
-{
-    let count = count_digits(n);
-    write_digits(out, at, count, n);
-    at + count
-}
-
-fn write_byte(out: &mut [u8], at: usize, b: u8) -> usize
-    requires { Room out.old at (b ∷ []) }
-    ensures { Written out.old at (b ∷ []) out.new result }
-{
-    out[at] = b;
-    at + 1
-}
-
-fn write_integer(out: &mut [u8], at: usize, z: i64) -> usize
-    requires { Room out.old at (integer z) }
-    ensures { Written out.old at (integer z) out.new result }
-{
-    if z < 0 {
-        let next = write_byte(out, at, 45);
-        write_natural(out, next, number::magnitude(z))
-    } else {
-        write_natural(out, at, number::magnitude(z))
+    fn integer(&mut self, z: i64)
+        requires { Room self.old (integer z) }
+        ensures { Written self.old (integer z) self.new }
+    {
+        self.push(Buffer::new().format(z).as_bytes());
     }
-}
 
-// A number and the space behind it.
-fn write_spaced(out: &mut [u8], at: usize, n: u64) -> usize
-    requires { Room out.old at (spaced (natural n)) }
-    ensures { Written out.old at (spaced (natural n)) out.new result }
-{
-    let next = write_natural(out, at, n);
-    write_byte(out, next, 32)
-}
-
-// Three numbers, each with the space behind it.
-fn write_three(out: &mut [u8], at: usize, x: u64, y: u64, z: u64) -> usize
-    requires { Room out.old at (three x y z) }
-    ensures { Written out.old at (three x y z) out.new result }
-{
-    let second = write_spaced(out, at, x);
-    let third = write_spaced(out, second, y);
-    write_spaced(out, third, z)
-}
-
-// A record's number, kind and mark.
-fn write_head(table: &[u8], n: usize, out: &mut [u8], at: usize) -> usize
-    requires { Within table.now n × Room out.old at (head_text n (record_at table.now n)) }
-    ensures { Written out.old at (head_text n (record_at table.now n)) out.new result }
-{
-    let kind = table::kind(table, n) as u64;
-    let mark = table::mark(table, n) as u64;
-    write_three(out, at, n as u64, kind, mark)
-}
-
-fn write_children(table: &[u8], n: usize, out: &mut [u8], at: usize) -> usize
-    requires { Within table.now n × Room out.old at (children_text (record_at table.now n)) }
-    ensures { Written out.old at (children_text (record_at table.now n)) out.new result }
-{
-    let a = table::child_a(table, n) as u64;
-    let b = table::child_b(table, n) as u64;
-    let c = table::child_c(table, n) as u64;
-    write_three(out, at, a, b, c)
-}
-
-// A record's literal and the newline behind it.
-fn write_literal(table: &[u8], n: usize, out: &mut [u8], at: usize) -> usize
-    requires { Within table.now n × Room out.old at (literal_text (record_at table.now n)) }
-    ensures { Written out.old at (literal_text (record_at table.now n)) out.new result }
-{
-    let next = write_integer(out, at, table::literal(table, n));
-    write_byte(out, next, 10)
-}
-
-// The line of record n.
-fn write_record(table: &[u8], n: usize, out: &mut [u8], at: usize) -> usize
-    requires { Within table.now n × Room out.old at (record_line n (record_at table.now n)) }
-    ensures { Written out.old at (record_line n (record_at table.now n)) out.new result }
-{
-    let children = write_head(table, n, out, at);
-    let literal = write_children(table, n, out, children);
-    write_literal(table, n, out, literal)
-}
-
-// The refusal's number and record.
-fn write_refusal(out: &mut [u8], number: u32, record: u32) -> usize
-    requires { Room out.old 0 (refusal_line number «record») }
-    ensures { Written out.old 0 (refusal_line number «record») out.new result }
-{
-    let second = write_spaced(out, 0, number as u64);
-    let end = write_natural(out, second, record as u64);
-    write_byte(out, end, 10)
-}
-
-// The lines of all records of a table.
-fn write_records(table: &[u8], out: &mut [u8]) -> usize
-    requires { Room out.old 0 (table_lines table.now) }
-    ensures { Written out.old 0 (table_lines table.now) out.new result }
-{
-    let count = table.len() / 16;
-    let mut at: usize = 0;
-    let mut n: usize = 0;
-    while n < count {
-        n += 1;
-        at = write_record(table, n, out, at);
+    // A number and the space behind it.
+    fn spaced(&mut self, n: u64)
+        requires { Room self.old (spaced (natural n)) }
+        ensures { Written self.old (spaced (natural n)) self.new }
+    {
+        self.natural(n);
+        self.push(b" ");
     }
-    at
-}
 
-// The lines of an accepted table's translation, of which there are at most 3,584.
-fn write_translation(table: &[u8], out: &mut [u8]) -> usize
-    requires { (check source table.now ≡ Checked.Accepted) × (longest_text ≤ length out.old) }
-    ensures { Written out.old 0 (translated_lines table.now) out.new result }
-{
-    let mut target = [0u8; 57344];
-    let answer = translation::translate_accepted(table, &mut target);
-    let length = (answer.record as usize) * 16;
-    write_records(&target[..length], out)
+    // Three numbers, each with the space behind it.
+    fn three(&mut self, x: u64, y: u64, z: u64)
+        requires { Room self.old (three x y z) }
+        ensures { Written self.old (three x y z) self.new }
+    {
+        self.spaced(x);
+        self.spaced(y);
+        self.spaced(z);
+    }
+
+    // The line of record n.
+    fn line(&mut self, n: usize, record: Record)
+        requires { Room self.old (record_line n «record») }
+        ensures { Written self.old (record_line n «record») self.new }
+    {
+        self.three(n as u64, u64::from(record.kind), u64::from(record.mark));
+        self.three(record.a as u64, record.b as u64, record.c as u64);
+        self.integer(record.literal);
+        self.push(b"\n");
+    }
+
+    // The lines of all records of a table.
+    fn records(&mut self, table: &[u8])
+        requires { Room self.old (table_lines table.now) }
+        ensures { Written self.old (table_lines table.now) self.new }
+    {
+        for n in 1..=table.len() / 16 {
+            self.line(n, table::record(table, n));
+        }
+    }
+
+    // The refusal's number and record.
+    fn refusal(&mut self, refusal: Refusal)
+        requires { Room self.old (refusal_line (rule_number refusal.rule) refusal.«record») }
+        ensures { Written self.old (refusal_line (rule_number refusal.rule) refusal.«record») self.new }
+    {
+        self.spaced(u64::from(u32::from(refusal.rule)));
+        self.natural(u64::from(refusal.record));
+        self.push(b"\n");
+    }
+
+    // The lines of an accepted table's translation, of which there are at most 3,584.
+    fn translation(&mut self, table: &[u8])
+        requires { (check source table.now ≡ Ok tt) × RoomFor self.old longest_text }
+        ensures { Written self.old (translated_lines table.now) self.new }
+    {
+        let mut target = [0u8; 57344];
+        if let Ok(count) = translation::translate_accepted(table, &mut target) {
+            self.records(&target[..count as usize * 16]);
+        }
+    }
+
+    fn listing(&mut self, table: &[u8])
+        requires { RoomFor self.old longest_text }
+        ensures { Written self.old (listing table.now) self.new }
+    {
+        match checker::check_source(table) {
+            Ok(()) => self.translation(table),
+            Err(refusal) => self.refusal(refusal),
+        }
+    }
 }
 
 // The listing is put at the start of `out`, and its length returned. Where `out` has fewer than 186,368 bytes, which
@@ -176,8 +127,10 @@ pub fn write_listing(table: &[u8], out: &mut [u8]) -> usize
     if out.len() < 186368 {
         return 0;
     }
-    match checker::check_source(table) {
-        Checked::Accepted => write_translation(table, out),
-        Checked::Refused(number, record) => write_refusal(out, number, record),
-    }
+    let mut text = Text {
+        bytes: out,
+        length: 0,
+    };
+    text.listing(table);
+    text.length
 }

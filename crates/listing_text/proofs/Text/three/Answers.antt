@@ -3,11 +3,11 @@ use Rattle.std.proofs.Common.{refl}
 use Rattle.rules.specs.Listing.{natural}
 use Rattle.listing_text.specs.Text.{spaced, three}
 use Rattle.listing_text.proofs.WriteLaws.{Row, all-written}
-use Rattle.listing_text.proofs.write_three.Goals as goal
+use Rattle.listing_text.proofs.Text.three.Goals as goal
 
 pub returns : goal.returns
 returns c =
     let a = c.args in
-    let row : Row a.out.now a.at (three a.x a.y a.z) (spaced (natural a.x)) (spaced (natural a.y)) (spaced (natural a.z)) =
+    let row : Row a.self.now (three a.x a.y a.z) (spaced (natural a.x)) (spaced (natural a.y)) (spaced (natural a.z)) =
     record { parts = refl; room = c.requires } in
-    all-written row c.write_spaced-second.ensures c.write_spaced-third.ensures c.write_spaced.ensures
+    all-written row c.spaced.ensures c.spaced-2.ensures c.spaced-3.ensures
