@@ -2,39 +2,29 @@
 
 #![tactic(auto)]
 
-ghost use Rattle.std.specs.Prelude.{◌≡◌, ◌+◌, ◌%◌, ◌≤◌, ◌<◌, length};
+ghost use Rattle.std.specs.Prelude.{◌≡◌, ◌+◌, ◌≤◌, ◌<◌, length};
 ghost use Rattle.listing_input.specs.Input.{kept_length, kept_bytes, KeepsMore, ListsInput};
+
+// The bytes of 257 records, one too many.
+const TOO_MANY: usize = 257 * 16;
 
 // The bytes that come behind the first `count` are kept, as long as 257 records have room for them.
 fn copy(kept: &mut [u8], count: usize, more: &[u8])
     requires { (count < 4128) × (4128 ≤ length kept.old) }
     ensures { kept.new ≡ kept_bytes kept.old count more.now }
 {
-    let mut i: usize = 0;
-    while i < more.len() && count + i < 4112 {
-        kept[count + i] = more[i];
-        i += 1;
-    }
+    let room = TOO_MANY.saturating_sub(count).min(more.len());
+    kept[count..count + room].copy_from_slice(&more[..room]);
 }
 
-// Of a longer input only what is over a multiple of 16 counts.
-fn count_round(count: usize, more: usize) -> usize
-    ensures { result ≡ 4112 + (count + more) % 16 }
-{
-    4112 + (count % 16 + more % 16) % 16
-}
-
-// How many bytes count as kept when more come.
+// How many bytes count as kept when more come: of a longer input only what is over a multiple of 16 counts.
 fn count_on(count: usize, more: usize) -> usize
     ensures { result ≡ kept_length (count + more) }
 {
-    if 4112 <= count {
-        return count_round(count, more);
+    match count.checked_add(more) {
+        Some(length) if length < TOO_MANY => length,
+        _ => TOO_MANY + (count % 16 + more % 16) % 16,
     }
-    if 4112 - count <= more {
-        return count_round(count, more);
-    }
-    count + more
 }
 
 // More of an input is kept: its bytes as long as there are at most 257 records, then its length by 16 alone.
