@@ -10,7 +10,6 @@ use lib.IntN.{ℤ, pos, negsuc, neg_ℤ, nat_abs, ◌+ℤ◌, ◌-ℤ◌}
 use lib.Signed.{rem_z, mag_rem, lt_z}
 use mir.Syntax.{w64}
 use mir.Val.{SFits}
-use mir.Facts.{to_z-of_z}
 use mir.ValLaws.{sfits_le}
 use Rattle.std.specs.Prelude.{Ok, Err}
 use Rattle.rules.specs.declared.{Stop.Stop}
@@ -150,5 +149,3 @@ module _ (a b q : ℤ) (f : SFits w64 a) (e : Ok q ≡ divided toward_zero a b) 
 
     pub raised : signs_differ a b ≡ false → SFits w64 (q +ℤ pos 1) × (Ok (q +ℤ pos 1) ≡ divided to_nearest a b)
     raised s = away (q +ℤ pos 1) (rw toward.is (rw s refl))
-
-pub ruleset rounding = (to_z-of_z, remainder-fits, negative-test, stays, lowered, raised)

@@ -32,7 +32,6 @@ fn rounds_up(q: i64, r: i64, b: i64) -> bool
 }
 
 // Rounded to the nearest, a half to the even neighbour.
-#[tactic(auto, using(crate::proofs::Nearest::rounding))]
 pub fn divide_nearest(a: i64, b: i64) -> Result<i64, Stop>
     ensures { result ≡ divided to_nearest a b }
 {
