@@ -2,7 +2,7 @@
 use Prim.Native.Nat.{ℕ, zero, suc, ◌+◌, ◌-◌, ◌*◌, ◌<◌, ◌≤◌}
 use native.Mathlib.Nat.{zero-add}
 use native.Mathlib.Omega.{arith}
-use mathlib.Core.Path.{◌≡◌, refl, sym, ap, ◌∙◌, subst}
+use mathlib.Core.Path.{◌≡◌, refl, sym, ap, ◌∙◌}
 use mathlib.Core.Bool.{Bool, true, false, ◌&&◌, cond}
 use mathlib.Core.List.{List, ◌++◌}
 use lib.Dec.{eqb, ltb, leb}
@@ -162,7 +162,7 @@ module _ (l : List ℕ) (long : length l ≡ observation_length) (first n : ℕ)
       (sym (parts (take blocks_length l) (drop blocks_length l) front_length)
       ∙ ap observation_of (take-append-drop blocks_length l))
 
-  pub becomes-fill : ObservationBecomes l (fill l (mark_place first) n (one b)) (mark_range (observation_of l) first n b)
+  becomes-fill : ObservationBecomes l (fill l (mark_place first) n (one b)) (mark_range (observation_of l) first n b)
   becomes-fill = record {
     view = view-fill;
     exact = λ x.
@@ -170,7 +170,7 @@ module _ (l : List ℕ) (long : length l ≡ observation_length) (first n : ℕ)
         ∙ image-fill (observation_of l) first n b (record-count l) ∙ ap observation_image (sym view-fill);
   }
 
-pub becomes-byte : (l : List ℕ) (i : ℕ) (b : Bool) → length l ≡ observation_length
+becomes-byte : (l : List ℕ) (i : ℕ) (b : Bool) → length l ≡ observation_length
     → ObservationBecomes l (set l (mark_place i) (one b)) (mark_range (observation_of l) i 1 b)
 becomes-byte l i b long = rw (fill_one (one b) l (mark_place i)) at (becomes-fill l long i 1 b)
 
@@ -178,9 +178,10 @@ pub becomes-mark : (l : List ℕ) (i : ℕ) → length l ≡ observation_length
     → ObservationBecomes l (set l (mark_place i) 1) (with_mark (observation_of l) i)
 becomes-mark l i long = rw (fill_one true (observation_of l).marks i) at (becomes-byte l i true long)
 
-pub becomes-as : {l l' l'' : List ℕ} {o : Observation} → l' ≡ l'' → ObservationBecomes l l'' o → ObservationBecomes l l'
-    o
-becomes-as {l} {l'} {l''} {o} e b = subst (λ (t : List ℕ). ObservationBecomes l t o) (sym e) b
+-- marks that are filled with 0
+pub becomes-cleared : {l l' : List ℕ} (first n : ℕ) → length l ≡ observation_length
+    → l' ≡ fill l (mark_place first) n 0 → ObservationBecomes l l' (mark_range (observation_of l) first n false)
+becomes-cleared {l} first n long e = rw e (becomes-fill l long first n false)
 
 -- a mark past the end is none
 pub becomes-out : (l : List ℕ) (i : ℕ) → cell_count ≤ i → ObservationBecomes l l (with_mark (observation_of l) i)
@@ -194,6 +195,8 @@ becomes-out l i h =
       };
       exact = λ x. x;
     }
+
+pub ruleset marks_set = (becomes-mark, becomes-out)
 
 -- the record of a name
 pub becomes-written : {l l' : List ℕ} {b : Recorded} (k s first n : ℕ) → length l ≡ observation_length

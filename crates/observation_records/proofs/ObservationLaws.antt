@@ -2,7 +2,6 @@
 use Prim.Native.Nat.{ℕ, zero, suc, ◌-◌, ◌<◌, ◌≤◌}
 use native.Mathlib.Nat.{zero-add, le_trans, le_of_eq}
 use native.Mathlib.Omega.{arith}
-use native.Mathlib.Decide.{dec_le}
 use mathlib.Core.Path.{◌≡◌, refl, sym, ap, ap₂, ◌∙◌}
 use mathlib.Core.Bool.{false}
 use mathlib.Core.List.{List, ◌++◌}
@@ -24,12 +23,13 @@ unfolding observation_of
 mark-count l = length-tabulate cell_count 0 (mark_at l)
 
 -- ---- records
-pub record-in : (l : List ℕ) (k : ℕ) → k < name_count → recorded_at l k ≡ get_or (observation_of l).blocks k Recorded.Dead
+record-in : (l : List ℕ) (k : ℕ) → k < name_count
+    → recorded_at l k ≡ get_or (observation_of l).blocks k Recorded.Dead
 unfolding observation_of
 record-in l k h = sym (get_d_tabulate name_count 0 k (recorded_at l) Recorded.Dead h ∙ ap (recorded_at l) (zero-add k))
 
-pub record-of-name : (l : List ℕ) (k : ℕ) → 0 < k → k ≤ name_count → recorded_at l (k - 1) ≡ record_of (observation_of l)
-    k
+pub record-of-name : (l : List ℕ) (k : ℕ) → 0 < k → k ≤ name_count
+    → recorded_at l (k - 1) ≡ record_of (observation_of l) k
 record-of-name l zero a b = absurd (omega arith)
 record-of-name l (suc k) a b = ap (recorded_at l) (before k) ∙ record-in l k b
   where
@@ -43,23 +43,6 @@ record-past l (suc k) h =
     sym (get_or-eq_default (observation_of l).blocks Recorded.Dead p)
 
 pub ruleset records = (record-of-name, record-past)
-
--- a name whose record is not a dead one's is one of the names
-abbrev pub is_dead : Recorded → ℕ
-is_dead Recorded.Unused = 0
-is_dead (Recorded.Live first n) = 0
-is_dead Recorded.Dead = 1
-
-pub alive-named : (l : List ℕ) (k : ℕ) (b : Recorded) → record_of (observation_of l) k ≡ b → is_dead b ≡ 0
-    → (0 < k) × (k ≤ name_count)
-alive-named l zero b e d = let z : ◌≡◌ {A = ℕ} 1 0 = ap is_dead e ∙ d in absurd (omega arith)
-alive-named l (suc k) b e d = (omega arith, below (dec_le (suc k) name_count))
-  where
-    below : Dec (suc k ≤ name_count) → suc k ≤ name_count
-    below (yes h) = h
-    below (no f) =
-        let z : ◌≡◌ {A = ℕ} 1 0 = ap is_dead (record-past l (suc k) (omega arith) ∙ e) ∙ d in
-        absurd (omega arith)
 
 -- ---- marks
 pub mark-in : (l : List ℕ) (i : ℕ) → i < cell_count → mark_at l i ≡ is_marked (observation_of l) i
