@@ -1,25 +1,25 @@
 -- What the statements on temporaries answer and leave.
-use Rattle.std.specs.Prelude.{ℕ, suc, cond, List, ◌⊎◌, ◌≡◌, eqb, set}
+use Rattle.std.specs.Prelude.{ℕ, suc, cond, List, ◌⊎◌, ◌≡◌, eqb, set, Result, Ok, Err, Some}
 use Rattle.rules.specs.Nodes.{operator_of, query_of}
 use Rattle.rules.specs.Memory.{on_value}
 use Rattle.rules.specs.Evaluation.{operated, opposite}
 use Rattle.rules.specs.Observation.{Observation, live_record, query_observation}
 use Rattle.rules.specs.Watched.{Temporaries, held_in}
 use Rattle.rules.specs.Types.{Evaluated}
+use Rattle.rules.specs.declared.{Stop.Stop}
 use Rattle.evaluation_temporaries.specs.Bytes.{temporaries_of}
-use Rattle.std.specs.Prelude.{Err, Ok, Some}
 
--- the number of a stop, 0 where there is a value, and the temporaries after temporary n took it
-abbrev pub stop_number : Evaluated → ℕ
-stop_number (Ok v) = 0
-stop_number (Err c) = c
+-- what taking what was evaluated answers, and the temporaries after temporary n took it
+abbrev pub taken_result : Evaluated → Result Unit Stop
+taken_result (Ok v) = Ok tt
+taken_result (Err c) = Err c
 
 abbrev pub taken_into : Temporaries → ℕ → Evaluated → Temporaries
 taken_into τ n (Ok v) = set τ n (Some v)
 taken_into τ n (Err c) = τ
 
-pub record Takes (entry exit : List ℕ) (r n : ℕ) (e : Evaluated) : Type 0 where
-  pub number : r ≡ stop_number e
+pub record Takes (entry exit : List ℕ) (r : Result Unit Stop) (n : ℕ) (e : Evaluated) : Type 0 where
+  pub result : r ≡ taken_result e
   pub temporaries : temporaries_of exit ≡ taken_into (temporaries_of entry) n e
 
 -- what temporary n takes: 63 operator c of the two after it, 64 query c of the one after it, 65 that one's opposite
