@@ -2,8 +2,8 @@
 
 #![tactic(auto)]
 
-ghost use Rattle.std.specs.Prelude.{◌≡◌, suc, ◌+◌, ◌<◌, ◌≤◌, replicate};
-ghost use Rattle.rules.specs.Sizes.{cell_count, temporary_count, input_limit};
+ghost use Rattle.std.specs.Prelude.{◌≡◌, suc, ◌+◌, ◌<◌, ◌≤◌};
+ghost use Rattle.rules.specs.Sizes.{temporary_count, input_limit};
 ghost use Rattle.rules.specs.Kinds.{statement, target};
 ghost use Rattle.rules.specs.Records.{kind_of, mark_of};
 ghost use Rattle.rules.specs.Observation.{store_block, delete_block, initialise, record_block, mark_all, start_observation};
@@ -12,21 +12,10 @@ ghost use Rattle.rules.specs.Layout.{observation_of, observation_image};
 ghost use Rattle.rules.specs.Nodes.{HasSort};
 ghost use Rattle.rules.proofs.Memory.MarkOwners.{MarksOwned};
 ghost use Rattle.evaluation_temporaries.specs.Bytes.{temporaries_of};
-ghost use Rattle.observation.specs.Calls.{ObservationBecomes};
-ghost use Rattle.watched_noting.specs.Calls.{Observes, noting_number, IsNote, note_of};
+ghost use Rattle.observation.specs.Calls.{Answers, ObservationBecomes};
+ghost use Rattle.watched_noting.specs.Calls.{IsNote, note_of, no_owners};
 
-use observation_answers::Noting;
-use rules::{Evaluated, MarkOwners, ObservationMemory, Pointer, Table, Temporaries, Value};
-
-// The number of a call's answer.
-fn number(answer: Noting) -> u32
-    ensures { result ≡ noting_number answer }
-{
-    match answer {
-        Noting::Noted => 0,
-        Noting::Refused(c) => c,
-    }
-}
+use rules::{MarkOwners, ObservationMemory, Pointer, Stop, Table, Temporaries, Value};
 
 // 68: a block is recorded, temporary n pointing to it and the next being its length.
 fn record_block(
@@ -34,20 +23,16 @@ fn record_block(
     obs: &mut ObservationMemory,
     owners: &mut MarkOwners,
     n: usize,
-) -> u32
+) -> Result<(), Stop>
     requires { (n + 1 < temporary_count) × MarksOwned (observation_of obs.old) owners.old }
-    ensures observation { Observes obs.old obs.new result
+    ensures observation { Answers obs.old obs.new result
         (called_on_two (held_in (temporaries_of temporaries.now) n)
         (held_in (temporaries_of temporaries.now) (suc n)) (store_block (observation_of obs.old))) }
     ensures owners { MarksOwned (observation_of obs.new) owners.new }
 {
-    match evaluation_temporaries::read_temporary(temporaries, n) {
-        Evaluated::Value(v) => match evaluation_temporaries::read_temporary(temporaries, n + 1) {
-            Evaluated::Value(w) => number(observation::store_block(obs, owners, v, w)),
-            Evaluated::Stopped(c) => c,
-        },
-        Evaluated::Stopped(c) => c,
-    }
+    let block = evaluation_temporaries::read_temporary(temporaries, n)?;
+    let length = evaluation_temporaries::read_temporary(temporaries, n + 1)?;
+    observation::store_block(obs, owners, block, length)
 }
 
 // 69: the block that temporary n points to is deleted.
@@ -56,18 +41,15 @@ fn delete_block(
     obs: &mut ObservationMemory,
     owners: &mut MarkOwners,
     n: usize,
-) -> u32
+) -> Result<(), Stop>
     requires { (n < temporary_count) × MarksOwned (observation_of obs.old) owners.old }
-    ensures observation { Observes obs.old obs.new result
+    ensures observation { Answers obs.old obs.new result
         (called_on (held_in (temporaries_of temporaries.now) n)
         (delete_block (observation_of obs.old))) }
     ensures owners { MarksOwned (observation_of obs.new) owners.new }
 {
-    let block = evaluation_temporaries::read_temporary(temporaries, n);
-    match block {
-        Evaluated::Value(v) => number(observation::delete_block(obs, owners, v)),
-        Evaluated::Stopped(c) => c,
-    }
+    let block = evaluation_temporaries::read_temporary(temporaries, n)?;
+    observation::delete_block(obs, owners, block)
 }
 
 // 68 and 69: what record n says of its temporary is noted.
@@ -77,10 +59,10 @@ pub fn note_block(
     temporaries: &Temporaries,
     obs: &mut ObservationMemory,
     owners: &mut MarkOwners,
-) -> u32
+) -> Result<(), Stop>
     requires { HasSort target statement table.now n × IsNote (kind_of table.now n)
         × MarksOwned (observation_of obs.old) owners.old }
-    ensures observation { Observes obs.old obs.new result
+    ensures observation { Answers obs.old obs.new result
         (note_of (kind_of table.now n) (temporaries_of temporaries.now)
         (mark_of table.now n) (observation_of obs.old)) }
     ensures owners { MarksOwned (observation_of obs.new) owners.new }
@@ -99,18 +81,15 @@ pub fn mark_cell(
     n: usize,
     temporaries: &Temporaries,
     obs: &mut ObservationMemory,
-) -> u32
+) -> Result<(), Stop>
     requires { HasSort target statement table.now n × (kind_of table.now n ≡ 70) }
-    ensures { Observes obs.old obs.new result
+    ensures { Answers obs.old obs.new result
         (called_on (held_in (temporaries_of temporaries.now) (mark_of table.now n))
         (initialise (observation_of obs.old))) }
 {
     let first = table::mark(&table[..], n) as usize;
-    let cell = evaluation_temporaries::read_temporary(temporaries, first);
-    match cell {
-        Evaluated::Value(v) => number(observation::initialise(obs, v)),
-        Evaluated::Stopped(c) => c,
-    }
+    let cell = evaluation_temporaries::read_temporary(temporaries, first)?;
+    observation::initialise(obs, cell)
 }
 
 // Cells 0 .. count - 1 of a block are marked.
@@ -119,16 +98,9 @@ fn mark_cells(obs: &mut ObservationMemory, name: u16, count: usize)
     ensures { ObservationBecomes obs.old obs.new
         (mark_all (observation_of obs.old) name count) }
 {
-    let mut i: usize = 0;
-    while i < count {
-        observation::initialise(
-            obs,
-            Value::Pointer(Pointer {
-                name,
-                offset: i as i64,
-            }),
-        );
-        i += 1;
+    for i in 0..count {
+        let offset = i as i64;
+        let _ = observation::initialise(obs, Value::Pointer(Pointer { name, offset }));
     }
 }
 
@@ -139,18 +111,14 @@ fn record_marked(obs: &mut ObservationMemory, owners: &mut MarkOwners, name: u16
         (mark_all (record_block (observation_of obs.old) name count) name count) }
     ensures owners { MarksOwned (observation_of obs.new) owners.new }
 {
-    observation::store_block(
-        obs,
-        owners,
-        Value::Pointer(Pointer { name, offset: 0 }),
-        Value::Integer(count as i64),
-    );
+    let start = Value::Pointer(Pointer { name, offset: 0 });
+    let _ = observation::store_block(obs, owners, start, Value::Integer(count as i64));
     mark_cells(obs, name, count);
 }
 
 // The memory of a run's start: both input blocks recorded, all their cells marked. No mark has an owner before it.
 pub fn start_observation(obs: &mut ObservationMemory, owners: &mut MarkOwners, count: usize)
-    requires { (count ≤ input_limit) × (owners.old ≡ replicate (suc cell_count) 0) }
+    requires { (count ≤ input_limit) × (owners.old ≡ no_owners) }
     ensures observation { obs.new ≡ observation_image (start_observation count) }
     ensures owners { MarksOwned (observation_of obs.new) owners.new }
 {

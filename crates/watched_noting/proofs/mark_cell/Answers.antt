@@ -8,6 +8,6 @@ use Rattle.watched_noting.proofs.mark_cell.Goals as goal
 pub mark-first-requires : goal.mark-first-requires
 mark-first-requires c = statement-within target c.args.table.now c.args.n c.requires.0
 
-pub read_temporary-cell-requires : goal.read_temporary-cell-requires
-read_temporary-cell-requires c =
+pub read_temporary-requires : goal.read_temporary-requires
+read_temporary-requires c =
     omega (arith, c.mark-first.ensures, initialise-fields c.args.table.now c.args.n c.requires.0 c.requires.1)

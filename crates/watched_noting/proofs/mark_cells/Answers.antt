@@ -6,14 +6,10 @@ use Rattle.watched_noting.proofs.StartLaws.{mark-none, mark-more}
 use Rattle.watched_noting.proofs.mark_cells.Goals as goal
 
 pub loop-i-init : goal.loop-i-init
-loop-i-init c = record { in_range = omega arith; marked = mark-none c.args.obs.now _ }
+loop-i-init c = mark-none c.args.obs.now _
 
 pub loop-i-preserved : goal.loop-i-preserved
 loop-i-preserved c =
     let l = c.loop-i in
     let f : SFits w64 (pos l.i) = record { sfits = omega arith } in
-    let marked = rw (to_z-of_z f) at c.initialise.ensures.memory in
-    record {
-      in_range = omega arith;
-      marked = mark-more (observation_of c.args.obs.now) c.args.name l.i l.invariant.marked marked;
-    }
+    mark-more (observation_of c.args.obs.now) c.args.name l.i l.invariant (rw (to_z-of_z f) at c.initialise.ensures.memory)
