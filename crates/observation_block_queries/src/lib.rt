@@ -1,5 +1,5 @@
-// The observation memory's queries by the block that a pointer names: base address, offset and block length; and whether
-// a block is live.
+// The observation memory's queries by the block that a pointer names: base address, offset and block length; and
+// whether a block is live.
 
 #![tactic(auto)]
 

@@ -12,8 +12,8 @@ use Rattle.rules.specs.Sizes.{name_count, cell_count, observation_length, blocks
 use Rattle.rules.specs.Words.{little, put, word_at, flat, tabulate}
 use Rattle.rules.specs.Memory.{one, fill}
 use Rattle.rules.specs.Observation.{Observation}
-use Rattle.rules.specs.Layout.{block_record, block_place, mark_place, recorded_from, recorded_at, mark_at, observation_of}
-use Rattle.rules.specs.Layout.{observation_image, recorded_bytes, mark_bytes}
+use Rattle.rules.specs.Layout.{block_record, block_place, mark_place, recorded_from, recorded_at, mark_at}
+use Rattle.rules.specs.Layout.{observation_of, observation_image, recorded_bytes, mark_bytes}
 use Rattle.rules.specs.declared.{Recorded.Recorded}
 use Rattle.rules.proofs.Lists.WordLaws.{get_d-put-after}
 use Rattle.rules.proofs.Lists.Rows.{length-tabulate, get_d_tabulate, tabulate-same, tabulate-list, tabulate-set}
@@ -51,7 +51,8 @@ module _ (l : List ℕ) (long : length l ≡ observation_length) (k s first n : 
     blocks = tabulate-set name_count k (recorded_at l) (recorded_at (put l (block_place k) (block_record s first n)))
         (recorded_from s first n) h (record-put-same recorded_from l k s first n room f g)
         (λ j b d. record-put-other recorded_from l k s first n room j d) t;
-    marks = tabulate-same cell_count (mark_at l) (mark_at (put l (block_place k) (block_record s first n))) mark-apart t;
+    marks = tabulate-same cell_count (mark_at l) (mark_at (put l (block_place k) (block_record s first n)))
+        mark-apart t;
   }
 
   becomes-record : first < 65536 → n < 65536 → recorded_bytes (recorded_from s first n) ≡ block_record s first n
@@ -90,8 +91,8 @@ marks-fill m first n b e =
     pick true false x = refl
     pick false c x = refl
 
-    at : (j : ℕ) → j < cell_count → eqb (get_or (fill m first n (one b)) j 0) 1 ≡ get_or (fill (marks_of m) first n b) j
-        false
+    at : (j : ℕ) → j < cell_count
+        → eqb (get_or (fill m first n (one b)) j 0) 1 ≡ get_or (fill (marks_of m) first n b) j false
     at j h =
         let i : j < length m = omega arith in
         let k : j < length (marks_of m) = omega (arith, count) in
@@ -156,7 +157,8 @@ module _ (l : List ℕ) (long : length l ≡ observation_length) (first n : ℕ)
   view-fill =
       let rest : length (drop blocks_length l) ≡ cell_count = length-drop blocks_length l ∙ omega arith in
       ap observation_of split ∙ parts (take blocks_length l) (fill (drop blocks_length l) first n (one b)) front_length
-      ∙ ap (λ (x : List Bool). record { blocks = tabulate 0 name_count (recorded_at (take blocks_length l)); marks = x })
+      ∙ ap
+      (λ (x : List Bool). record { blocks = tabulate 0 name_count (recorded_at (take blocks_length l)); marks = x })
       (marks-fill (drop blocks_length l) first n b rest)
       ∙ ap (λ (o : Observation). mark_range o first n b)
       (sym (parts (take blocks_length l) (drop blocks_length l) front_length)

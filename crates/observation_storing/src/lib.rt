@@ -13,8 +13,8 @@ ghost use Rattle.observation_storing.specs.Storing.{store_new};
 
 use rules::{MarkOwners, ObservationMemory, Pointer, Recorded, Stop, Value};
 
-// A new block of n marks goes to the lowest run that holds it, if there is one. Its marks are 0 already, as all outside
-// live blocks are.
+// A new block of n marks goes to the lowest run that holds it, if there is one. Its marks are 0 already, as all that
+// lie outside live blocks are.
 #[tactic(auto, using(crate::proofs::StoreLaws::runs))]
 fn store_new(
     obs: &mut ObservationMemory,

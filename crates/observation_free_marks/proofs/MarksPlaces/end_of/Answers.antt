@@ -15,5 +15,6 @@ pub returns : goal.returns
 returns c =
     let marks = c.args.self.now in
     let h = c.requires in
-    subst (Held (unowned marks.owners.now) c.args.mark) (sym (c.end.ensures ∙ ap (end_at marks.obs.now) c.from.ensures))
+    subst (Held (unowned marks.owners.now) c.args.mark)
+    (sym (c.end.ensures ∙ ap (end_at marks.obs.now) c.from.ensures))
     (owner-end marks.obs.now marks.owners.now c.args.mark h.0 h.1 h.2)
