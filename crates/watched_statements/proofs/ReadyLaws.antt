@@ -2,7 +2,7 @@
 use Prim.Native.Nat.{ℕ, ◌≤◌, ◌<◌}
 use mathlib.Core.List.{List}
 use mathlib.Core.Logic.{inl, inr}
-use mathlib.Core.Path.{◌≡◌, sym, subst}
+use mathlib.Core.Path.{◌≡◌}
 use Rattle.rules.specs.Kinds.{target, expression, statement}
 use Rattle.rules.specs.Records.{kind_of, mark_of, child_a, child_b, child_c}
 use Rattle.rules.specs.Nodes.{target_statement_at}
@@ -11,8 +11,8 @@ use Rattle.rules.proofs.Runs.StatementArms.{statement-within, sequence-children,
 use Rattle.rules.proofs.Runs.StatementArms.{let-child, sound-sequence, sound-branch, sound-while, sound-let}
 use Rattle.rules.proofs.Runs.TargetFields.{Under, branch-on-fields, sound-branch-on}
 use Rattle.table.specs.Within.{Within}
-use Rattle.run_children.specs.Children.{first_of, rest_of}
-use Rattle.run_children.proofs.Sequences.{rest-is, first_by, first-within, first-smaller, rest-smaller, first_alone}
+use Rattle.run_children.specs.Children.{first_of}
+use Rattle.run_children.proofs.Sequences.{first_by, first-within, first-smaller}
 use Rattle.watched_choices.specs.Branches.{IsBranch}
 use Rattle.watched_statements.specs.Watching.{Ready, Inside}
 
@@ -40,27 +40,15 @@ module _ {t : List ℕ} {n : ℕ} (h : Ready t n) where
       ready-part (child_b t n) (sequence-parts e).1
       (sound-sequence target t n h.is h.scope h.sound e).1
 
-  -- what it runs first and then
+  -- what it runs first
   pub ready-run-first : Ready t (first_of t n)
   ready-run-first = first_by t n (Ready t) ready-first (λ d. h)
 
-  pub ready-run-then : kind_of t n ≡ 44 → Ready t (rest_of t n)
-  ready-run-then q = subst (Ready t) (sym (rest-is t n q)) (ready-second q)
-
-  sequence-numbers : kind_of t n ≡ 44 → (1 ≤ child_b t n) × (child_b t n < n)
-  sequence-numbers q = ((sequence-parts q).1.0, (sequence-parts q).1.1)
-
   pub run-first-within : first_of t n ≤ n
-  run-first-within = first-within t n (λ q. (sequence-parts q).0.1) sequence-numbers
+  run-first-within = first-within t n (λ q. (sequence-parts q).0.1)
 
   pub run-first-smaller : kind_of t n ≡ 44 → first_of t n < n
-  run-first-smaller = first-smaller t n (λ q. (sequence-parts q).0.1) sequence-numbers
-
-  pub run-then-smaller : kind_of t n ≡ 44 → rest_of t n < n
-  run-then-smaller = rest-smaller t n (λ q. (sequence-parts q).0.1) sequence-numbers
-
-  pub run-first-alone : rest_of t n ≡ 0 → first_of t n ≡ n
-  run-first-alone = first_alone t n (λ q. (sequence-parts q).0.1) sequence-numbers
+  run-first-smaller = first-smaller t n (λ q. (sequence-parts q).0.1)
 
   pub branch-parts : IsBranch (kind_of t n) → Under statement t n (child_b t n) × Under statement t n (child_c t n)
   branch-parts (inl e) = let u = branch-children target t n h.is e in (u.1, u.2)

@@ -3,26 +3,24 @@
 #![tactic(auto)]
 
 ghost use Rattle.std.specs.Prelude.{◌≡◌};
-ghost use Rattle.rules.specs.Kinds.{expression, statement, target, sort_number};
+ghost use Rattle.rules.specs.Kinds.{statement, target};
 ghost use Rattle.rules.specs.Records.{kind_of, mark_of, child_a, child_b};
 ghost use Rattle.rules.specs.Memory.{assigned, allocated, freed};
 ghost use Rattle.rules.specs.Evaluation.{address_of, condition};
 ghost use Rattle.rules.specs.Watched.{held_in};
 ghost use Rattle.rules.specs.Layout.{memory_of};
-ghost use Rattle.rules.specs.Nodes.{HasSort, node_at, sort_of_node};
-ghost use Rattle.table.specs.Within.{Within};
+ghost use Rattle.rules.specs.Nodes.{HasSort};
 ghost use Rattle.memory_counts.specs.Counted.{Counted};
 ghost use Rattle.evaluation.specs.State.{variables_of};
 ghost use Rattle.evaluation_temporaries.specs.Bytes.{temporaries_of};
 ghost use Rattle.run_children.specs.Children.{found_in, value_in};
-ghost use Rattle.run_endings.specs.Ending.{assert_number};
+ghost use Rattle.run_endings.specs.Ending.{asserted_true};
 ghost use Rattle.run_changes.specs.Changing.{Does};
 ghost use Rattle.watched_steps.specs.Steps.{Takes};
 ghost use Rattle.watched_statements.specs.Watching.{lent, Beside, Ready, IsAct, Runs, Acts};
 
 use rules::{
-    Counts, Evaluated, ExecutionMemory, MarkOwners, ObservationMemory, Table, Temporaries,
-    Variables,
+    Counts, ExecutionMemory, MarkOwners, ObservationMemory, Stop, Table, Temporaries, Variables,
 };
 use run_endings::Ended;
 
@@ -33,7 +31,7 @@ fn assign(
     variables: &Variables,
     temporaries: &Temporaries,
     mem: &mut ExecutionMemory,
-) -> u32
+) -> Result<(), Stop>
     requires { HasSort target statement table.now n × (kind_of table.now n ≡ 41) }
     ensures { Does (assigned (memory_of mem.old)
         (found_in table.now (child_a table.now n) variables.now
@@ -42,9 +40,9 @@ fn assign(
         temporaries.now mem.old))
         result mem.old mem.new }
 {
-    let f = run_children::find_a(table, n, variables, temporaries, &*mem);
-    let e = run_children::evaluate_b(table, n, variables, temporaries, &*mem);
-    run_changes::store_at(mem, f, e)
+    let place = run_children::find_a(table, n, variables, temporaries, &*mem);
+    let value = run_children::evaluate_b(table, n, variables, temporaries, &*mem);
+    run_changes::store_at(mem, place, value)
 }
 
 // 42: place A takes a new block of B cells.
@@ -55,7 +53,7 @@ fn allocate(
     temporaries: &Temporaries,
     mem: &mut ExecutionMemory,
     counts: &mut Counts,
-) -> u32
+) -> Result<(), Stop>
     requires { HasSort target statement table.now n × (kind_of table.now n ≡ 42)
         × Counted (memory_of mem.old) counts.old }
     ensures change { Does (allocated (memory_of mem.old)
@@ -66,31 +64,9 @@ fn allocate(
         result mem.old mem.new }
     ensures counts { Counted (memory_of mem.new) counts.new }
 {
-    let f = run_children::find_a(table, n, variables, temporaries, &*mem);
-    let e = run_children::evaluate_b(table, n, variables, temporaries, &*mem);
-    run_allocation::new_at(mem, counts, f, e)
-}
-
-// What 43 frees: the value of child A. Most often it is a read, whose place is found here and not by a call. The compiler
-// takes in a function that has one caller, so 43 and 61 have one each.
-fn freed_value(
-    table: &Table,
-    n: usize,
-    variables: &Variables,
-    temporaries: &Temporaries,
-    mem: &ExecutionMemory,
-) -> Evaluated
-    requires { Within table.now n
-        × (sort_of_node target (node_at target table.now (child_a table.now n)) ≡ sort_number expression) }
-    ensures { result ≡ value_in table.now (child_a table.now n)
-        variables.now temporaries.now mem.now }
-{
-    let a = table::child_a(&table[..], n);
-    if table::kind(&table[..], a) == 2 {
-        let f = evaluation::find_read(table, a, variables, temporaries, mem);
-        return evaluation::fetch(mem, f);
-    }
-    evaluation::evaluate_expression(table, a, variables, temporaries, mem)
+    let place = run_children::find_a(table, n, variables, temporaries, &*mem);
+    let size = run_children::evaluate_b(table, n, variables, temporaries, &*mem);
+    run_allocation::new_at(mem, counts, place, size)
 }
 
 // 43: what A points to is freed.
@@ -101,7 +77,7 @@ fn release(
     temporaries: &Temporaries,
     mem: &mut ExecutionMemory,
     counts: &mut Counts,
-) -> u32
+) -> Result<(), Stop>
     requires { HasSort target statement table.now n × (kind_of table.now n ≡ 43)
         × Counted (memory_of mem.old) counts.old }
     ensures change { Does (freed (memory_of mem.old)
@@ -110,8 +86,8 @@ fn release(
         result mem.old mem.new }
     ensures counts { Counted (memory_of mem.new) counts.new }
 {
-    let e = freed_value(table, n, variables, temporaries, &*mem);
-    run_changes::free_at(mem, counts, e)
+    let value = run_children::evaluate_a(table, n, variables, temporaries, &*mem);
+    run_changes::free_at(mem, counts, value)
 }
 
 // 60: the temporary takes the address of place A.
@@ -121,36 +97,15 @@ fn take_address(
     variables: &Variables,
     temporaries: &mut Temporaries,
     mem: &ExecutionMemory,
-) -> u32
+) -> Result<(), Stop>
     requires { HasSort target statement table.now n × (kind_of table.now n ≡ 60) }
     ensures { Takes temporaries.old temporaries.new result (mark_of table.now n)
         (address_of (found_in table.now (child_a table.now n) variables.now
         temporaries.old mem.now)) }
 {
-    let f = run_children::find_a(table, n, variables, &*temporaries, mem);
-    let e = evaluation_answers::address(f);
-    watched_steps::take_evaluated(temporaries, table::mark(&table[..], n) as usize, e)
-}
-
-// What 61 takes, in the same way.
-fn taken_value(
-    table: &Table,
-    n: usize,
-    variables: &Variables,
-    temporaries: &Temporaries,
-    mem: &ExecutionMemory,
-) -> Evaluated
-    requires { Within table.now n
-        × (sort_of_node target (node_at target table.now (child_a table.now n)) ≡ sort_number expression) }
-    ensures { result ≡ value_in table.now (child_a table.now n)
-        variables.now temporaries.now mem.now }
-{
-    let a = table::child_a(&table[..], n);
-    if table::kind(&table[..], a) == 2 {
-        let f = evaluation::find_read(table, a, variables, temporaries, mem);
-        return evaluation::fetch(mem, f);
-    }
-    evaluation::evaluate_expression(table, a, variables, temporaries, mem)
+    let place = run_children::find_a(table, n, variables, &*temporaries, mem);
+    let address = evaluation_answers::address(place);
+    watched_steps::take_evaluated(temporaries, table::mark(&table[..], n) as usize, address)
 }
 
 // 61: the temporary takes expression A.
@@ -160,27 +115,27 @@ fn take_value(
     variables: &Variables,
     temporaries: &mut Temporaries,
     mem: &ExecutionMemory,
-) -> u32
+) -> Result<(), Stop>
     requires { HasSort target statement table.now n × (kind_of table.now n ≡ 61) }
     ensures { Takes temporaries.old temporaries.new result (mark_of table.now n)
         (value_in table.now (child_a table.now n) variables.now
         temporaries.old mem.now) }
 {
-    let e = taken_value(table, n, variables, &*temporaries, mem);
-    watched_steps::take_evaluated(temporaries, table::mark(&table[..], n) as usize, e)
+    let value = run_children::evaluate_a(table, n, variables, &*temporaries, mem);
+    watched_steps::take_evaluated(temporaries, table::mark(&table[..], n) as usize, value)
 }
 
 // 67: the temporary is asserted.
-fn assert(table: &Table, n: usize, temporaries: &Temporaries) -> u32
+fn assert(table: &Table, n: usize, temporaries: &Temporaries) -> Result<(), Stop>
     requires { HasSort target statement table.now n × (kind_of table.now n ≡ 67) }
-    ensures { result ≡ assert_number (condition (held_in (temporaries_of temporaries.now)
+    ensures { result ≡ asserted_true (condition (held_in (temporaries_of temporaries.now)
         (mark_of table.now n))) }
 {
     let t = watched_steps::test_temporary(temporaries, table::mark(&table[..], n) as usize);
-    run_endings::assert_number(t)
+    run_endings::assert_true(t)
 }
 
-// A statement that runs no other: the number that it ends with, 0 where it finished.
+// A statement that runs no other.
 fn act(
     table: &Table,
     n: usize,
@@ -190,7 +145,7 @@ fn act(
     obs: &mut ObservationMemory,
     owners: &mut MarkOwners,
     counts: &mut Counts,
-) -> u32
+) -> Result<(), Stop>
     requires { Ready table.now n
         × IsAct (kind_of table.now n)
         × Beside mem.old obs.old counts.old owners.old }
@@ -200,7 +155,7 @@ fn act(
     ensures beside { Beside mem.new obs.new counts.new owners.new }
 {
     match table::kind(&table[..], n) {
-        40 => 0,
+        40 => Ok(()),
         41 => assign(table, n, variables, &*temporaries, mem),
         42 => allocate(table, n, variables, &*temporaries, mem, counts),
         43 => release(table, n, variables, &*temporaries, mem, counts),
@@ -213,7 +168,7 @@ fn act(
     }
 }
 
-// The same with its answer.
+// How it comes out.
 pub fn step(
     table: &Table,
     n: usize,
@@ -233,6 +188,6 @@ pub fn step(
         (lent mem.new obs.new temporaries.new) }
     ensures beside { Beside mem.new obs.new counts.new owners.new }
 {
-    let number = act(table, n, variables, temporaries, mem, obs, owners, counts);
-    run_endings::conclude(number, watched_choices::statement_of(table, n), fuel)
+    let outcome = act(table, n, variables, temporaries, mem, obs, owners, counts);
+    run_endings::conclude(outcome, watched_choices::statement_of(table, n), fuel)
 }

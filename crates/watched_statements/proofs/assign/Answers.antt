@@ -3,15 +3,15 @@ use Rattle.rules.specs.Kinds.{target}
 use Rattle.rules.proofs.Runs.StatementArms.{statement-within, assign-children}
 use Rattle.watched_statements.proofs.assign.Goals as goal
 
-pub find_a-f-requires : goal.find_a-f-requires
-find_a-f-requires c =
+pub find_a-place-requires : goal.find_a-place-requires
+find_a-place-requires c =
     let T = c.args.table.now in (
       statement-within target T c.args.n c.requires.0,
       (assign-children target T c.args.n c.requires.0 c.requires.1).0.2,
     )
 
-pub evaluate_b-e-requires : goal.evaluate_b-e-requires
-evaluate_b-e-requires c =
+pub evaluate_b-value-requires : goal.evaluate_b-value-requires
+evaluate_b-value-requires c =
     let T = c.args.table.now in (
       statement-within target T c.args.n c.requires.0,
       (assign-children target T c.args.n c.requires.0 c.requires.1).1.2,

@@ -3,7 +3,7 @@ use Rattle.rules.specs.Kinds.{target}
 use Rattle.rules.proofs.Runs.StatementArms.{statement-within, free-child}
 use Rattle.watched_statements.proofs.release.Goals as goal
 
-pub freed_value-e-requires : goal.freed_value-e-requires
-freed_value-e-requires c =
+pub evaluate_a-value-requires : goal.evaluate_a-value-requires
+evaluate_a-value-requires c =
     let T = c.args.table.now in
     (statement-within target T c.args.n c.requires.0, (free-child target T c.args.n c.requires.0 c.requires.1).2)

@@ -4,8 +4,8 @@ use Rattle.rules.proofs.Runs.StatementArms.{statement-within}
 use Rattle.rules.proofs.Runs.TargetFields.{address-fields}
 use Rattle.watched_statements.proofs.take_address.Goals as goal
 
-pub find_a-f-requires : goal.find_a-f-requires
-find_a-f-requires c =
+pub find_a-place-requires : goal.find_a-place-requires
+find_a-place-requires c =
     let T = c.args.table.now in
     (statement-within target T c.args.n c.requires.0, (address-fields T c.args.n c.requires.0 c.requires.1).1.2)
 

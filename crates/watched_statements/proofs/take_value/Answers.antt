@@ -4,8 +4,8 @@ use Rattle.rules.proofs.Runs.StatementArms.{statement-within}
 use Rattle.rules.proofs.Runs.TargetFields.{value-fields}
 use Rattle.watched_statements.proofs.take_value.Goals as goal
 
-pub taken_value-e-requires : goal.taken_value-e-requires
-taken_value-e-requires c =
+pub evaluate_a-value-requires : goal.evaluate_a-value-requires
+evaluate_a-value-requires c =
     let T = c.args.table.now in
     (statement-within target T c.args.n c.requires.0, (value-fields T c.args.n c.requires.0 c.requires.1).1.2)
 
