@@ -18,14 +18,14 @@ use Rattle.rules.specs.Translation.{translation}
 use Rattle.rules.specs.Answers.{answer, checked_answer, check_source, WatchedRun, run_plain, run_watched}
 use Rattle.rules.specs.Answers.{Translated, translated_as, translated_by, translate_source}
 use Rattle.rules.specs.Demand3.{Agreement}
-use Rattle.rules.specs.declared.{Answer.Answer}
+use Rattle.rules.specs.declared.{Answer.Answer, Rule.Rule}
 use Rattle.rules.specs.Types.{Checked}
 use Rattle.rules.proofs.Acceptance.AcceptedPrograms.{accepted-program}
 use Rattle.rules.proofs.Claim.Claim.{demand-3}
 use Rattle.recorder.specs.declared.Both.{Both}
 use Rattle.recorder.specs.BothRuns.{Lent, lent, both, BothRuns, both_refused, both_ran, both_as, both_by, run_both}
 use Rattle.recorder.specs.BothRuns.{Ready, plain_shown, watched_shown, AnsweredBoth}
-use Rattle.std.specs.Prelude.{Ok}
+use Rattle.std.specs.Prelude.{Ok, Err}
 
 -- a buffer of the right length is not refused, and one of another is
 pub right-length : (l : List ℕ) (n : ℕ) → length l ≡ n → not (eqb (length l) n) ≡ false
@@ -41,11 +41,11 @@ Agreed t i f y = Agreement t i f (plain_shown y.plain y.buffers) (watched_shown 
 -- an accepted table, by whether each test is to be refused
 abbrev both_tested : Bool → Bool → Bool → Bool → List ℕ → List ℕ → ℕ → Lent → BothRuns
 both_tested p q r s t i f x =
-    both_as (refuse_if 9 p otherwise refuse_if 21 q otherwise refuse_if 22 r otherwise refuse_if 20 s) t i f x
+    both_as (refuse_if Rule.Inputs p otherwise refuse_if Rule.Memory q otherwise refuse_if Rule.Observation r otherwise refuse_if Rule.Output s) t i f x
 
 module _ (t i : List ℕ) (f : ℕ) (x : Lent) where
   -- what an accepted table comes to, by the tests of the inputs and the buffers
-  pub accepted-runs : (p q r s : Bool) → check source t ≡ (Ok tt) → inputs_fault i ≡ p
+  pub accepted-runs : (p q r s : Bool) → check source t ≡ Ok tt → inputs_fault i ≡ p
       → (memory_fault x.memory || memory_fault x.second) ≡ q → observation_fault x.observation ≡ r
       → ltb (length x.out) (length (translation t)) ≡ s → run_both t i f x ≡ both_tested p q r s t i f x
   accepted-runs p q r s c a b d e =
@@ -90,8 +90,8 @@ module _ (t i : List ℕ) (f : ℕ) (x : Lent) where
   checked_refused a r e d g = refused-both a.number a.«record» r (go (check source t) e) g
     where
       go : (c : Checked) → a ≡ checked_answer c → both_by c t i f x ≡ both_refused a.number a.«record» x
-      go (Ok tt) e₁ = absurd (d (ap (λ (z : Answer). z.number) e₁))
-      go (Checked.Refused k n) e₁ = λ j. both_refused (sym e₁ j).number (sym e₁ j).«record» x
+      go (Ok u) e₁ = absurd (d (ap (λ (z : Answer). z.number) e₁))
+      go (Err r₁) e₁ = λ j. both_refused (sym e₁ j).number (sym e₁ j).«record» x
 
 -- ---- the translation, which answered a and left y
 module _ (t i : List ℕ) (f : ℕ) (x : Lent) (h : Ready t i x) (a : Answer) (y : List ℕ)
@@ -101,7 +101,7 @@ module _ (t i : List ℕ) (f : ℕ) (x : Lent) (h : Ready t i x) (a : Answer) (y
 
   -- with its test apart
   abbrev into : Bool → Translated
-  into b = translated_as (refuse_if 20 b) (translation t) x.out
+  into b = translated_as (refuse_if Rule.Output b) (translation t) x.out
 
   translated : (b : Bool) → too_short ≡ b → translate_source t x.out ≡ into b
   translated b s = ap (λ (k : Checked). translated_by k t x.out) h.accepted ∙ (λ j. into (s j))

@@ -8,10 +8,10 @@ use Rattle.rules.specs.Checker.{observation_fault}
 use Rattle.rules.specs.Translation.{translation}
 use Rattle.rules.specs.Answers.{answer, PlainRun, WatchedRun, run_plain, run_watched}
 use Rattle.rules.specs.Demand3.{Agreement}
-use Rattle.rules.specs.declared.{Answer.Answer}
-use Rattle.rules.specs.Types.{Checked}
+use Rattle.rules.specs.declared.{Answer.Answer, Rule.Rule}
+use Rattle.rules.specs.Types.{Checked, rule_number}
 use Rattle.recorder.specs.declared.Both.{Both}
-use Rattle.std.specs.Prelude.{Ok}
+use Rattle.std.specs.Prelude.{Ok, Err}
 
 abbrev pub both : Answer → Answer → Both
 both p w = record { plain = p; watched = w }
@@ -49,16 +49,16 @@ both_ran t i f x =
     }
 
 abbrev pub both_as : Checked → List ℕ → List ℕ → ℕ → Lent → BothRuns
-both_as (Checked.Refused k n) t i f x = both_refused k n x
-both_as (Ok tt) t i f x = both_ran t i f x
+both_as (Err r) t i f x = both_refused (rule_number r.rule) r.«record» x
+both_as (Ok u) t i f x = both_ran t i f x
 
 -- 9, 21 for either memory, 22 and 20, in this order, where the checker refuses nothing
 abbrev pub both_by : Checked → List ℕ → List ℕ → ℕ → Lent → BothRuns
 both_by c t i f x =
     both_as
-    (c otherwise refuse_if 9 (inputs_fault i) otherwise refuse_if 21 (memory_fault x.memory || memory_fault x.second)
-    otherwise refuse_if 22 (observation_fault x.observation)
-    otherwise refuse_if 20 (output_fault (translation t) x.out))
+    (c otherwise refuse_if Rule.Inputs (inputs_fault i) otherwise refuse_if Rule.Memory (memory_fault x.memory || memory_fault x.second)
+    otherwise refuse_if Rule.Observation (observation_fault x.observation)
+    otherwise refuse_if Rule.Output (output_fault (translation t) x.out))
     t i f x
 
 abbrev pub run_both : List ℕ → List ℕ → ℕ → Lent → BothRuns
@@ -66,7 +66,7 @@ run_both t i f x = both_by (check source t) t i f x
 
 -- both runs may start: an accepted table, inputs without fault, and memories of the right lengths
 pub record Ready (t i : List ℕ) (x : Lent) : Type 0 where
-  pub accepted : check source t ≡ (Ok tt)
+  pub accepted : check source t ≡ Ok tt
   pub inputs : inputs_fault i ≡ false
   pub memory : length x.memory ≡ memory_length
   pub second : length x.second ≡ memory_length

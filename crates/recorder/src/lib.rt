@@ -2,17 +2,16 @@
 
 #![tactic(auto)]
 
-ghost use Rattle.std.specs.Prelude.{◌≡◌};
+ghost use Rattle.std.specs.Prelude.{◌≡◌, Ok};
 ghost use Rattle.rules.specs.Answers.{answer, checked_answer, check_source, check_target};
 ghost use Rattle.rules.specs.Answers.{translate_source, run_plain, run_watched};
 ghost use Rattle.rules.specs.Kinds.{source};
 ghost use Rattle.rules.specs.Checker.{check};
-ghost use Rattle.rules.specs.declared.{Checked.Checked};
 ghost use Rattle.rules.specs.Sizes.{memory_length, observation_length};
 ghost use Rattle.recorder.specs.BothRuns.{lent, both, Ready, AnsweredBoth};
 ghost use Rattle.recorder.specs.Version.{rules_version, lengths, lengths_of};
 
-use rules::{Answer, Checked, MEMORY_LENGTH, OBSERVATION_LENGTH};
+use rules::{Answer, Checked, MEMORY_LENGTH, OBSERVATION_LENGTH, Rule};
 
 // The version of the rules; the lengths of the memories that it means are those that the runs ask for.
 #[unsafe(no_mangle)]
@@ -23,18 +22,25 @@ pub extern "C" fn recorder_version() -> u32
     2
 }
 
+// What is not refused is answered 0, with a record count where it has one.
+fn accept(record: u32) -> Answer
+    ensures { result ≡ answer 0 «record» 0 0 }
+{
+    Answer {
+        number: 0,
+        record,
+        fuel: 0,
+        free_cells: 0,
+    }
+}
+
 // A checker's word as an answer: 0 and record 0, or the refusal's number and record.
 fn answer_of(c: Checked) -> Answer
     ensures { result ≡ checked_answer c }
 {
     match c {
-        Checked::Accepted => Answer {
-            number: 0,
-            record: 0,
-            fuel: 0,
-            free_cells: 0,
-        },
-        Checked::Refused(number, record) => run_endings::refuse(number, record),
+        Ok(()) => accept(0),
+        Err(refusal) => run_endings::refuse(refusal.rule, refusal.record),
     }
 }
 
@@ -57,9 +63,12 @@ pub extern "C" fn recorder_translate(table: &[u8], out: &mut [u8]) -> Answer
     ensures answer { result ≡ (translate_source table.now out.old).answer }
     ensures output { out.new ≡ (translate_source table.now out.old).out }
 {
-    match checker::check_source(table) {
-        Checked::Accepted => translation::translate_accepted(table, out),
-        Checked::Refused(rule, record) => run_endings::refuse(rule, record),
+    if let Err(refusal) = checker::check_source(table) {
+        return run_endings::refuse(refusal.rule, refusal.record);
+    }
+    match translation::translate_accepted(table, out) {
+        Ok(count) => accept(count),
+        Err(rule) => run_endings::refuse(rule, 0),
     }
 }
 
@@ -106,9 +115,15 @@ pub struct Both {
 fn refuse_both(number: u32, record: u32) -> Both
     ensures { result ≡ both (answer number «record» 0 0) (answer number «record» 0 0) }
 {
+    let refused = Answer {
+        number,
+        record,
+        fuel: 0,
+        free_cells: 0,
+    };
     Both {
-        plain: run_endings::refuse(number, record),
-        watched: run_endings::refuse(number, record),
+        plain: refused,
+        watched: refused,
     }
 }
 
@@ -156,7 +171,7 @@ fn run_translated(
 {
     let translated = recorder_translate(table, out);
     if translated.number != 0 {
-        return refuse_both(20, 0);
+        return refuse_both(Rule::Output.into(), 0);
     }
     run_pair(
         table,
@@ -179,23 +194,20 @@ fn run_accepted(
     second: &mut [u8],
     observation: &mut [u8],
 ) -> Both
-    requires { check source table.now ≡ Checked.Accepted }
+    requires { check source table.now ≡ Ok tt }
     ensures { AnsweredBoth table.now inputs.now fuel
         (lent out.old memory.old second.old observation.old)
         result.plain result.watched
         (lent out.new memory.new second.new observation.new) }
 {
     if run_buffers::has_inputs_fault(inputs) {
-        return refuse_both(9, 0);
+        return refuse_both(Rule::Inputs.into(), 0);
     }
-    if memory.len() != MEMORY_LENGTH {
-        return refuse_both(21, 0);
-    }
-    if second.len() != MEMORY_LENGTH {
-        return refuse_both(21, 0);
+    if memory.len() != MEMORY_LENGTH || second.len() != MEMORY_LENGTH {
+        return refuse_both(Rule::Memory.into(), 0);
     }
     if observation.len() != OBSERVATION_LENGTH {
-        return refuse_both(22, 0);
+        return refuse_both(Rule::Observation.into(), 0);
     }
     run_translated(table, inputs, fuel, out, memory, second, observation)
 }
