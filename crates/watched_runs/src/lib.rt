@@ -10,11 +10,11 @@ ghost use Rattle.evaluation.specs.State.{variables_of};
 ghost use Rattle.watched_choices.specs.Branches.{IsBranch};
 ghost use Rattle.watched_statements.specs.Watching.{lent, Beside, Ready, Inside, enclosed, Ran, Runs};
 
-use memory_blocks::Making;
 use rules::{
-    Counts, ExecutionMemory, MarkOwners, ObservationMemory, Table, Temporaries, Test, Variables,
+    Counts, ExecutionMemory, MarkOwners, ObservationMemory, Stop, Table, Temporaries, Use,
+    Variables,
 };
-use run_endings::Ended;
+use run_endings::{Ended, Stopped};
 
 // Runs statement n. Of a sequence A runs, and B where A finished; as B may be one again, they are a loop. Only an A that
 // is a sequence is run by a call of its own.
@@ -37,13 +37,13 @@ pub fn run(
         (lent mem.new obs.new temporaries.new) }
     ensures beside { Beside mem.new obs.new counts.new owners.new }
 {
-    let mut at = n;
+    let mut next = Some(n);
     let mut left = fuel;
-    loop {
-        let rest = run_children::rest_of(table, at);
+    while let Some(at) = next {
         let first = run_children::first_of(table, at);
-        if table::kind(&table[..], first) == 44 {
-            let r = run(
+        next = run_children::rest_of(table, at);
+        left = if table::kind(&table[..], first) == 44 {
+            run(
                 table,
                 first,
                 variables,
@@ -53,13 +53,9 @@ pub fn run(
                 owners,
                 counts,
                 left,
-            );
-            if r.number != 0 {
-                return r;
-            }
-            left = r.fuel;
+            )?
         } else {
-            let r = run_single(
+            run_single(
                 table,
                 first,
                 variables,
@@ -69,17 +65,10 @@ pub fn run(
                 owners,
                 counts,
                 left,
-            );
-            if rest == 0 {
-                return r;
-            }
-            if r.number != 0 {
-                return r;
-            }
-            left = r.fuel;
-        }
-        at = rest;
+            )?
+        };
     }
+    Ok(left)
 }
 
 // Runs statement n, which is no sequence.
@@ -175,7 +164,7 @@ fn branch(
     let then = table::child_b(&table[..], n);
     let other = table::child_c(&table[..], n);
     match watched_choices::test(table, n, variables, &*temporaries, &*mem) {
-        Test::Yes => run(
+        Ok(true) => run(
             table,
             then,
             variables,
@@ -186,7 +175,7 @@ fn branch(
             counts,
             fuel,
         ),
-        Test::No => run(
+        Ok(false) => run(
             table,
             other,
             variables,
@@ -197,11 +186,11 @@ fn branch(
             counts,
             fuel,
         ),
-        Test::Stopped(k) => Ended {
-            number: k,
+        Err(stop) => Err(Stopped {
+            stop,
             statement: watched_choices::statement_of(table, n),
             fuel,
-        },
+        }),
     }
 }
 
@@ -226,15 +215,15 @@ fn repeat(
         (lent mem.new obs.new temporaries.new) }
     ensures beside { Beside mem.new obs.new counts.new owners.new }
 {
-    let b = table::child_b(&table[..], n);
+    let body = table::child_b(&table[..], n);
     let mut left = fuel;
     while left > 0 {
         left -= 1;
         match run_children::test_a(table, n, variables, &*temporaries, &*mem) {
-            Test::Yes => {
-                let r = run(
+            Ok(true) => {
+                left = run(
                     table,
-                    b,
+                    body,
                     variables,
                     temporaries,
                     mem,
@@ -242,33 +231,23 @@ fn repeat(
                     owners,
                     counts,
                     left,
-                );
-                if r.number != 0 {
-                    return r;
-                }
-                left = r.fuel;
+                )?;
             }
-            Test::No => {
-                return Ended {
-                    number: 0,
-                    statement: 0,
-                    fuel: left,
-                };
-            }
-            Test::Stopped(k) => {
-                return Ended {
-                    number: k,
+            Ok(false) => return Ok(left),
+            Err(stop) => {
+                return Err(Stopped {
+                    stop,
                     statement: watched_choices::statement_of(table, n),
                     fuel: left,
-                };
+                });
             }
         }
     }
-    Ended {
-        number: 32,
+    Err(Stopped {
+        stop: Stop::NoFuel,
         statement: watched_choices::statement_of(table, n),
         fuel: 0,
-    }
+    })
 }
 
 // A, with a new block of one cell for the variable.
@@ -292,8 +271,8 @@ fn enclose(
         (lent mem.new obs.new temporaries.new) }
     ensures beside { Beside mem.new obs.new counts.new owners.new }
 {
-    match memory_blocks::make(mem, counts, false, 1) {
-        Making::Name(k) => run_inside(
+    match memory_blocks::make(mem, counts, Use::Fixed, 1) {
+        Ok(name) => run_inside(
             table,
             n,
             *variables,
@@ -303,17 +282,17 @@ fn enclose(
             owners,
             counts,
             fuel,
-            k,
+            name,
         ),
-        Making::Stopped(c) => Ended {
-            number: c,
+        Err(stop) => Err(Stopped {
+            stop,
             statement: watched_choices::statement_of(table, n),
             fuel,
-        },
+        }),
     }
 }
 
-// Child A of statement n, its variable being block k, which then ends where A finished.
+// Child A of statement n, its variable being the block of this name, which ends where A finished.
 #[cycle(run)]
 fn run_inside(
     table: &Table,
@@ -325,22 +304,22 @@ fn run_inside(
     owners: &mut MarkOwners,
     counts: &mut Counts,
     fuel: u32,
-    k: u16,
+    name: u16,
 ) -> Ended
     requires { Inside table.now n
         × Beside mem.old obs.old counts.old owners.old
-        × LetBlock (memory_of mem.old) k }
+        × LetBlock (memory_of mem.old) name }
     ensures outcome { Ran (enclosed table.now n (variables_of variables)
-        (lent mem.old obs.old temporaries.old) fuel k) result
+        (lent mem.old obs.old temporaries.old) fuel name) result
         (lent mem.old obs.old temporaries.old)
         (lent mem.new obs.new temporaries.new) }
     ensures beside { Beside mem.new obs.new counts.new owners.new }
 {
-    let v = table::mark(&table[..], n) as usize;
+    let variable = table::mark(&table[..], n) as usize;
     let mut inner = variables;
-    inner[v] = k;
+    inner[variable] = name;
     let body = table::child_a(&table[..], n);
-    let r = run(
+    let left = run(
         table,
         body,
         &inner,
@@ -350,9 +329,7 @@ fn run_inside(
         owners,
         counts,
         fuel,
-    );
-    if r.number == 0 {
-        memory_freeing::end(mem, counts, k);
-    }
-    r
+    )?;
+    memory_freeing::end(mem, counts, name);
+    Ok(left)
 }

@@ -8,6 +8,7 @@ use Rattle.rules.specs.Evaluation.{Variables}
 use Rattle.rules.specs.TargetTrees.{TargetStatement}
 use Rattle.rules.specs.Flow.{Outcome, finished, ended, ending, into, next}
 use Rattle.rules.specs.Watched.{WatchedState, watching, with_memory}
+use Rattle.rules.specs.Layout.{memory_of}
 use Rattle.rules.specs.declared.{Stop.Stop}
 use Rattle.rules.proofs.Runs.Fuel.{watch-fuel}
 use Rattle.memory_cells.specs.Changes.{Becomes}
@@ -17,24 +18,7 @@ use Rattle.run_endings.specs.Ending.{Ended, stopped_at}
 use Rattle.run_changes.proofs.ChangeLaws.{becomes-same, becomes-then}
 use Rattle.watched_statements.specs.Watching.{Lent, lent, state_of, watch_from, Ran}
 
--- what changes nothing, and what changes the memory alone
-pub ran-finished : (x : Lent) (f : ℕ) → Ran (finished (state_of x) f) (Ok f) x x
-ran-finished x f = record {
-  answer = refl;
-  memory = becomes-same refl;
-  observation = observation.becomes-same x.observation;
-  temporaries = refl;
-}
-
-pub ran-ended : (x : Lent) (c : Stop) (s : ℕ) (ρ : Variables) (f : ℕ)
-    → Ran (ended c s ρ [] (state_of x) f) (Err (stopped_at c s f)) x x
-ran-ended x c s ρ f = record {
-  answer = refl;
-  memory = becomes-same refl;
-  observation = observation.becomes-same x.observation;
-  temporaries = refl;
-}
-
+-- what finishes and what stops, where of the bytes those of the memory alone change, and where none does
 pub ran-memory : (x : Lent) (f : ℕ) {l : List ℕ} {m : Memory} → Becomes x.memory l m
     → Ran (finished (with_memory (state_of x) m) f) (Ok f) x (lent l x.observation x.temporaries)
 ran-memory x f w = record {
@@ -43,6 +27,23 @@ ran-memory x f w = record {
   observation = observation.becomes-same x.observation;
   temporaries = refl;
 }
+
+pub ran-stopped : (x : Lent) (c : Stop) (s : ℕ) (ρ : Variables) (f : ℕ) {l : List ℕ}
+    → Becomes x.memory l (memory_of x.memory)
+    → Ran (ended c s ρ [] (state_of x) f) (Err (stopped_at c s f)) x (lent l x.observation x.temporaries)
+ran-stopped x c s ρ f w = record {
+  answer = refl;
+  memory = w;
+  observation = observation.becomes-same x.observation;
+  temporaries = refl;
+}
+
+pub ran-finished : (x : Lent) (f : ℕ) → Ran (finished (state_of x) f) (Ok f) x x
+ran-finished x f = ran-memory x f (becomes-same refl)
+
+pub ran-ended : (x : Lent) (c : Stop) (s : ℕ) (ρ : Variables) (f : ℕ)
+    → Ran (ended c s ρ [] (state_of x) f) (Err (stopped_at c s f)) x x
+ran-ended x c s ρ f = ran-stopped x c s ρ f (becomes-same refl)
 
 pub ran-is : {o p : Outcome WatchedState} {r : Ended} {x y : Lent} → o ≡ p → Ran p r x y → Ran o r x y
 ran-is {o} {p} {r} {x} {y} e h = subst (λ (w : Outcome WatchedState). Ran w r x y) (sym e) h

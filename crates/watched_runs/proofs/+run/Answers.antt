@@ -1,40 +1,23 @@
--- What runs first of a statement is part of what remains of it; the members ask of one another what stands in the table.
-use Rattle.std.proofs.Common.{◌≡◌, ◌≢◌, ℕ, List, ◌-◌, ◌<◌, sym, ap, ◌∙◌, length, set, arith, rules}
-use Rattle.rules.specs.Records.{kind_of, mark_of, child_a, child_b}
-use Rattle.rules.specs.Nodes.{target_expression_at, target_statement_at, number_at}
-use Rattle.rules.specs.Evaluation.{Variables, condition, extend}
-use Rattle.rules.specs.Watched.{value_in}
+-- The members ask of one another what stands in the table.
+use Rattle.std.proofs.Common.{◌≡◌, ◌≢◌, ℕ, List, ◌-◌, ◌<◌, ◌≤◌, sym, ap, ◌∙◌, length, set, arith, rules}
+use Rattle.std.proofs.lemmas.Result.{err_from_is_err_and}
+use Rattle.std.specs.Prelude.{Ok}
+use Rattle.rules.specs.Records.{kind_of, mark_of, child_a}
+use Rattle.rules.specs.Evaluation.{extend}
 use Rattle.evaluation.specs.State.{variables_of}
 use Rattle.run_changes.proofs.ChangeLaws.{let-block}
-use Rattle.run_children.specs.Children.{first_of, rest_of}
-use Rattle.run_children.proofs.Sequences.{sequence-first, sequence-rest}
-use Rattle.run_endings.specs.declared.Ended.{Ended}
+use Rattle.run_children.proofs.Sequences.{sequence-first}
+use Rattle.run_endings.specs.Ending.{Ended}
 use Rattle.run_variables.proofs.VariableLaws.{variables-set}
-use Rattle.watched_statements.specs.Watching.{Lent, lent, state_of, watch_from, Ready, Ran, Runs}
-use Rattle.watched_statements.proofs.Laws.{kept_memory, ran-is, ran-from, ran-finished, ran-ended}
+use Rattle.watched_statements.specs.Watching.{Lent, Runs}
+use Rattle.watched_statements.proofs.Laws.{fuel-left}
 use Rattle.watched_statements.proofs.ReadyLaws.{ready-within, branch-parts, ready-then, ready-else, while-parts}
-use Rattle.watched_statements.proofs.ReadyLaws.{ready-turn, ready-inside, ready-run-first, ready-run-then}
-use Rattle.watched_statements.proofs.ReadyLaws.{run-first-within, run-first-smaller, run-then-smaller, run-first-alone}
-use Rattle.watched_runs.proofs.MemberLaws.{Remaining, Part, part-ends, part-finishes, part-spends, branch_by}
-use Rattle.watched_runs.proofs.MemberLaws.{run-first-then, turn_by, turn-out, let-made, let-unmade}
+use Rattle.watched_statements.proofs.ReadyLaws.{ready-turn, ready-inside, ready-run-first}
+use Rattle.watched_statements.proofs.ReadyLaws.{run-first-within, run-first-smaller}
+use Rattle.watched_runs.proofs.MemberLaws.{goes-on, stays, branch-then, branch-else, branch-stops}
+use Rattle.watched_runs.proofs.MemberLaws.{turn-goes, turn-stays, turn-ends, turn-fails, turn-out, let-made, let-unmade}
 use Rattle.watched_runs.proofs.MemberLaws.{inside-block, inside-ends, inside-stays}
 use Rattle.watched_runs.proofs.+run.Goals as goal
-use Rattle.std.specs.Prelude.{Err, Ok}
-use Rattle.std.specs.Prelude.{true, false}
-
-module _ {T : List ℕ} {n : ℕ} {ρ : Variables} {entry : Lent} {fuel m : ℕ} {x : Lent} {left : ℕ} {r : Ended} {y : Lent}
-    (e : Remaining T n ρ entry fuel m x left) (h : Ready T m) where
-  -- of sequence m the first child ran
-  first : kind_of T m ≡ 44 → (b : ℕ) → b ≡ first_of T m → Ran (watch_from (target_statement_at T b) ρ x left) r x y
-      → Part T n ρ entry fuel m x left (first_of T m) (rest_of T m) left r y
-  first q b i w = record { earlier = e; ran = rw i at w; leads = run-first-then ρ h q x left }
-
-  -- of while m a turn's condition is true, and its child ran
-  turn : kind_of T m ≡ 46 → 0 < left
-      → condition (value_in (target_expression_at T (child_a T m)) ρ (state_of x)) ≡ (Ok true)
-      → (b : ℕ) → b ≡ child_b T m → Ran (watch_from (target_statement_at T b) ρ x (left - 1)) r x y
-      → Part T n ρ entry fuel m x left (child_b T m) m (left - 1) r y
-  turn q z u b i w = record { earlier = e; ran = rw i at w; leads = turn_by ρ h q x left z (Ok true) u }
 
 pub branch-child_b-then-requires : goal.branch-child_b-then-requires
 branch-child_b-then-requires t c = ready-within c.requires.0
@@ -47,37 +30,25 @@ branch-run-requires t c =
     let h = c.requires in
     rw c.child_b-then.ensures (omega (arith, (branch-parts h.0 h.1).0.1), (ready-then h.0 h.1, h.2))
 
-pub branch-run-requires-in-No : goal.branch-run-requires-in-No
-branch-run-requires-in-No t c =
+pub branch-run-requires-in-Ok-false : goal.branch-run-requires-in-Ok-false
+branch-run-requires-in-Ok-false t c =
     let h = c.requires in
     rw c.child_c-other.ensures (omega (arith, (branch-parts h.0 h.1).1.1), (ready-else h.0 h.1, h.2))
 
-pub branch-returns-in-Yes-clause-outcome : goal.branch-returns-in-Yes-clause-outcome
-branch-returns-in-Yes-clause-outcome t c =
-    let a = c.args in
-    ran-is
-    (branch_by (variables_of a.variables.now) c.requires.0 c.requires.1 (lent a.mem.now a.obs.now a.temporaries.now)
-    a.fuel (Ok true) (sym c.test.ensures ∙ c.in-Yes.is))
+pub branch-returns-in-Ok-true-clause-outcome : goal.branch-returns-in-Ok-true-clause-outcome
+branch-returns-in-Ok-true-clause-outcome t c =
+    branch-then _ c.requires.0 c.requires.1 _ (sym c.test.ensures ∙ c.in-Ok-true.is ∙ ap Ok c.in-Ok-true.field-0-test)
     (rw c.child_b-then.ensures at c.run.ensures.outcome)
 
-pub branch-returns-in-No-clause-outcome : goal.branch-returns-in-No-clause-outcome
-branch-returns-in-No-clause-outcome t c =
-    let a = c.args in
-    ran-is
-    (branch_by (variables_of a.variables.now) c.requires.0 c.requires.1 (lent a.mem.now a.obs.now a.temporaries.now)
-    a.fuel (Ok false) (sym c.test.ensures ∙ c.in-No.is))
-    (rw c.child_c-other.ensures at c.run-in-No.ensures.outcome)
+pub branch-returns-in-Ok-false-clause-outcome : goal.branch-returns-in-Ok-false-clause-outcome
+branch-returns-in-Ok-false-clause-outcome t c =
+    branch-else _ c.requires.0 c.requires.1 _ (sym c.test.ensures ∙ c.in-Ok-false.is ∙ ap Ok c.in-Ok-false.field-0-test)
+    (rw c.child_c-other.ensures at c.run-in-Ok-false.ensures.outcome)
 
-pub branch-returns-in-Stopped-clause-outcome : goal.branch-returns-in-Stopped-clause-outcome
-branch-returns-in-Stopped-clause-outcome t c =
-    let a = c.args in
-    let x = lent a.mem.now a.obs.now a.temporaries.now in
-    let k = c.in-Stopped.k in
+pub branch-returns-in-Err-clause-outcome : goal.branch-returns-in-Err-clause-outcome
+branch-returns-in-Err-clause-outcome t c =
     rw c.statement_of.ensures
-    (ran-is
-    (branch_by (variables_of a.variables.now) c.requires.0 c.requires.1 x a.fuel (Err k)
-    (sym c.test.ensures ∙ c.in-Stopped.is))
-    (ran-ended x k (number_at a.table.now a.n) a.fuel))
+    (branch-stops _ c.requires.0 c.requires.1 _ _ _ (sym c.test.ensures ∙ c.in-Err.is))
 
 pub enclose-run_inside-requires : goal.enclose-run_inside-requires
 enclose-run_inside-requires t c =
@@ -87,193 +58,144 @@ enclose-run_inside-requires t c =
       (
         ready-inside h.0 h.1,
         record { counted = w.counts; owned = h.2.owned },
-        let-block h.2.counted.invariant w.memory (sym c.in-Name.is ∙ w.answer),
+        let-block h.2.counted.invariant w.memory (sym c.in-Ok.is ∙ w.answer),
       ),
     )
 
-pub enclose-returns-in-Name-clause-outcome : goal.enclose-returns-in-Name-clause-outcome
-enclose-returns-in-Name-clause-outcome t c =
-    let a = c.args in
+pub enclose-returns-in-Ok-clause-outcome : goal.enclose-returns-in-Ok-clause-outcome
+enclose-returns-in-Ok-clause-outcome t c =
     let w = c.make.ensures in
-    ran-is
-    (let-made (variables_of a.variables.now) c.requires.0 (lent a.mem.now a.obs.now a.temporaries.now) c.requires.1
-    w.memory a.fuel (sym c.in-Name.is ∙ w.answer))
-    (ran-from (kept_memory _ _ w.memory) c.run_inside.ensures.outcome)
+    let-made _ c.requires.0 _ c.requires.1 _ w.memory (sym c.in-Ok.is ∙ w.answer) c.run_inside.ensures.outcome
 
-pub enclose-returns-in-Stopped-clause-outcome : goal.enclose-returns-in-Stopped-clause-outcome
-enclose-returns-in-Stopped-clause-outcome t c =
-    let a = c.args in
+pub enclose-returns-in-Err-clause-outcome : goal.enclose-returns-in-Err-clause-outcome
+enclose-returns-in-Err-clause-outcome t c =
     let w = c.make.ensures in
     rw c.statement_of.ensures
-    (let-unmade (variables_of a.variables.now) c.requires.0 (lent a.mem.now a.obs.now a.temporaries.now) c.requires.1
-    w.memory a.fuel c.in-Stopped.c (sym c.in-Stopped.is ∙ w.answer))
+    (let-unmade _ c.requires.0 _ c.requires.1 _ w.memory _ (sym c.in-Err.is ∙ w.answer))
 
-pub repeat-child_b-b-requires : goal.repeat-child_b-b-requires
-repeat-child_b-b-requires t c = ready-within c.requires.0
+pub repeat-child_b-body-requires : goal.repeat-child_b-body-requires
+repeat-child_b-body-requires t c = ready-within c.requires.0
 
 pub repeat-test_a-requires : goal.repeat-test_a-requires
 repeat-test_a-requires t c = (ready-within c.requires.0, (while-parts c.requires.0 c.requires.1).0.2)
 
-pub repeat-run-r-requires : goal.repeat-run-r-requires
-repeat-run-r-requires t c =
+pub repeat-run-requires : goal.repeat-run-requires
+repeat-run-requires t c =
     let h = c.requires in
-    rw c.child_b-b.ensures
+    rw c.child_b-body.ensures
     (omega (arith, (while-parts h.0 h.1).1.1), (ready-turn h.0 h.1, c.loop-left.invariant.beside))
 
-pub repeat-returns-then-r-ne0-clause-outcome : goal.repeat-returns-then-r-ne0-clause-outcome
-repeat-returns-then-r-ne0-clause-outcome t c =
-    let h = c.requires in
-    part-ends
-    (turn c.loop-left.invariant.remaining h.0 h.1 (omega arith) (sym c.test_a.ensures ∙ c.in-Yes.is) _
-    c.child_b-b.ensures c.run-r.ensures.outcome)
-    c.if-r-ne0.true
+pub repeat-returns-in_err-left-in-Ok-true-clause-outcome : goal.repeat-returns-in_err-left-in-Ok-true-clause-outcome
+repeat-returns-in_err-left-in-Ok-true-clause-outcome t c =
+    let p = err_from_is_err_and c.from_residual.result c.from_residual.ensures.1 in
+    let q = sym c.test_a.ensures ∙ c.in-Ok-true.is ∙ ap Ok c.in-Ok-true.field-0-test in
+    rw (p.1, p.2)
+    (c.loop-left.invariant.remaining.ends
+    (turn-stays _ c.requires.0 c.requires.1 _ (omega arith) q
+    (rw c.child_b-body.ensures at c.in_err-left-in-Ok-true.ensures.outcome)))
 
 pub repeat-loop-left-smaller : goal.repeat-loop-left-smaller
 repeat-loop-left-smaller t c =
-    let h = c.requires in
-    part-spends
-    (turn c.loop-left.invariant.remaining h.0 h.1 (omega arith) (sym c.test_a.ensures ∙ c.in-Yes.is) _
-    c.child_b-b.ensures c.run-r.ensures.outcome)
-    c.if-r-ne0.false (omega arith)
+    let e : c.in_ok-left-in-Ok-true.left ≤ c.loop-left.left - 1 = fuel-left _ _ _ c.in_ok-left-in-Ok-true.ensures.outcome in
+    omega arith
 
 pub repeat-loop-left-preserved : goal.repeat-loop-left-preserved
 repeat-loop-left-preserved t c =
     let h = c.requires in
+    let q = sym c.test_a.ensures ∙ c.in-Ok-true.is ∙ ap Ok c.in-Ok-true.field-0-test in
+    let w = rw c.child_b-body.ensures at c.in_ok-left-in-Ok-true.ensures.outcome in
     record {
-      remaining = part-finishes
-          (turn c.loop-left.invariant.remaining h.0 h.1 (omega arith) (sym c.test_a.ensures ∙ c.in-Yes.is) _
-          c.child_b-b.ensures c.run-r.ensures.outcome)
-          c.if-r-ne0.false;
-      beside = c.run-r.ensures.beside;
+      remaining = record {
+        ready = h.0;
+        within = omega arith;
+        ends = λ v. c.loop-left.invariant.remaining.ends (turn-goes _ h.0 h.1 _ (omega arith) q w v);
+      };
+      beside = c.run.ensures.beside;
     }
 
-pub repeat-returns-in-No-clause-outcome : goal.repeat-returns-in-No-clause-outcome
-repeat-returns-in-No-clause-outcome t c =
-    let i = c.loop-left in
-    let y = lent i.mem i.obs i.temporaries in
-    ran-is
-    (i.invariant.remaining.rest
-    ∙ turn_by (variables_of c.args.variables.now) c.requires.0 c.requires.1 y i.left (omega arith) (Ok false)
-    (sym c.test_a.ensures ∙ c.in-No.is))
-    (ran-from i.invariant.remaining.bytes (ran-finished y (i.left - 1)))
+pub repeat-returns-in-Ok-false-clause-outcome : goal.repeat-returns-in-Ok-false-clause-outcome
+repeat-returns-in-Ok-false-clause-outcome t c =
+    c.loop-left.invariant.remaining.ends
+    (turn-ends _ c.requires.0 c.requires.1 _ _ (omega arith) (sym c.test_a.ensures ∙ c.in-Ok-false.is ∙ ap Ok c.in-Ok-false.field-0-test))
 
-pub repeat-returns-in-Stopped-clause-outcome : goal.repeat-returns-in-Stopped-clause-outcome
-repeat-returns-in-Stopped-clause-outcome t c =
-    let a = c.args in
-    let i = c.loop-left in
-    let y = lent i.mem i.obs i.temporaries in
-    let k = c.in-Stopped.k in
+pub repeat-returns-in-Err-clause-outcome : goal.repeat-returns-in-Err-clause-outcome
+repeat-returns-in-Err-clause-outcome t c =
     rw c.statement_of.ensures
-    (ran-is
-    (i.invariant.remaining.rest
-    ∙ turn_by (variables_of a.variables.now) c.requires.0 c.requires.1 y i.left (omega arith) (Err k)
-    (sym c.test_a.ensures ∙ c.in-Stopped.is))
-    (ran-from i.invariant.remaining.bytes (ran-ended y k (number_at a.table.now a.n) (i.left - 1))))
+    (c.loop-left.invariant.remaining.ends
+    (turn-fails _ c.requires.0 c.requires.1 _ _ (omega arith) _ (sym c.test_a.ensures ∙ c.in-Err.is)))
 
 pub repeat-returns-clause-outcome : goal.repeat-returns-clause-outcome
 repeat-returns-clause-outcome t c =
-    let a = c.args in
-    let i = c.loop-left in
-    let y = lent i.mem i.obs i.temporaries in
     rw c.statement_of-2.ensures
-    (ran-is
-    (i.invariant.remaining.rest
-    ∙ turn-out (variables_of a.variables.now) c.requires.0 c.requires.1 y i.left (omega arith))
-    (ran-from i.invariant.remaining.bytes (ran-ended y 32 (number_at a.table.now a.n) 0)))
-
-pub run-rest_of-rest-requires : goal.run-rest_of-rest-requires
-run-rest_of-rest-requires t c = ready-within c.loop-temporaries.invariant.ready
+    (c.loop-left.invariant.remaining.ends (turn-out _ c.requires.0 c.requires.1 _ _ (omega arith)))
 
 pub run-first_of-first-requires : goal.run-first_of-first-requires
-run-first_of-first-requires t c = ready-within c.loop-temporaries.invariant.ready
+run-first_of-first-requires t c = let e = rw c.in-Some.is at c.loop-next.invariant.remaining in ready-within e.ready
+
+pub run-rest_of-next-requires : goal.run-rest_of-next-requires
+run-rest_of-next-requires t c = let e = rw c.in-Some.is at c.loop-next.invariant.remaining in ready-within e.ready
 
 pub run-kind-requires : goal.run-kind-requires
-run-kind-requires t c = rw c.first_of-first.ensures (ready-within (ready-run-first c.loop-temporaries.invariant.ready))
+run-kind-requires t c =
+    let e = rw c.in-Some.is at c.loop-next.invariant.remaining in
+    rw c.first_of-first.ensures (ready-within (ready-run-first e.ready))
 
--- the kind that was read is that of what runs first
-sequence : (T : List ℕ) (m x k : ℕ) → x ≡ first_of T m → k ≡ kind_of T x → k ≡ 44 → kind_of T m ≡ 44
-sequence T m x k i e z = sequence-first T m (sym (e ∙ ap (kind_of T) i) ∙ z)
-
-pub run-run-r-requires : goal.run-run-r-requires
-run-run-r-requires t c =
-    let i = c.loop-temporaries in
-    let h = i.invariant.ready in
-    let q = sequence c.args.table.now i.at _ _ c.first_of-first.ensures c.kind.ensures c.if-kind-eq44.true in
-    rw c.first_of-first.ensures
-    (omega (arith, run-first-smaller h q, i.invariant.within), (ready-run-first h, i.invariant.beside))
-
-pub run-returns-then-r-ne0-clause-outcome : goal.run-returns-then-r-ne0-clause-outcome
-run-returns-then-r-ne0-clause-outcome t c =
-    let i = c.loop-temporaries in
-    let q = sequence c.args.table.now i.at _ _ c.first_of-first.ensures c.kind.ensures c.if-kind-eq44.true in
-    part-ends (first i.invariant.remaining i.invariant.ready q _ c.first_of-first.ensures c.run-r.ensures.outcome)
-    c.if-r-ne0.true
-
-pub run-run_single-r-requires : goal.run-run_single-r-requires
-run-run_single-r-requires t c =
-    let i = c.loop-temporaries in
-    let h = i.invariant.ready in
-    let d : kind_of c.args.table.now c.first_of-first.result ≢ 44 = λ e. c.if-kind-eq44.false (c.kind.ensures ∙ e) in
+pub run-run-requires : goal.run-run-requires
+run-run-requires t c =
+    let T = c.args.table.now in
+    let e = rw c.in-Some.is at c.loop-next.invariant.remaining in
+    let k = sym (c.kind.ensures ∙ ap (kind_of T) c.first_of-first.ensures) ∙ c.if-kind-eq44.true in
     rw c.first_of-first.ensures (
-      omega (arith, run-first-within h, i.invariant.within),
-      (ready-run-first h, rw c.first_of-first.ensures at d, i.invariant.beside),
+      omega (arith, run-first-smaller e.ready (sequence-first T c.in-Some.at k), e.within),
+      (ready-run-first e.ready, c.loop-next.invariant.beside),
     )
 
-pub run-returns-then-rest-eq0-clause-outcome : goal.run-returns-then-rest-eq0-clause-outcome
-run-returns-then-rest-eq0-clause-outcome t c =
-    let i = c.loop-temporaries.invariant in
-    let alone = run-first-alone i.ready (sym c.rest_of-rest.ensures ∙ c.if-rest-eq0.true) in
-    ran-is i.remaining.rest
-    (ran-from i.remaining.bytes (rw (c.first_of-first.ensures ∙ alone) at c.run_single-r.ensures.outcome))
+pub run-run_single-requires : goal.run-run_single-requires
+run-run_single-requires t c =
+    let e = rw c.in-Some.is at c.loop-next.invariant.remaining in
+    let d : kind_of c.args.table.now c.first_of-first.result ≢ 44 = λ k. c.if-kind-eq44.false (c.kind.ensures ∙ k) in
+    rw c.first_of-first.ensures (
+      omega (arith, run-first-within e.ready, e.within),
+      (ready-run-first e.ready, rw c.first_of-first.ensures at d, c.loop-next.invariant.beside),
+    )
 
-pub run-returns-then-r-ne0-2-clause-outcome : goal.run-returns-then-r-ne0-2-clause-outcome
-run-returns-then-r-ne0-2-clause-outcome t c =
-    let i = c.loop-temporaries in
-    let q = sequence-rest c.args.table.now i.at (λ e. c.if-rest-eq0.false (c.rest_of-rest.ensures ∙ e)) in
-    part-ends
-    (first i.invariant.remaining i.invariant.ready q _ c.first_of-first.ensures c.run_single-r.ensures.outcome)
-    c.if-r-ne0-2.true
+pub run-returns-in_err-left-clause-outcome : goal.run-returns-in_err-left-clause-outcome
+run-returns-in_err-left-clause-outcome t c =
+    let e = rw c.in-Some.is at c.loop-next.invariant.remaining in
+    let p = err_from_is_err_and c.from_residual.result c.from_residual.ensures.1 in
+    rw (p.1, p.2) (stays e (rw c.first_of-first.ensures at c.in_err-left.ensures.outcome))
+
+pub run-returns-in_err-left-2-clause-outcome : goal.run-returns-in_err-left-2-clause-outcome
+run-returns-in_err-left-2-clause-outcome t c =
+    let e = rw c.in-Some.is at c.loop-next.invariant.remaining in
+    let p = err_from_is_err_and c.from_residual-in_err-left-2.result c.from_residual-in_err-left-2.ensures.1 in
+    rw (p.1, p.2) (stays e (rw c.first_of-first.ensures at c.in_err-left-2.ensures.outcome))
 
 -- the measure falls, and the invariant holds of what follows
-pub run-loop-temporaries-smaller-else-r-ne0 : goal.run-loop-temporaries-smaller-else-r-ne0
-run-loop-temporaries-smaller-else-r-ne0 t c =
-    let i = c.loop-temporaries in
-    let q = sequence c.args.table.now i.at _ _ c.first_of-first.ensures c.kind.ensures c.if-kind-eq44.true in
-    omega (arith, c.rest_of-rest.ensures, run-then-smaller i.invariant.ready q)
+pub run-loop-next-smaller-in_ok-left : goal.run-loop-next-smaller-in_ok-left
+run-loop-next-smaller-in_ok-left t c =
+    let e = rw c.in-Some.is at c.loop-next.invariant.remaining in
+    rw (c.rest_of-next.ensures, c.in-Some.is) (goes-on e (rw c.first_of-first.ensures at c.in_ok-left.ensures.outcome)).1
 
-pub run-loop-temporaries-preserved-else-r-ne0 : goal.run-loop-temporaries-preserved-else-r-ne0
-run-loop-temporaries-preserved-else-r-ne0 t c =
-    let i = c.loop-temporaries in
-    let h = i.invariant.ready in
-    let q = sequence c.args.table.now i.at _ _ c.first_of-first.ensures c.kind.ensures c.if-kind-eq44.true in
-    rw c.rest_of-rest.ensures
-    (record {
-      remaining = part-finishes
-          (first i.invariant.remaining h q _ c.first_of-first.ensures c.run-r.ensures.outcome) c.if-r-ne0.false;
-      ready = ready-run-then h q;
-      within = omega (arith, run-then-smaller h q, i.invariant.within);
-      beside = c.run-r.ensures.beside;
+pub run-loop-next-preserved-in_ok-left : goal.run-loop-next-preserved-in_ok-left
+run-loop-next-preserved-in_ok-left t c =
+    let e = rw c.in-Some.is at c.loop-next.invariant.remaining in
+    rw c.rest_of-next.ensures (record {
+      remaining = (goes-on e (rw c.first_of-first.ensures at c.in_ok-left.ensures.outcome)).0;
+      beside = c.run.ensures.beside;
     })
 
-pub run-loop-temporaries-smaller : goal.run-loop-temporaries-smaller
-run-loop-temporaries-smaller t c =
-    let i = c.loop-temporaries in
-    let q = sequence-rest c.args.table.now i.at (λ e. c.if-rest-eq0.false (c.rest_of-rest.ensures ∙ e)) in
-    omega (arith, c.rest_of-rest.ensures, run-then-smaller i.invariant.ready q)
+pub run-loop-next-smaller : goal.run-loop-next-smaller
+run-loop-next-smaller t c =
+    let e = rw c.in-Some.is at c.loop-next.invariant.remaining in
+    rw (c.rest_of-next.ensures, c.in-Some.is) (goes-on e (rw c.first_of-first.ensures at c.in_ok-left-2.ensures.outcome)).1
 
-pub run-loop-temporaries-preserved : goal.run-loop-temporaries-preserved
-run-loop-temporaries-preserved t c =
-    let i = c.loop-temporaries in
-    let h = i.invariant.ready in
-    let q = sequence-rest c.args.table.now i.at (λ e. c.if-rest-eq0.false (c.rest_of-rest.ensures ∙ e)) in
-    rw c.rest_of-rest.ensures
-    (record {
-      remaining = part-finishes
-          (first i.invariant.remaining h q _ c.first_of-first.ensures c.run_single-r.ensures.outcome)
-          c.if-r-ne0-2.false;
-      ready = ready-run-then h q;
-      within = omega (arith, run-then-smaller h q, i.invariant.within);
-      beside = c.run_single-r.ensures.beside;
+pub run-loop-next-preserved : goal.run-loop-next-preserved
+run-loop-next-preserved t c =
+    let e = rw c.in-Some.is at c.loop-next.invariant.remaining in
+    rw c.rest_of-next.ensures (record {
+      remaining = (goes-on e (rw c.first_of-first.ensures at c.in_ok-left-2.ensures.outcome)).0;
+      beside = c.run_single.ensures.beside;
     })
 
 pub run_single-kind-requires : goal.run_single-kind-requires
@@ -289,23 +211,24 @@ child T n k b v vs f g i j h w = rw (i, variables-set vs v k (omega (arith, g, j
 pub run_inside-end-requires : goal.run_inside-end-requires
 run_inside-end-requires t c =
     let h = c.requires in
-    let w = c.run-r.ensures in
-    (w.beside.counted, inside-block _ _ c.args.k _ w.outcome h.1.counted.invariant h.2)
+    let w = c.run.ensures in
+    (w.beside.counted, inside-block _ _ c.args.name _ w.outcome h.1.counted.invariant h.2)
 
-pub run_inside-returns-then-r-eq0-clause-outcome : goal.run_inside-returns-then-r-eq0-clause-outcome
-run_inside-returns-then-r-eq0-clause-outcome t c =
+pub run_inside-returns-in_err-left-clause-outcome : goal.run_inside-returns-in_err-left-clause-outcome
+run_inside-returns-in_err-left-clause-outcome t c =
     let a = c.args in
-    let h = c.requires in
     let g : length a.variables ≡ 64 = search rules in
-    let w = child a.table.now a.n a.k _ _ a.variables a.fuel g c.child_a-body.ensures c.mark-v.ensures h.0.mark
-    c.run-r.ensures.outcome in
-    inside-ends a.table.now a.n (variables_of a.variables) a.k a.fuel w c.if-r-eq0.true c.end.ensures.memory
+    let p = err_from_is_err_and c.from_residual.result c.from_residual.ensures.1 in
+    rw (p.1, p.2)
+    (inside-stays a.table.now a.n (variables_of a.variables) a.name _ a.fuel
+    (child a.table.now a.n a.name _ _ a.variables a.fuel g c.child_a-body.ensures c.mark-variable.ensures c.requires.0.mark
+    c.in_err-left.ensures.outcome))
 
-pub run_inside-returns-else-r-eq0-clause-outcome : goal.run_inside-returns-else-r-eq0-clause-outcome
-run_inside-returns-else-r-eq0-clause-outcome t c =
+pub run_inside-returns-clause-outcome : goal.run_inside-returns-clause-outcome
+run_inside-returns-clause-outcome t c =
     let a = c.args in
-    let h = c.requires in
     let g : length a.variables ≡ 64 = search rules in
-    let w = child a.table.now a.n a.k _ _ a.variables a.fuel g c.child_a-body.ensures c.mark-v.ensures h.0.mark
-    c.run-r.ensures.outcome in
-    inside-stays a.table.now a.n (variables_of a.variables) a.k a.fuel w c.if-r-eq0.false
+    inside-ends a.table.now a.n (variables_of a.variables) a.name _ a.fuel
+    (child a.table.now a.n a.name _ _ a.variables a.fuel g c.child_a-body.ensures c.mark-variable.ensures c.requires.0.mark
+    c.in_ok-left.ensures.outcome)
+    c.end.ensures.memory

@@ -1,9 +1,9 @@
 -- The measures, by the record number. In a run's loop what remains is at the record that the loop has come to; in a
 -- while's loop, at the while itself, by the fuel that is left.
-use Rattle.std.proofs.Common.{◌+◌, ◌*◌, ◌≤◌}
+use Rattle.std.proofs.Common.{◌+◌, ◌*◌}
 use Rattle.evaluation.specs.State.{variables_of}
-use Rattle.watched_statements.specs.Watching.{lent, Beside, Ready}
-use Rattle.watched_runs.proofs.MemberLaws.{Remaining}
+use Rattle.watched_statements.specs.Watching.{lent, Beside}
+use Rattle.watched_runs.proofs.MemberLaws.{Rest, Remaining, height}
 use Rattle.watched_runs.proofs.+run.Given as goal
 
 abbrev pub decreases-branch : goal.decreases-branch
@@ -24,21 +24,19 @@ decreases-run_inside l = l.n * 4
 abbrev pub decreases-run_single : goal.decreases-run_single
 decreases-run_single l = l.n * 4 + 2
 
-abbrev pub invariant-run-loop-temporaries : goal.invariant-run-loop-temporaries
-invariant-run-loop-temporaries l = record {
-  remaining : Remaining l.table l.n (variables_of l.variables) (lent l.fn.mem l.fn.obs l.fn.temporaries) l.fuel l.at
+abbrev pub invariant-run-loop-next : goal.invariant-run-loop-next
+invariant-run-loop-next l = record {
+  remaining : Remaining l.table l.n (variables_of l.variables) (lent l.fn.mem l.fn.obs l.fn.temporaries) l.fuel l.next
       (lent l.mem l.obs l.temporaries) l.left;
-  ready : Ready l.table l.at;
-  within : l.at ≤ l.n;
   beside : Beside l.mem l.obs l.counts l.owners;
 }
 
-abbrev pub decreases-run-loop-temporaries : goal.decreases-run-loop-temporaries
-decreases-run-loop-temporaries l = l.at
+abbrev pub decreases-run-loop-next : goal.decreases-run-loop-next
+decreases-run-loop-next l = height l.next
 
 abbrev pub invariant-repeat-loop-left : goal.invariant-repeat-loop-left
 invariant-repeat-loop-left l = record {
-  remaining : Remaining l.table l.n (variables_of l.variables) (lent l.fn.mem l.fn.obs l.fn.temporaries) l.fuel l.n
+  remaining : Rest l.table l.n (variables_of l.variables) (lent l.fn.mem l.fn.obs l.fn.temporaries) l.fuel l.n
       (lent l.mem l.obs l.temporaries) l.left;
   beside : Beside l.mem l.obs l.counts l.owners;
 }
