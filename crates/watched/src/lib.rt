@@ -2,7 +2,7 @@
 
 #![tactic(auto)]
 
-ghost use Rattle.std.specs.Prelude.{◌≡◌, false};
+ghost use Rattle.std.specs.Prelude.{◌≡◌, false, Ok};
 ghost use Rattle.rules.specs.Kinds.{target};
 ghost use Rattle.rules.specs.Checker.{check, inputs_fault, memory_fault, observation_fault};
 ghost use Rattle.rules.specs.Nodes.{target_program, target_statement_at};
@@ -12,13 +12,12 @@ ghost use Rattle.rules.specs.Watched.{watching, watch, start_temporaries};
 ghost use Rattle.rules.specs.Layout.{memory_of, memory_image, observation_of};
 ghost use Rattle.rules.specs.Memory.{start_memory};
 ghost use Rattle.rules.specs.Answers.{inputs_of, watched_ended, watched_outcome, watched_by, run_watched};
-ghost use Rattle.rules.specs.declared.{Checked.Checked};
 ghost use Rattle.memory_counts.specs.Counted.{Counted};
 ghost use Rattle.watched_statements.specs.Watching.{Beside, Ready, Leaves, AnsweredBy};
 
 use rules::{
-    Answer, Checked, Counts, ExecutionMemory, MEMORY_LENGTH, MarkOwners, OBSERVATION_LENGTH,
-    OWNERS_LENGTH, ObservationMemory, TABLE_LENGTH, TEMPORARIES_LENGTH, Table,
+    Answer, CELL_COUNT, Counts, ExecutionMemory, MEMORY_LENGTH, MarkOwners, OBSERVATION_LENGTH,
+    ObservationMemory, Rule, TABLE_LENGTH, TEMPORARIES_LENGTH, Table,
 };
 use run_endings::Ended;
 
@@ -62,7 +61,7 @@ fn run_table(
     counts: &mut Counts,
     fuel: u32,
 ) -> Ended
-    requires { (check target table.now ≡ Checked.Accepted)
+    requires { (check target table.now ≡ Ok tt)
         × Beside mem.old obs.old counts.old owners.old }
     ensures outcome { Leaves (watch (target_program table.now) start_variables
         (watching (memory_of mem.old) (observation_of obs.old) start_temporaries) fuel) result
@@ -82,21 +81,23 @@ fn run_memories(
     mem: &mut ExecutionMemory,
     obs: &mut ObservationMemory,
 ) -> Answer
-    requires { (check target table.now ≡ Checked.Accepted) × (inputs_fault inputs.now ≡ false)
+    requires { (check target table.now ≡ Ok tt) × (inputs_fault inputs.now ≡ false)
         × (mem.old ≡ memory_image (start_memory (inputs_of inputs.now))) }
     ensures { AnsweredBy (watched_ended (ending (watched_outcome table.now inputs.now fuel))) result
         mem.new obs.new }
 {
-    let mut owners = [0u16; OWNERS_LENGTH];
+    let mut owners = MarkOwners {
+        names: [0u16; CELL_COUNT],
+        lowest: 0,
+    };
     watched_noting::start_observation(obs, &mut owners, inputs.len() / 8);
     let mut counts = memory_counts::start(inputs.len() / 8);
-    let r = run_table(table, mem, obs, &mut owners, &mut counts, fuel);
-    Answer {
-        number: r.number,
-        record: r.statement,
-        fuel: r.fuel,
-        free_cells: counts[0] as u32,
-    }
+    let ended = run_table(table, mem, obs, &mut owners, &mut counts, fuel);
+    let MarkOwners {
+        names: _,
+        lowest: _,
+    } = owners;
+    run_endings::answer_of(ended, counts.free as u32)
 }
 
 // Lays out the inputs first; what the run leaves in both memories is copied out. Each memory is made just before it is
@@ -108,7 +109,7 @@ fn run_inputs(
     memory: &mut [u8],
     observation: &mut [u8],
 ) -> Answer
-    requires { (check target table.now ≡ Checked.Accepted) × (inputs_fault inputs.now ≡ false)
+    requires { (check target table.now ≡ Ok tt) × (inputs_fault inputs.now ≡ false)
         × (memory_fault memory.old ≡ false) × (observation_fault observation.old ≡ false) }
     ensures { AnsweredBy (watched_ended (ending (watched_outcome table.now inputs.now fuel))) result
         memory.new observation.new }
@@ -130,18 +131,18 @@ fn run_accepted(
     memory: &mut [u8],
     observation: &mut [u8],
 ) -> Answer
-    requires { check target table.now ≡ Checked.Accepted }
-    ensures { AnsweredBy (watched_by Checked.Accepted table.now inputs.now fuel
+    requires { check target table.now ≡ Ok tt }
+    ensures { AnsweredBy (watched_by (Ok tt) table.now inputs.now fuel
         memory.old observation.old) result memory.new observation.new }
 {
     if run_buffers::has_inputs_fault(inputs) {
-        return run_endings::refuse(9, 0);
+        return run_endings::refuse(Rule::Inputs, 0);
     }
     if memory.len() != MEMORY_LENGTH {
-        return run_endings::refuse(21, 0);
+        return run_endings::refuse(Rule::Memory, 0);
     }
     if observation.len() != OBSERVATION_LENGTH {
-        return run_endings::refuse(22, 0);
+        return run_endings::refuse(Rule::Observation, 0);
     }
     run_inputs(table, inputs, fuel, memory, observation)
 }
@@ -158,7 +159,7 @@ pub fn run_watched(
         observation.old) result memory.new observation.new }
 {
     match checker::check_target(table) {
-        Checked::Accepted => run_accepted(table, inputs, fuel, memory, observation),
-        Checked::Refused(k, n) => run_endings::refuse(k, n),
+        Ok(()) => run_accepted(table, inputs, fuel, memory, observation),
+        Err(refusal) => run_endings::refuse(refusal.rule, refusal.record),
     }
 }

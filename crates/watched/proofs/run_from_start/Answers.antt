@@ -5,5 +5,5 @@ use Rattle.watched.proofs.run_from_start.Goals as goal
 pub returns-clause-outcome : goal.returns-clause-outcome
 returns-clause-outcome c =
     let a = c.args in
-    leaves-start (target_statement_at a.table.now a.n) a.fuel c.run.result a.mem.now _ a.obs.now _ _
+    leaves-start (target_statement_at a.table.now a.n) a.fuel
     (rw c.start_variables-variables.ensures at c.run.ensures.outcome)
