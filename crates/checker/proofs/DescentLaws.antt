@@ -17,8 +17,10 @@ use Rattle.rules.proofs.Acceptance.CheckLaws.{each-passes}
 use Rattle.checker.specs.Scopes.{Given, Formed, Kept}
 use Rattle.std.specs.Prelude.{Ok, is_err}
 
-pub no-fault : (l : Language) (t : List ℕ) → Formed l t → (n : ℕ) → 1 ≤ n → n ≤ record_count t → record_fault l t n ≡ Ok tt
-no-fault l t h n a b = no-err-kept (record_fault l t n) (each-passes t (λ n. is_err (record_fault l t n)) h.records n a b)
+pub no-fault : (l : Language) (t : List ℕ) → Formed l t → (n : ℕ) → 1 ≤ n → n ≤ record_count t
+    → record_fault l t n ≡ Ok tt
+no-fault l t h n a b =
+    no-err-kept (record_fault l t n) (each-passes t (λ n. is_err (record_fault l t n)) h.records n a b)
 
 pub passed-of : (l : Language) (t : List ℕ) → Kept l t → Passed l t
 passed-of l t h = record {
@@ -33,7 +35,8 @@ pub record Known (P : ℕ → ℕ → Type 0) (l : Language) (t : List ℕ) (n :
   pub below : (m j : ℕ) → IsParent l t m j → n < m → P j (get_or notes j 0)
 
 module _ (P : ℕ → ℕ → Type 0) (l : Language) (t : List ℕ) where
-  pub known_start : (notes : List ℕ) → record_count t < length notes → P (record_count t) (get_or notes (record_count t) 0)
+  pub known_start : (notes : List ℕ) → record_count t < length notes
+      → P (record_count t) (get_or notes (record_count t) 0)
       → Known P l t (record_count t) notes
   known_start notes s p = record {
     size = s;

@@ -27,7 +27,8 @@ fields-below l t n formed some within =
     (a-below l t n keeps some, b-below l t n keeps some, c-below l t n keeps some)
 
 -- what is put for the children of record n is given to them
-module _ (l : Language) (t : List ℕ) (n : ℕ) (keeps : record_fault l t n ≡ Ok tt) (u v w : ℕ) (f : ℕ → ℕ) (notes : List ℕ)
+module _ (l : Language) (t : List ℕ) (n : ℕ) (keeps : record_fault l t n ≡ Ok tt)
+    (u v w : ℕ) (f : ℕ → ℕ) (notes : List ℕ)
     (p : (child_a t n ≡ 0 → ⊥) → u ≡ f (child_a t n)) (q : (child_b t n ≡ 0 → ⊥) → v ≡ f (child_b t n))
     (r : (third l t n keeps ≡ 0 → ⊥) → w ≡ f (third l t n keeps)) where
   abbrev Right : ℕ → ℕ → Type 0
@@ -56,7 +57,8 @@ module _ (l : Language) (t : List ℕ) (n : ℕ) (keeps : record_fault l t n ≡
       (λ ec. put_step (Right j) (child_b t n) v first j (omega (arith, put-length (child_a t n) u notes))
       (its-child j (child_b t n) v q (omega arith))
       (λ eb. put_step (Right j) (child_a t n) u notes j h (its-child j (child_a t n) u p (omega arith))
-      (λ ea. sym (ap (λ (b : Bool). cond b (f j) (get_or notes j 0)) (le-ltb 0 (times_child_of l t n j) (omega arith))))))
+      (λ ea. sym (ap (λ (b : Bool). cond b (f j) (get_or notes j 0))
+      (le-ltb 0 (times_child_of l t n j) (omega arith))))))
 
   pub given-three : Given l t n f notes (put_at (third l t n keeps) w second)
   given-three = record { size = put-length (third l t n keeps) w second ∙ second-length; values = right }
@@ -69,13 +71,15 @@ module _ (t : List ℕ) (kept : Kept source t) (n : ℕ) (some : 0 < n) (within 
 
   third-is : third source t n keeps ≡ child_c t n
   third-is =
-      let most : kind_of t n ≤ 35 = leb-true (kind_of t n) 35 (two-pass (leb 20 (kind_of t n)) (leb (kind_of t n) 35) is).1 in
-      (λ i. cond (ne_eqb (kind_of t n) 63 (λ e. omega arith) i || ne_eqb (kind_of t n) 64 (λ e. omega arith) i) 0 (child_c t n))
+      let k = kind_of t n in
+      let most : k ≤ 35 = leb-true k 35 (two-pass (leb 20 k) (leb k 35) is).1 in
+      (λ i. cond (ne_eqb k 63 (λ e. omega arith) i || ne_eqb k 64 (λ e. omega arith) i) 0 (child_c t n))
 
-  times : (j : ℕ) → times_child_of source t n j ≡ count (child_a t n) j + count (child_b t n) j + count (child_c t n) j
+  times : (j : ℕ)
+      → times_child_of source t n j ≡ count (child_a t n) j + count (child_b t n) j + count (child_c t n) j
   times j =
-      subst (λ (x : ℕ). times_child_of source t n j ≡ count (child_a t n) j + count (child_b t n) j + count x j) third-is
-      (kept-times source t n keeps j)
+      subst (λ (x : ℕ). times_child_of source t n j ≡ count (child_a t n) j + count (child_b t n) j + count x j)
+      third-is (kept-times source t n keeps j)
 
   once : (j : ℕ) → 0 < times_child_of source t n j → times_child_of source t n j ≡ 1
   once j h =
@@ -98,7 +102,12 @@ module _ (t : List ℕ) (kept : Kept source t) (n : ℕ) (some : 0 < n) (within 
         let b = child_b t n in
         let self = count-self b b p refl in
         let other : child_a t n ≡ b → ⊥ =
-        λ e. omega (arith, times b, once b (omega (arith, times b)), count-self (child_a t n) b (λ z. p (omega arith)) e) in
+        λ e. omega (
+          arith,
+          times b,
+          once b (omega (arith, times b)),
+          count-self (child_a t n) b (λ z. p (omega arith)) e,
+        ) in
         ap at (at_second (child_a t n) b (child_c t n) b other refl)
 
     level-c : (child_c t n ≡ 0 → ⊥) → at 2 ≡ child_level t n v (child_c t n)

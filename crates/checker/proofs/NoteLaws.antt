@@ -49,7 +49,8 @@ put_step P x v l j h p q = go (eqb x 0) (eqb x j) refl p q
         → (◌≡◌ {A = ℕ} (cond b 0 (cond c 1 0)) 0 → P (get_or l j 0)) → P (get_or (cond b l (set l x v)) j 0)
     go true c e p q = q refl
     go false true e p q =
-        subst P (sym (ap (λ (i : ℕ). get_or (set l i v) j 0) (eqb-true x j e) ∙ get_or-set_same l j v 0 h)) (p (omega arith))
+        subst P (sym (ap (λ (i : ℕ). get_or (set l i v) j 0) (eqb-true x j e) ∙ get_or-set_same l j v 0 h))
+        (p (omega arith))
     go false false e p q =
         subst P (sym (get_or-set_other l x j v 0 (λ i. eqb-false x j e (sym i)))) (q refl)
 

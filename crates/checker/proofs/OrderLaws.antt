@@ -34,7 +34,8 @@ kept_of l t misshapen hidden u h e = record {
 }
 
 -- ---- rules 6 to 8, of which the first that refuses says so
-module _ (l : Language) (t : List ℕ) (misshapen hidden : Search) (shapes : lowest_record t (shape_fault l t) ≡ misshapen) where
+module _ (l : Language) (t : List ℕ) (misshapen hidden : Search)
+    (shapes : lowest_record t (shape_fault l t) ≡ misshapen) where
   pub shape-refused : (r : Refusal) → Err r ≡ refuse_at Rule.Shape misshapen → Err r ≡ from_shapes l t
   unfolding from_shapes
   shape-refused r e =
@@ -117,7 +118,8 @@ pub check-uneven : (l : Language) (t : List ℕ) → (length t ≡ 0 → ⊥) �
     → refused Rule.Length 0 ≡ check l t
 check-uneven l t d e =
     sym (check-as l t
-    ∙ (λ i. in_order (ne_eqb (length t) 0 d i || not (ne_eqb (length t % 16) 0 e i)) (count_fault l t) (from_records l t)))
+    ∙ (λ i. in_order (ne_eqb (length t) 0 d i || not (ne_eqb (length t % 16) 0 e i)) (count_fault l t)
+    (from_records l t)))
 
 pub check-many : (l : Language) (t : List ℕ) → (length t ≡ 0 → ⊥) → length t % 16 ≡ 0 → record_limit l < record_count t
     → refused Rule.Count 0 ≡ check l t

@@ -1,10 +1,10 @@
 -- The rules in their order, from each on.
 use Rattle.rules.specs.Kinds.{Language}
 use Rattle.rules.specs.declared.{Rule.Rule}
-use Rattle.std.specs.Prelude.{ℕ, List}
+use Rattle.std.specs.Prelude.{ℕ, List, is_err}
 use Rattle.rules.specs.Types.{Checked}
-use Rattle.rules.specs.Checker.{lowest_record, record_fault, shape_fault, scope_fault, refuse_by, refuse_at, ◌otherwise◌, last_rule}
-use Rattle.std.specs.Prelude.{is_err}
+use Rattle.rules.specs.Checker.{lowest_record, record_fault, shape_fault, scope_fault, refuse_by, refuse_at}
+use Rattle.rules.specs.Checker.{◌otherwise◌, last_rule}
 
 unfoldable pub from_scopes : Language → List ℕ → Checked
 from_scopes l t = refuse_at Rule.Scope (lowest_record t (scope_fault l t)) otherwise last_rule l t

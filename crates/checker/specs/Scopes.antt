@@ -1,14 +1,13 @@
 -- Variables in scope as the bits of a number, and what is noted below a record.
-use Rattle.std.specs.Prelude.{ℕ, zero, suc, ◌/◌, ◌%◌, ◌<◌, ◌≤◌, Bool, true, false, not, cond, List, ◌≡◌, eqb, ltb, leb, length, get_or}
+use Rattle.std.specs.Prelude.{ℕ, zero, suc, ◌/◌, ◌%◌, ◌<◌, ◌≤◌, Bool, true, false, not, cond, List, ◌≡◌, eqb}
+use Rattle.std.specs.Prelude.{ltb, leb, length, get_or, None, is_err}
 use Rattle.rules.specs.Sizes.{temporary_count}
 use Rattle.rules.specs.Records.{fields_of, record_count, kind_of, record_at}
 use Rattle.rules.specs.Kinds.{Language, record_limit}
-use Rattle.rules.specs.Checker.{lowest_record, record_fault, times_child_of, shape_fault, scope_fault, is_term_or_predicate}
-use Rattle.rules.specs.Checker.{level_below, position_in, highest_named}
+use Rattle.rules.specs.Checker.{lowest_record, record_fault, times_child_of, shape_fault, scope_fault}
+use Rattle.rules.specs.Checker.{is_term_or_predicate, level_below, position_in, highest_named}
 use Rattle.checker.specs.Notes.{noted}
-use Rattle.std.specs.Prelude.{None}
 use Rattle.rules.specs.Types.{Search}
-use Rattle.std.specs.Prelude.{is_err}
 
 unfoldable pub bit : ℕ → ℕ → Bool
 bit s zero = eqb (s % 2) 1

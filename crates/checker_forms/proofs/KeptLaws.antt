@@ -12,28 +12,29 @@ use Rattle.std.specs.Prelude.{Option, None, Some, Ok, Err}
 use Rattle.rules.specs.declared.{Rule.Rule}
 use Rattle.rules.specs.contracts.Sort.{the_type}
 use Rattle.rules.specs.Records.{kind_of, record_at}
-use Rattle.rules.specs.Kinds.{Language, source, target, Sort, expression, place, term, predicate, statement, sort_number}
-use Rattle.rules.specs.Kinds.{child, forms, form_of}
+use Rattle.rules.specs.Kinds.{Language, source, target, Sort, expression, place, term, predicate, statement}
+use Rattle.rules.specs.Kinds.{sort_number, child, forms, form_of}
 use Rattle.rules.specs.Checker.{fields_fit, form_sort, sort_of, child_fits, children_fit, fault_of, record_fault}
 use Rattle.rules.proofs.Acceptance.KindViews.{Each, found-form}
 use Rattle.rules.proofs.Acceptance.FormLaws.{faultless}
 use Rattle.rules.proofs.Acceptance.SaidLaws.{faults}
+use Rattle.checker_forms.specs.declared.{Form.Form}
 use Rattle.checker_forms.specs.Forms.{form_from, asked, sort_by}
 
 -- rules 3 to 5 by the form of a record's kind
-module _ (l : Language) (t : List ℕ) (n k : ℕ) (o : Option Rattle.checker_forms.specs.declared.Form.Form)
+module _ (l : Language) (t : List ℕ) (n k : ℕ) (o : Option Form)
     (kind : k ≡ kind_of t n) (asks : form_of l k ≡ asked k o) where
   fault-asked : record_fault l t n ≡ fault_of l t n (asked k o)
   unfolding record_fault
   fault-asked = ap (λ (i : ℕ). fault_of l t n (form_of l i)) (sym kind) ∙ ap (fault_of l t n) asks
 
   pub no_form : o ≡ None → record_fault l t n ≡ Err Rule.Kind
-  no_form e = fault-asked ∙ ap (λ (p : Option Rattle.checker_forms.specs.declared.Form.Form). fault_of l t n (asked k p)) e
+  no_form e = fault-asked ∙ ap (λ (p : Option Form). fault_of l t n (asked k p)) e
 
-  pub some_form : (f : Rattle.checker_forms.specs.declared.Form.Form) → o ≡ Some f → record_fault l t n
+  pub some_form : (f : Form) → o ≡ Some f → record_fault l t n
       ≡ faults (fields_fit (form_from 0 f) (record_at t n)) (children_fit l t n (form_from 0 f) (record_at t n))
   some_form f e =
-      fault-asked ∙ ap (λ (p : Option Rattle.checker_forms.specs.declared.Form.Form). fault_of l t n (asked k p)) e
+      fault-asked ∙ ap (λ (p : Option Form). fault_of l t n (asked k p)) e
 
 -- ---- the sort by the kind
 each-sort : (l : Language) → Each (λ f. f.sort ≡ sort_by f.kind) (forms l)

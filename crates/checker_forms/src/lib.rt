@@ -6,12 +6,11 @@ mod fits;
 mod kinds;
 
 ghost use Rattle.std.specs.Prelude.{◌≡◌};
-ghost use Rattle.rules.specs.Kinds.{form_of};
 ghost use Rattle.rules.specs.Checker.{record_fault};
 ghost use Rattle.table.specs.Within.{Within};
-ghost use Rattle.checker_forms.specs.Forms.{asked, sort_by, Before};
+ghost use Rattle.checker_forms.specs.Forms.{sort_by, Before};
 
-use kinds::kind_form;
+pub use kinds::form_of;
 use rules::{Language, Rule, Sort};
 
 // What a kind has in a field: nothing, a child of a sort, a number from a lowest to a highest, or a term's operator.
@@ -31,41 +30,26 @@ pub enum Literal {
     Statement,
 }
 
-// What a kind asks.
+// What a kind asks; A and B are for a child or for none.
 #[derive(Clone, Copy)]
 pub struct Form {
     pub sort: Sort,
     pub mark: Field,
-    pub a: Field,
-    pub b: Field,
+    pub a: Option<Sort>,
+    pub b: Option<Sort>,
     pub c: Field,
     pub literal: Literal,
-}
-
-// "A target table has no kind 20–35 or 48." "From kind 40 on, a target literal is the number of the source statement"
-#[tactic(auto, unfolding(rules::specs::Kinds::form_of, rules::specs::Kinds::look_up))]
-pub fn form_of(language: Language, kind: u8) -> Option<Form>
-    ensures { form_of language kind ≡ asked kind result }
-{
-    match (language, kind) {
-        (Language::Source, 12 | 60..) | (Language::Target, 20..=39 | 48) => None,
-        (Language::Target, 40..) => kind_form(kind).map(|form| Form {
-            literal: Literal::Statement,
-            ..form
-        }),
-        _ => kind_form(kind),
-    }
 }
 
 // The sort of a kind that the language has.
 pub fn sort_of(kind: u8) -> Sort
     ensures { result ≡ sort_by kind }
 {
-    match kind {
-        0..=9 => Sort::Expression,
-        10..=19 => Sort::Place,
-        20..=29 => Sort::Term,
-        30..=39 => Sort::Predicate,
+    match kind / 10 {
+        0 => Sort::Expression,
+        1 => Sort::Place,
+        2 => Sort::Term,
+        3 => Sort::Predicate,
         _ => Sort::Statement,
     }
 }

@@ -5,7 +5,8 @@ use Rattle.checker_forms.specs.Forms.{Before}
 use Rattle.checker.specs.Scopes.{Formed}
 use Rattle.checker.proofs.OrderLaws.{record-refused, record-kept, records-kept, shapes-next}
 use Rattle.checker.proofs.check_records.Goals as goal
-use Rattle.checker.proofs.check_records.Goals.{Left-loop-n, else-loop-n-test, then-loop-n-test+in_ok-check_record+else-n-n-end}
+use Rattle.checker.proofs.check_records.Goals.{Left-loop-n, else-loop-n-test}
+use Rattle.checker.proofs.check_records.Goals.{then-loop-n-test+in_ok-check_record+else-n-n-end}
 
 pub returns-in_err-check_record : goal.returns-in_err-check_record
 returns-in_err-check_record c =
@@ -24,7 +25,8 @@ formed c =
       | else-loop-n-test w ↦ records-kept a.language a.table.now e.n e.invariant (omega arith) c.requires
       | then-loop-n-test+in_ok-check_record+else-n-n-end w ↦
           let last : Before a.language a.table.now (e.n + 1) =
-          record-kept a.language a.table.now e.n e.invariant w.in_ok-check_record.field-0 w.in_ok-check_record.ensures in
+          record-kept a.language a.table.now e.n e.invariant w.in_ok-check_record.field-0
+          w.in_ok-check_record.ensures in
           records-kept a.language a.table.now (e.n + 1) last (omega arith) c.requires
     ]
 

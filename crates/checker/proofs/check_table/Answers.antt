@@ -2,7 +2,8 @@
 use Rattle.std.proofs.Common.{◌∙◌, arith}
 use Rattle.checker.proofs.OrderLaws.{check-empty, check-uneven, check-many, check-rest}
 use Rattle.checker.proofs.check_table.Goals as goal
-use Rattle.checker.proofs.check_table.Goals.{then-table-eq0-via-then-table-eq0, then-table-eq0-via-else-table-eq0+then-table-ne0}
+use Rattle.checker.proofs.check_table.Goals.{then-table-eq0-via-then-table-eq0}
+use Rattle.checker.proofs.check_table.Goals.{then-table-eq0-via-else-table-eq0+then-table-ne0}
 
 pub returns-then-table-eq0 : goal.returns-then-table-eq0
 returns-then-table-eq0 c =

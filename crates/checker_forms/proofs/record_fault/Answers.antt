@@ -19,7 +19,8 @@ said c =
 pub returns-then-not-fields_fit : goal.returns-then-not-fields_fit
 returns-then-not-fields_fit c =
     let a = c.args in
-    let children = children_fit a.language a.table.now a.n (form_from 0 c.in_ok-form.form) (record_at a.table.now a.n) in
+    let f = form_from 0 c.in_ok-form.form in
+    let children = children_fit a.language a.table.now a.n f (record_at a.table.now a.n) in
     sym (said (goal.at.returns-then-not-fields_fit c).In_ok-form
     ∙ ap (λ (b : Bool). faults b children) (sym c.if-not-fields_fit.ensures))
 

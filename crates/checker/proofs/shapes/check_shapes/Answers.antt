@@ -19,7 +19,8 @@ is_out_of_scope-requires c =
     let l = a.language in
     let t = a.table.now in
     let e = c.loop-n in
-    let none : record_fault l t e.n ≡ Ok tt = no-fault l t c.requires.formed e.n c.loop-n-test.true e.invariant.within in
+    let none : record_fault l t e.n ≡ Ok tt =
+    no-fault l t c.requires.formed e.n c.loop-n-test.true e.invariant.within in
     let ek = c.kind-kind.ensures in
     let em = c.mark-mark.ensures in (
       λ h. subst (λ (m : ℕ). m < 64) (sym em) (mark-used l t e.n none (sym ek ∙ h)),
@@ -32,7 +33,8 @@ scope_below-requires c =
     let l = a.language in
     let t = a.table.now in
     let e = c.loop-n in
-    let none : record_fault l t e.n ≡ Ok tt = no-fault l t c.requires.formed e.n c.loop-n-test.true e.invariant.within in
+    let none : record_fault l t e.n ≡ Ok tt =
+    no-fault l t c.requires.formed e.n c.loop-n-test.true e.invariant.within in
     let ek = c.kind-kind.ensures in
     let em = c.mark-mark.ensures in
     λ h. subst (λ (m : ℕ). m < 64) (sym em) (mark-let l t e.n none (sym ek ∙ h))
