@@ -88,15 +88,17 @@ module _ (i : List ℕ) (e : inputs_fault i ≡ false) (l o : List ℕ) (s : l �
 
   -- what a run leaves is exact
   pub entry-ends : (t : List ℕ) (f : ℕ) {r : Ended} {l₁ o₁ : List ℕ} {k : ℕ}
-      → Leaves (watch (target_program t) start_variables (watching (memory_of l) (observation_of o) start_temporaries) f) r
-      l l₁ o o₁
+      → Leaves
+      (watch (target_program t) start_variables (watching (memory_of l) (observation_of o) start_temporaries) f) r l l₁
+      o o₁
       → k ≡ count_free (memory_of l₁).cells
       → AnsweredBy (watched_ended (ending (watched_outcome t i f))) (ended_answer r k) l₁ o₁
   entry-ends t f {r} {l₁} {o₁} w g =
       let v : Leaves (watched_outcome t i f) r l l₁ o o₁ = rw (start-view, observation-view) at w in
       record {
         answer =
-            rw (v.answer, g, v.memory.view) (sym (ended-answers (λ (x : WatchedState). x.memory) (watched_outcome t i f)));
+            rw (v.answer, g, v.memory.view)
+            (sym (ended-answers (λ (x : WatchedState). x.memory) (watched_outcome t i f)));
         memory = v.memory.exact (s ∙ ap memory_image (sym start-view)) ∙ ap memory_image v.memory.view;
         observation =
             v.observation.exact (observation-start ∙ ap observation_image (sym observation-view))

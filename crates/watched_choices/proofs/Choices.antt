@@ -20,7 +20,8 @@ not_on (inr e) d = absurd (d e)
 module _ (t : List ℕ) (n : ℕ) (τ : Temporaries) (ρ : Variables) (m : Memory) where
   chosen_by : Bool → Test
   chosen_by b =
-      condition (cond b (held_in τ (mark_of t n)) (evaluate (target_expression_at t (child_a t n)) (temporary_of τ) ρ m))
+      condition
+      (cond b (held_in τ (mark_of t n)) (evaluate (target_expression_at t (child_a t n)) (temporary_of τ) ρ m))
 
   pub choice-on : kind_of t n ≡ 66 → condition (held_in τ (mark_of t n)) ≡ choice t n τ ρ m
   unfolding chosen_by

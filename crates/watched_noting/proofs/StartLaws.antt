@@ -3,7 +3,8 @@ use Prim.Native.Nat.{ℕ, suc, ◌+◌}
 use native.Mathlib.Omega.{arith}
 use mathlib.Core.List.{List}
 use mathlib.Core.Path.{◌≡◌, sym, ap, ◌∙◌, subst}
-use Rattle.rules.specs.Observation.{Observation, empty_observation, record_block, mark_cell, mark_all, start_observation}
+use Rattle.rules.specs.Observation.{Observation, empty_observation, record_block, mark_cell, mark_all}
+use Rattle.rules.specs.Observation.{start_observation}
 use Rattle.rules.specs.Layout.{observation_of, observation_image}
 use Rattle.rules.proofs.Layouts.LayoutLaws.{observation-back}
 use Rattle.rules.proofs.Layouts.KeptPredicates.{empty-inside}

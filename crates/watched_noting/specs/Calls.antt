@@ -11,7 +11,8 @@ IsNote k = (k ≡ 68) ⊎ (k ≡ 69)
 
 abbrev pub note_of : ℕ → Temporaries → ℕ → Observation → Noted
 note_of k τ n o =
-    cond (eqb k 68) (called_on_two (held_in τ n) (held_in τ (suc n)) (store_block o)) (called_on (held_in τ n) (delete_block o))
+    cond (eqb k 68) (called_on_two (held_in τ n) (held_in τ (suc n)) (store_block o))
+    (called_on (held_in τ n) (delete_block o))
 
 -- before a run no mark has an owner
 abbrev pub no_owners : MarkOwners

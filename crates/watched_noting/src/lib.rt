@@ -6,7 +6,8 @@ ghost use Rattle.std.specs.Prelude.{◌≡◌, suc, ◌+◌, ◌<◌, ◌≤◌}
 ghost use Rattle.rules.specs.Sizes.{temporary_count, input_limit};
 ghost use Rattle.rules.specs.Kinds.{statement, target};
 ghost use Rattle.rules.specs.Records.{kind_of, mark_of};
-ghost use Rattle.rules.specs.Observation.{store_block, delete_block, initialise, record_block, mark_all, start_observation};
+ghost use Rattle.rules.specs.Observation.{store_block, delete_block, initialise, record_block, mark_all};
+ghost use Rattle.rules.specs.Observation.{start_observation};
 ghost use Rattle.rules.specs.Watched.{held_in, called_on, called_on_two};
 ghost use Rattle.rules.specs.Layout.{observation_of, observation_image};
 ghost use Rattle.rules.specs.Nodes.{HasSort};

@@ -138,7 +138,8 @@ module _ {t : List ℕ} {n : ℕ} (ρ : Variables) (h : Ready t n) where
         (next-stays (first_child x f) second_child (ran-into 0 (part (child_a t n) (state_of x) f) w))
 
   -- what it runs first ends it
-  pub first-stays : (f : ℕ) {c : Stopped} {x y : Lent} → Runs t (first_of t n) ρ f (Err c) x y → Runs t n ρ f (Err c) x y
+  pub first-stays : (f : ℕ) {c : Stopped} {x y : Lent} → Runs t (first_of t n) ρ f (Err c) x y
+      → Runs t n ρ f (Err c) x y
   first-stays f {c} {x} {y} w = by (ℕ_discrete (kind_of t n) 44)
     where
       by : Dec (kind_of t n ≡ 44) → Runs t n ρ f (Err c) x y

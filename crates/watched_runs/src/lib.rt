@@ -16,8 +16,8 @@ use rules::{
 };
 use run_endings::{Ended, Stopped};
 
-// Runs statement n. Of a sequence A runs, and B where A finished; as B may be one again, they are a loop. Only an A that
-// is a sequence is run by a call of its own.
+// Runs statement n. Of a sequence A runs, and B where A finished; as B may be one again, they are a loop. Only an A
+// that is a sequence is run by a call of its own.
 #[cycle(run)]
 pub fn run(
     table: &Table,

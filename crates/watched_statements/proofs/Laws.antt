@@ -94,4 +94,5 @@ next-stays (ended c s ρ w z f) k h = h
 pub fuel-left : (s : TargetStatement) (ρ : Variables) (f : ℕ) {g : ℕ} {x y : Lent} → Ran (watch_from s ρ x f) (Ok g) x y
     → g ≤ f
 fuel-left s ρ f {g} {x} h =
-    rw (ap (λ (w : Outcome WatchedState). (ending w).fuel) (finished-is (watch_from s ρ x f) h)) at (watch-fuel s ρ (state_of x) f)
+    rw (ap (λ (w : Outcome WatchedState). (ending w).fuel) (finished-is (watch_from s ρ x f) h)) at
+    (watch-fuel s ρ (state_of x) f)

@@ -12,4 +12,5 @@ pub loop-i-preserved : goal.loop-i-preserved
 loop-i-preserved c =
     let l = c.loop-i in
     let f : SFits w64 (pos l.i) = record { sfits = omega arith } in
-    mark-more (observation_of c.args.obs.now) c.args.name l.i l.invariant (rw (to_z-of_z f) at c.initialise.ensures.memory)
+    mark-more (observation_of c.args.obs.now) c.args.name l.i l.invariant
+    (rw (to_z-of_z f) at c.initialise.ensures.memory)

@@ -96,7 +96,8 @@ repeat-returns-in_err-left-in-Ok-true-clause-outcome t c =
 
 pub repeat-loop-left-smaller : goal.repeat-loop-left-smaller
 repeat-loop-left-smaller t c =
-    let e : c.in_ok-left-in-Ok-true.left ≤ c.loop-left.left - 1 = fuel-left _ _ _ c.in_ok-left-in-Ok-true.ensures.outcome in
+    let e : c.in_ok-left-in-Ok-true.left ≤ c.loop-left.left - 1 =
+    fuel-left _ _ _ c.in_ok-left-in-Ok-true.ensures.outcome in
     omega arith
 
 pub repeat-loop-left-preserved : goal.repeat-loop-left-preserved
@@ -116,7 +117,8 @@ repeat-loop-left-preserved t c =
 pub repeat-returns-in-Ok-false-clause-outcome : goal.repeat-returns-in-Ok-false-clause-outcome
 repeat-returns-in-Ok-false-clause-outcome t c =
     c.loop-left.invariant.remaining.ends
-    (turn-ends _ c.requires.0 c.requires.1 _ _ (omega arith) (sym c.test_a.ensures ∙ c.in-Ok-false.is ∙ ap Ok c.in-Ok-false.field-0-test))
+    (turn-ends _ c.requires.0 c.requires.1 _ _ (omega arith)
+    (sym c.test_a.ensures ∙ c.in-Ok-false.is ∙ ap Ok c.in-Ok-false.field-0-test))
 
 pub repeat-returns-in-Err-clause-outcome : goal.repeat-returns-in-Err-clause-outcome
 repeat-returns-in-Err-clause-outcome t c =
@@ -175,7 +177,8 @@ run-returns-in_err-left-2-clause-outcome t c =
 pub run-loop-next-smaller-in_ok-left : goal.run-loop-next-smaller-in_ok-left
 run-loop-next-smaller-in_ok-left t c =
     let e = rw c.in-Some.is at c.loop-next.invariant.remaining in
-    rw (c.rest_of-next.ensures, c.in-Some.is) (goes-on e (rw c.first_of-first.ensures at c.in_ok-left.ensures.outcome)).1
+    rw (c.rest_of-next.ensures, c.in-Some.is)
+    (goes-on e (rw c.first_of-first.ensures at c.in_ok-left.ensures.outcome)).1
 
 pub run-loop-next-preserved-in_ok-left : goal.run-loop-next-preserved-in_ok-left
 run-loop-next-preserved-in_ok-left t c =
@@ -188,7 +191,8 @@ run-loop-next-preserved-in_ok-left t c =
 pub run-loop-next-smaller : goal.run-loop-next-smaller
 run-loop-next-smaller t c =
     let e = rw c.in-Some.is at c.loop-next.invariant.remaining in
-    rw (c.rest_of-next.ensures, c.in-Some.is) (goes-on e (rw c.first_of-first.ensures at c.in_ok-left-2.ensures.outcome)).1
+    rw (c.rest_of-next.ensures, c.in-Some.is)
+    (goes-on e (rw c.first_of-first.ensures at c.in_ok-left-2.ensures.outcome)).1
 
 pub run-loop-next-preserved : goal.run-loop-next-preserved
 run-loop-next-preserved t c =
@@ -221,7 +225,8 @@ run_inside-returns-in_err-left-clause-outcome t c =
     let p = err_from_is_err_and c.from_residual.result c.from_residual.ensures.1 in
     rw (p.1, p.2)
     (inside-stays a.table.now a.n (variables_of a.variables) a.name _ a.fuel
-    (child a.table.now a.n a.name _ _ a.variables a.fuel g c.child_a-body.ensures c.mark-variable.ensures c.requires.0.mark
+    (child a.table.now a.n a.name _ _ a.variables a.fuel g c.child_a-body.ensures c.mark-variable.ensures
+    c.requires.0.mark
     c.in_err-left.ensures.outcome))
 
 pub run_inside-returns-clause-outcome : goal.run_inside-returns-clause-outcome
@@ -229,6 +234,7 @@ run_inside-returns-clause-outcome t c =
     let a = c.args in
     let g : length a.variables ≡ 64 = search rules in
     inside-ends a.table.now a.n (variables_of a.variables) a.name _ a.fuel
-    (child a.table.now a.n a.name _ _ a.variables a.fuel g c.child_a-body.ensures c.mark-variable.ensures c.requires.0.mark
+    (child a.table.now a.n a.name _ _ a.variables a.fuel g c.child_a-body.ensures c.mark-variable.ensures
+    c.requires.0.mark
     c.in_ok-left.ensures.outcome)
     c.end.ensures.memory

@@ -14,7 +14,9 @@ use Rattle.watched_statements.proofs.ActLaws.{watch-take, watch-note, take-betwe
 use Rattle.watched_statements.proofs.ActLaws.{acts-taken, acts-observed, acts-asserted}
 use Rattle.watched_statements.proofs.ReadyLaws.{ready-within}
 use Rattle.watched_statements.proofs.act.Goals as goal
-use Rattle.watched_statements.proofs.act.Goals.{In_default, in_default-via-then-this-lt63, in_default-via-else-this-lt63+else-this-lt66}
+use Rattle.watched_statements.proofs.act.Goals.{In_default}
+use Rattle.watched_statements.proofs.act.Goals.{in_default-via-then-this-lt63}
+use Rattle.watched_statements.proofs.act.Goals.{in_default-via-else-this-lt63+else-this-lt66}
 
 pub kind-requires : goal.kind-requires
 kind-requires c = ready-within c.requires.0
