@@ -21,7 +21,7 @@ exists() {
     case $name in
     *.rs::*) grep -A1 -Fx '#[test]' "tests/${name%%::*}" | grep -qxF "fn ${name##*::}() {" ;;
     *::*)
-        grep -qE "(fn ${name##*::}\(|pub use [a-z_:]+::(\{([a-z_]+, )*)?${name##*::}((, [a-z_]+)*\})?;)" \
+        grep -qE "(fn ${name##*::}[(<]|pub use [a-z_:]+::(\{([a-z_]+, )*)?${name##*::}((, [a-z_]+)*\})?;)" \
             "crates/${name%%::*}/src/"*.rt
         ;;
     crates/* | docs/* | tests/*) [ -e "$name" ] ;;
