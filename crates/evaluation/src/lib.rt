@@ -116,7 +116,7 @@ pub fn evaluate(
             let second = table::child_b(&table[..], n);
             let b = evaluate_operand(table, second, variables, temporaries, mem)?;
             let operator = Operator::from(table::mark(&table[..], n));
-            evaluation_answers::restate(evaluation_operators::operate(mem, operator, a, b))
+            evaluation_operators::operate(mem, operator, a, b)
         }
     }
 }

@@ -23,6 +23,7 @@ impl Liveness for Blocks<'_> {
 }
 
 // An operator on two values: 47 where it compares a pointer into a block that is not live.
+#[inline(always)]
 pub fn operate(mem: &ExecutionMemory, operator: Operator, a: Value, b: Value) -> Evaluated
     ensures { result ≡ operate (live_block (memory_of mem.now)) operator a b }
 {

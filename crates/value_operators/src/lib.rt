@@ -15,6 +15,8 @@ pub trait Liveness {
         ensures { result ≡ live self.now name };
 }
 
+// Inlined, as what calls it is, so that a value goes into its place once.
+#[inline(always)]
 #[tactic(auto, unfolding(rules::specs::Numbers::on_integers))]
 fn operate_integers(operator: Operator, x: i64, y: i64) -> Evaluated
     ensures { result ≡ on_integers operator x y }
@@ -60,6 +62,7 @@ fn compare<M: Liveness>(memory: &M, operator: Operator, p: Pointer, q: Pointer) 
 
 // An operator on two values: 40 where it does not take their sorts, 47 where it compares a pointer into a block that is
 // not live.
+#[inline(always)]
 #[tactic(auto, unfolding(rules::specs::Numbers::operate))]
 pub fn operate_where<M: Liveness>(memory: &M, operator: Operator, a: Value, b: Value) -> Evaluated
     ensures { result ≡ operate (M.live memory.now) operator a b }

@@ -102,8 +102,7 @@ evaluate-returns-in_ok-b-in_default t c =
     (λ k. omega arith) (λ k. omega arith) (λ k. omega arith) in
     operation-arm a.table.now τ (variables_of a.variables.now) m a.n h
     c.child_a-first.ensures c.evaluate_operand.ensures c.child_b-second.ensures c.evaluate_operand-in_default.ensures
-    (c.restate.ensures
-    ∙ c.operate.ensures
+    (c.operate.ensures
     ∙ ap (λ (o : Operator). operate (live_block m) o c.in_ok-a-in_default.a c.in_ok-b-in_default.b)
     (c.from-operator.ensures ∙ ap operator_of c.mark.ensures)
     ∙ sym (ap₂ (operated (live_block m) (operator_of (mark_of a.table.now a.n)))
