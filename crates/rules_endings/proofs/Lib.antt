@@ -5,3 +5,5 @@ pub mod UsedChanges
 pub mod NamedPointers
 pub mod StatementsTold
 pub mod DeadOrOutside
+pub mod AskedBlocks
+pub mod Orders
