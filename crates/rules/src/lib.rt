@@ -7,14 +7,14 @@ mod sizes;
 
 pub use sizes::{
     BLOCKS_LENGTH, CELL_COUNT, ExecutionMemory, INPUT_LIMIT, LAST_NAME, MEMORY_LENGTH, NAME_COUNT,
-    OBSERVATION_LENGTH, ObservationMemory, SOURCE_LIMIT, TABLE_LENGTH, TARGET_LIMIT,
+    OBSERVATION_LENGTH, OWNERS_LENGTH, ObservationMemory, SOURCE_LIMIT, TABLE_LENGTH, TARGET_LIMIT,
     TEMPORARIES_LENGTH, TEMPORARY_COUNT, Table, Temporaries, VARIABLE_COUNT, Variables,
 };
 
 // What a run counts as it goes: the free cells; a cell below which none is free; and the next name, one past the last
 // where all names are given. The order keeps the two that a new block adjusts alike apart, so that the compiler does not
 // read both at once just after one was written.
-#[derive(Clone, Copy)]
+#[derive(Clone, Copy, Debug, PartialEq, Eq)]
 pub struct Counts {
     pub free: usize,
     pub lowest: usize,
@@ -22,13 +22,14 @@ pub struct Counts {
 }
 
 // How far a run is: the fuel left; and the statement that it stopped at, once it has stopped.
-#[derive(Clone, Copy)]
+#[derive(Clone, Copy, Debug, PartialEq, Eq)]
 pub struct Progress {
     pub fuel: u32,
     pub statement: u32,
 }
 
 // The live block that has each mark, by its name, 0 where none has; and a mark below which each has an owner.
+#[derive(Clone, Copy, Debug, PartialEq, Eq)]
 pub struct MarkOwners {
     pub names: [u16; CELL_COUNT],
     pub lowest: usize,

@@ -41,3 +41,6 @@ pub type Temporaries = [u8; TEMPORARIES_LENGTH];
 pub const VARIABLE_COUNT: usize = 64;
 
 pub type Variables = [u16; VARIABLE_COUNT];
+
+// The numbers that `MarkOwners` has: a name for each mark, and the lowest.
+pub const OWNERS_LENGTH: usize = CELL_COUNT + 1;

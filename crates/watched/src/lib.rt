@@ -93,10 +93,6 @@ fn run_memories(
     watched_noting::start_observation(obs, &mut owners, inputs.len() / 8);
     let mut counts = memory_counts::start(inputs.len() / 8);
     let ended = run_table(table, mem, obs, &mut owners, &mut counts, fuel);
-    let MarkOwners {
-        names: _,
-        lowest: _,
-    } = owners;
     run_endings::answer_of(ended, counts.free as u32)
 }
 
