@@ -4,8 +4,12 @@
 
 ghost use Rattle.std.specs.Prelude.{◌≡◌, ℕ, Bool};
 ghost use Rattle.rules.specs.Numbers.{on_integers, on_pointer_and_integer, on_pointers, operate};
+ghost use Rattle.rules_endings.specs.ComparedBlocks.{compared_by, are_live, every_live};
 
 use rules::{Evaluated, Operator, Pointer, Stop, Value};
+
+// The blocks that an operator asks about, if it does.
+pub type Compared = Option<(u16, u16)>;
 
 // What an operator asks of a memory: whether the block of a name is live.
 pub trait Liveness {
@@ -45,32 +49,65 @@ fn shift(operator: Operator, p: Pointer, y: i64) -> Evaluated
     Ok(Value::Pointer(Pointer { offset, ..p }))
 }
 
-// Two pointers are compared where the blocks of both are live, and take no other operator.
+// Two pointers are compared, and take no other operator.
 #[tactic(auto, unfolding(rules::specs::Numbers::on_pointers))]
-fn compare<M: Liveness>(memory: &M, operator: Operator, p: Pointer, q: Pointer) -> Evaluated
-    ensures { result ≡ on_pointers (M.live memory.now) operator p q }
+fn compare(operator: Operator, p: Pointer, q: Pointer) -> Evaluated
+    ensures { result ≡ on_pointers every_live operator p q }
 {
     if operator != Operator::Equal {
         return Err(Stop::WrongSort);
     }
-    if memory.is_live(p.name) && memory.is_live(q.name) {
-        value::truth(p == q)
-    } else {
-        Err(Stop::NotLive)
+    value::truth(p == q)
+}
+
+// The blocks that an operator asks about: those of two pointers that equality compares.
+#[inline(always)]
+pub fn find_compared<K: Into<Operator>>(operator: K, a: Value, b: Value) -> Compared
+    ensures { (o : Operator) × K.converts operator o × (result ≡ compared_by o a b) }
+{
+    let operator = operator.into();
+    match (a, b) {
+        (Value::Pointer(p), Value::Pointer(q)) if operator == Operator::Equal => {
+            Some((p.name, q.name))
+        }
+        _ => None,
     }
 }
 
-// An operator on two values: 40 where it does not take their sorts, 47 where it compares a pointer into a block that is
-// not live.
+// Whether the blocks that are compared, if any, are live.
+#[inline(always)]
+fn are_live<M: Liveness>(memory: &M, compared: Compared) -> bool
+    ensures { result ≡ are_live (M.live memory.now) compared }
+{
+    match compared {
+        Some((x, y)) => memory.is_live(x) && memory.is_live(y),
+        None => true,
+    }
+}
+
+// An operator on two values where the blocks that it asks about are live: 40 where it does not take their sorts.
 #[inline(always)]
 #[tactic(auto, unfolding(rules::specs::Numbers::operate))]
-pub fn operate_where<M: Liveness>(memory: &M, operator: Operator, a: Value, b: Value) -> Evaluated
-    ensures { result ≡ operate (M.live memory.now) operator a b }
+pub fn operate<K: Into<Operator>>(operator: K, a: Value, b: Value) -> Evaluated
+    ensures { (o : Operator) × K.converts operator o × (result ≡ operate every_live o a b) }
 {
+    let operator = operator.into();
     match (a, b) {
         (Value::Integer(x), Value::Integer(y)) => operate_integers(operator, x, y),
         (Value::Pointer(p), Value::Integer(y)) => shift(operator, p, y),
-        (Value::Pointer(p), Value::Pointer(q)) => compare(memory, operator, p, q),
+        (Value::Pointer(p), Value::Pointer(q)) => compare(operator, p, q),
         _ => Err(Stop::WrongSort),
+    }
+}
+
+// An operator on two values, which asks a memory: 47 where a block that it asks about is not live.
+#[inline(always)]
+pub fn operate_where<M: Liveness>(memory: &M, operator: Operator, a: Value, b: Value) -> Evaluated
+    ensures { result ≡ operate (M.live memory.now) operator a b }
+{
+    if are_live(memory, find_compared(operator, a, b)) {
+        operate(operator, a, b)
+    } else {
+        Err(Stop::NotLive)
     }
 }

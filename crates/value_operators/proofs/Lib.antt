@@ -1,0 +1,2 @@
+-- Facts about operators.
+pub mod Asking
