@@ -13,9 +13,7 @@ ghost use Rattle.rules.specs.Watched.{temporary_of};
 ghost use Rattle.evaluation.specs.State.{variables_of, Settles};
 ghost use Rattle.evaluation_temporaries.specs.Bytes.{temporaries_of};
 
-use rules::{
-    Evaluated, ExecutionMemory, Found, Operator, Pointer, Table, Temporaries, Value, Variables,
-};
+use rules::{Evaluated, ExecutionMemory, Found, Pointer, Table, Temporaries, Value, Variables};
 
 // The value at a place.
 pub fn fetch(mem: &ExecutionMemory, f: Found) -> Evaluated
@@ -115,7 +113,7 @@ pub fn evaluate(
             let a = evaluate_operand(table, first, variables, temporaries, mem)?;
             let second = table::child_b(&table[..], n);
             let b = evaluate_operand(table, second, variables, temporaries, mem)?;
-            let operator = Operator::from(table::mark(&table[..], n));
+            let operator = table::mark(&table[..], n);
             evaluation_operators::operate(mem, operator, a, b)
         }
     }

@@ -22,10 +22,16 @@ impl Liveness for Blocks<'_> {
     }
 }
 
-// An operator on two values: 47 where it compares a pointer into a block that is not live.
+// An operator, or its number, on two values: 47 where it compares a pointer into a block that is not live.
 #[inline(always)]
-pub fn operate(mem: &ExecutionMemory, operator: Operator, a: Value, b: Value) -> Evaluated
-    ensures { result ≡ operate (live_block (memory_of mem.now)) operator a b }
+pub fn operate<K: Into<Operator>>(
+    mem: &ExecutionMemory,
+    operator: K,
+    a: Value,
+    b: Value,
+) -> Evaluated
+    ensures { (o : Operator) × K.converts operator o
+        × (result ≡ operate (live_block (memory_of mem.now)) o a b) }
 {
-    value_operators::operate_where(&Blocks(mem), operator, a, b)
+    value_operators::operate_where(&Blocks(mem), operator.into(), a, b)
 }

@@ -29,11 +29,12 @@ pub fn is_live(mem: &ExecutionMemory, name: u16) -> bool
     )
 }
 
-// The five queries of a pointer.
-pub fn query(mem: &ExecutionMemory, q: Query, p: Pointer) -> Evaluated
-    ensures { result ≡ queried q (recorded_of (block_of (memory_of mem.now) p.name))
-        (λ i. is_initialised (cell_of (memory_of mem.now) i)) p }
+// The five queries of a pointer, each by itself or by its number.
+pub fn query<Q: Into<Query>>(mem: &ExecutionMemory, query: Q, p: Pointer) -> Evaluated
+    ensures { (q : Query) × Q.converts query q
+        × (result ≡ queried q (recorded_of (block_of (memory_of mem.now) p.name))
+        (λ i. is_initialised (cell_of (memory_of mem.now) i)) p) }
 {
     let block = memory_cells::block(mem, p.name).into();
-    block_places::query(block, |i| is_initialised(mem, i), q, p)
+    block_places::query(block, |i| is_initialised(mem, i), query.into(), p)
 }

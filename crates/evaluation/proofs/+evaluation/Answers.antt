@@ -68,8 +68,8 @@ evaluate-evaluate_operand-requires-in_default t c =
     (λ k. omega arith) (λ k. omega arith) (λ k. omega arith)).b in
     rw c.child_b-second.ensures (omega arith, l.2)
 
-pub evaluate-mark-requires : goal.evaluate-mark-requires
-evaluate-mark-requires t c = within c.args.table.now c.args.n expression c.requires
+pub evaluate-mark-operator-requires : goal.evaluate-mark-operator-requires
+evaluate-mark-operator-requires t c = within c.args.table.now c.args.n expression c.requires
 
 pub evaluate-returns-in-1 : goal.evaluate-returns-in-1
 evaluate-returns-in-1 t c =
@@ -102,9 +102,9 @@ evaluate-returns-in_ok-b-in_default t c =
     (λ k. omega arith) (λ k. omega arith) (λ k. omega arith) in
     operation-arm a.table.now τ (variables_of a.variables.now) m a.n h
     c.child_a-first.ensures c.evaluate_operand.ensures c.child_b-second.ensures c.evaluate_operand-in_default.ensures
-    (c.operate.ensures
+    (c.operate.ensures.2
     ∙ ap (λ (o : Operator). operate (live_block m) o c.in_ok-a-in_default.a c.in_ok-b-in_default.b)
-    (c.from-operator.ensures ∙ ap operator_of c.mark.ensures)
+    (c.operate.ensures.1 ∙ ap operator_of c.mark-operator.ensures)
     ∙ sym (ap₂ (operated (live_block m) (operator_of (mark_of a.table.now a.n)))
     c.in_ok-a-in_default.was c.in_ok-b-in_default.was))
 
