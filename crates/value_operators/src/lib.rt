@@ -100,14 +100,28 @@ pub fn operate<K: Into<Operator>>(operator: K, a: Value, b: Value) -> Evaluated
     }
 }
 
-// An operator on two values, which asks a memory: 47 where a block that it asks about is not live.
-#[inline(always)]
-pub fn operate_where<M: Liveness>(memory: &M, operator: Operator, a: Value, b: Value) -> Evaluated
-    ensures { result ≡ operate (M.live memory.now) operator a b }
+// An operator on two pointers, which asks a memory first: 47 where a block that it asks about is not live.
+fn ask_first<M: Liveness>(memory: &M, operator: Operator, p: Pointer, q: Pointer) -> Evaluated
+    ensures { result ≡ on_pointers (M.live memory.now) operator p q }
 {
+    let (a, b) = (Value::Pointer(p), Value::Pointer(q));
     if are_live(memory, find_compared(operator, a, b)) {
         operate(operator, a, b)
     } else {
         Err(Stop::NotLive)
+    }
+}
+
+// An operator on two values, on a memory. Two pointers alone can be asked about: others pay for no question.
+#[inline(always)]
+#[tactic(auto, unfolding(rules::specs::Numbers::operate))]
+pub fn operate_where<M: Liveness>(memory: &M, operator: Operator, a: Value, b: Value) -> Evaluated
+    ensures { result ≡ operate (M.live memory.now) operator a b }
+{
+    match (a, b) {
+        (Value::Integer(x), Value::Integer(y)) => operate_integers(operator, x, y),
+        (Value::Pointer(p), Value::Integer(y)) => shift(operator, p, y),
+        (Value::Pointer(p), Value::Pointer(q)) => ask_first(memory, operator, p, q),
+        _ => Err(Stop::WrongSort),
     }
 }
