@@ -23,10 +23,10 @@ fn rounds_up(q: i64, r: i64, b: i64) -> bool
     requires { nat_abs r < nat_abs b }
     ensures { result ≡ rounds_up (nat_abs q) (nat_abs r) (nat_abs b) }
 {
-    let below = r.unsigned_abs();
-    let above = b.unsigned_abs() - below;
+    let below = number::magnitude(r);
+    let above = number::magnitude(b) - below;
     if above == below {
-        return q.unsigned_abs() % 2 == 1;
+        return number::magnitude(q) % 2 == 1;
     }
     above < below
 }
