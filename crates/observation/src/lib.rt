@@ -11,10 +11,10 @@ pub use observation_deleting::delete_block;
 pub use observation_initialising::initialise;
 pub use observation_mark_queries::{is_initialised, is_valid};
 pub use observation_storing::store_block;
-use rules::ObservationMemory;
+use rules::{OBSERVATION_LENGTH, ObservationMemory};
 
 pub fn clear(obs: &mut ObservationMemory)
     ensures { obs.new ≡ observation_image empty_observation }
 {
-    obs.fill(0);
+    byte_fills::fill_bytes(&mut obs[..], 0, OBSERVATION_LENGTH, 0);
 }

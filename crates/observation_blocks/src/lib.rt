@@ -32,9 +32,9 @@ fn clear_marks(obs: &mut ObservationMemory, first: u16, n: u16)
 {
     let at = BLOCKS_LENGTH + first as usize;
     if n == 1 {
-        obs[at] = 0;
+        byte_fills::put_byte(&mut obs[..], at, 0);
     } else {
-        obs[at..at + n as usize].fill(0);
+        byte_fills::fill_bytes(&mut obs[..], at, n as usize, 0);
     }
 }
 

@@ -15,7 +15,7 @@ fn write_mark(obs: &mut ObservationMemory, i: usize)
         (with_mark (observation_of obs.old) i) }
 {
     if i < CELL_COUNT {
-        obs[BLOCKS_LENGTH + i] = 1;
+        byte_fills::put_byte(&mut obs[..], BLOCKS_LENGTH + i, 1);
     }
 }
 
