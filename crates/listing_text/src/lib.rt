@@ -43,7 +43,10 @@ impl Text<'_> {
         requires { Room self.old (integer z) }
         ensures { Written self.old (integer z) self.new }
     {
-        self.push(Buffer::new().format(z).as_bytes());
+        if z < 0 {
+            self.push(b"-");
+        }
+        self.natural(number::magnitude(z));
     }
 
     // A number and the space behind it.
