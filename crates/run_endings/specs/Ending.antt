@@ -27,7 +27,7 @@ concluded (Err c) s f = Err (stopped_at c s f)
 abbrev pub after_turn : Progress → Progress
 after_turn p = record { fuel = p.fuel - 1; statement = p.statement }
 
-abbrev pub after_statement : Progress → Result Unit Stop → ℕ → Progress
+abbrev pub after_statement : {E : Type 0} → Progress → Result Unit E → ℕ → Progress
 after_statement p (Ok u) n = p
 after_statement p (Err c) n = record { fuel = p.fuel; statement = n }
 

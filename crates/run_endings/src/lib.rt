@@ -29,7 +29,7 @@ pub fn take_fuel(progress: &mut Progress)
 }
 
 // Statement n comes out so: a stop stops the run there.
-pub fn stop_at(progress: &mut Progress, outcome: Result<(), Stop>, n: u32) -> Result<(), Stop>
+pub fn stop_at<E>(progress: &mut Progress, outcome: Result<(), E>, n: u32) -> Result<(), E>
     ensures outcome { result ≡ «outcome» }
     ensures progress { progress.new ≡ after_statement progress.old «outcome» n }
 {
