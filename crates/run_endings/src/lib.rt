@@ -2,12 +2,11 @@
 
 #![tactic(auto)]
 
-ghost use Rattle.std.specs.Prelude.{◌≡◌, ◌<◌};
-ghost use Rattle.rules.specs.Types.{rule_number};
+ghost use Rattle.std.specs.Prelude.{◌≡◌, ◌<◌, ℕ};
 ghost use Rattle.rules.specs.Answers.{answer};
 ghost use Rattle.run_endings.specs.Ending.{concluded, asserted_true, after_turn, after_statement, ended_answer};
 
-use rules::{Answer, Progress, Rule, Stop, Test};
+use rules::{Answer, Progress, Stop, Test};
 
 // Why and at which statement a run stopped, and the fuel left.
 #[derive(Clone, Copy, Debug, PartialEq, Eq)]
@@ -64,9 +63,9 @@ pub fn assert_true(t: Test) -> Result<(), Stop>
     }
 }
 
-// A refusal.
-pub fn refuse(rule: Rule, n: u32) -> Answer
-    ensures { result ≡ answer (rule_number rule) n 0 0 }
+// A refusal, by its rule or by the number of one.
+pub fn refuse<R: Into<u32>>(rule: R, n: u32) -> Answer
+    ensures { (number : ℕ) × R.converts rule number × (result ≡ answer number n 0 0) }
 {
     Answer {
         number: rule.into(),
