@@ -115,12 +115,7 @@ pub struct Both {
 fn refuse_both(number: u32, record: u32) -> Both
     ensures { result ≡ both (answer number «record» 0 0) (answer number «record» 0 0) }
 {
-    let refused = Answer {
-        number,
-        record,
-        fuel: 0,
-        free_cells: 0,
-    };
+    let refused = run_endings::refuse(number, record);
     Both {
         plain: refused,
         watched: refused,
