@@ -36,7 +36,12 @@ fn first_held<P: Places>(places: &P, from: usize, end: usize) -> Option<usize>
     requires { end ≤ cell_count }
     ensures { FirstHeld (P.free places.now) from end result }
 {
-    (from..end).find(|place| !places.is_free(*place))
+    for place in from..end {
+        if !places.is_free(place) {
+            return Some(place);
+        }
+    }
+    None
 }
 
 // The lowest run of n free places, n from 1 on, looked for from a place below which none is free. A place that is not

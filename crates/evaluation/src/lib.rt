@@ -119,8 +119,9 @@ pub fn evaluate(
     }
 }
 
-// Where place n is.
+// Where place n is. Inlined, so that a chain of reads takes one call for each.
 #[cycle(evaluation)]
+#[inline(always)]
 pub fn find_place(
     table: &Table,
     n: usize,
