@@ -35,6 +35,7 @@ fn oppose(e: Evaluated) -> Evaluated
 }
 
 // What A of an 'or', or else of an 'and', decides: the whole where it is not 0, or where it is 0, and where it stops.
+#[tactic(auto, using(value::proofs::TestLaws::tests_condition))]
 fn join(either: bool, a: Evaluated) -> Option<Evaluated>
     ensures { result ≡ joint_of either a }
 {

@@ -33,6 +33,7 @@ fn test_a(
 }
 
 // What predicate A says.
+#[tactic(auto, using(value::proofs::TestLaws::tests_condition))]
 fn test_predicate(
     table: &Table,
     n: usize,

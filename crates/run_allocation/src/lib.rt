@@ -2,12 +2,13 @@
 
 #![tactic(auto)]
 
+ghost use Rattle.std.specs.Prelude.{Ok};
 ghost use Rattle.rules.specs.Memory.{freeable, make_block, store_new, new_of_size, allocated};
 ghost use Rattle.rules.specs.Layout.{memory_of};
 ghost use Rattle.memory_counts.specs.Counted.{Counted};
-ghost use Rattle.run_changes.specs.Changing.{Does};
+ghost use Rattle.run_changes.specs.Changing.{Does, DoesAs, IfGiven};
 
-use rules::{Counts, Evaluated, ExecutionMemory, Found, Pointer, Stop, Use, Value};
+use rules::{Counts, ExecutionMemory, Pointer, Stop, Use, Value};
 
 // A place takes the pointer to a new block of n cells.
 fn store_new(
@@ -42,18 +43,21 @@ fn new_of_size(
     store_new(mem, counts, p, z as usize)
 }
 
-// A place takes a new block.
-pub fn new_at(
+// A place takes a new block. What came in place of the place or the size goes out as it is, whatever its type; a stop
+// goes out as that type.
+pub fn new_at<E: From<Stop> + Drop>(
     mem: &mut ExecutionMemory,
     counts: &mut Counts,
-    f: Found,
-    e: Evaluated,
-) -> Result<(), Stop>
+    f: Result<Pointer, E>,
+    e: Result<Value, E>,
+) -> Result<(), E>
     requires { Counted (memory_of mem.old) counts.old }
-    ensures change { Does (allocated (memory_of mem.old) f e) result mem.old mem.new }
+    ensures change { IfGiven f (λ p. IfGiven e (λ v.
+        DoesAs E.from_gives (allocated (memory_of mem.old) (Ok p) (Ok v)) result mem.old mem.new)
+        result mem.old mem.new) result mem.old mem.new }
     ensures counts { Counted (memory_of mem.new) counts.new }
 {
     let p = f?;
     let size = i64::try_from(e?)?;
-    new_of_size(mem, counts, p, size)
+    Ok(new_of_size(mem, counts, p, size)?)
 }

@@ -1,3 +1,4 @@
 -- Laws for the proofs of a statement's changes.
 pub mod ChangeLaws
 pub mod CountedChanges
+pub mod OwnStops

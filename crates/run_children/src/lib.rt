@@ -70,6 +70,7 @@ pub fn evaluate_b(
 }
 
 // What condition A says.
+#[tactic(auto, using(value::proofs::TestLaws::tests_condition))]
 pub fn test_a(
     table: &Table,
     n: usize,

@@ -2,11 +2,11 @@
 
 #![tactic(auto)]
 
-ghost use Rattle.std.specs.Prelude.{◌≡◌};
-ghost use Rattle.rules.specs.Evaluation.{opposite, condition};
+ghost use Rattle.std.specs.Prelude.{◌≡◌, Ok, Err, MatchResult, IsErrAnd};
+ghost use Rattle.rules.specs.Evaluation.{opposite};
 ghost use Rattle.rules.specs.Numbers.{truth_value, tested};
 
-use rules::{Evaluated, Test, Value};
+use rules::{Evaluated, Stop, Test, Value};
 
 // 1 or 0.
 pub fn truth(b: bool) -> Evaluated
@@ -22,10 +22,13 @@ fn test_value(v: Value) -> Test
     Ok(i64::try_from(v)? != 0)
 }
 
-pub fn test(e: Evaluated) -> Test
-    ensures { result ≡ condition e }
+// What came in place of a value goes out as it is, whatever its type; a stop goes out as that type.
+pub fn test<E: From<Stop> + Drop>(e: Result<Value, E>) -> Result<bool, E>
+    ensures { MatchResult e
+        (λ v. MatchResult (tested v) (λ b. result ≡ Ok b) (λ s. IsErrAnd result (E.from_gives s)))
+        (λ x. result ≡ Err x) }
 {
-    test_value(e?)
+    Ok(test_value(e?)?)
 }
 
 // 1 for 0, else 0.

@@ -121,6 +121,7 @@ pub fn take(
 }
 
 // 66, 67: what temporary n says as a condition.
+#[tactic(auto, using(value::proofs::TestLaws::tests_condition))]
 pub fn test_temporary(temporaries: &Temporaries, n: usize) -> Test
     requires { n < temporary_count }
     ensures { result ≡ condition (held_in (temporaries_of temporaries.now) n) }

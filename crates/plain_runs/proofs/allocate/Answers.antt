@@ -2,6 +2,7 @@ use Rattle.rules.specs.Kinds.{source}
 use Rattle.rules.proofs.Runs.StatementArms.{new-children}
 use Rattle.rules.proofs.Runs.SharedExpressions.{target-expression, target-place, evaluated-alike, found_alike}
 use Rattle.rules.proofs.Runs.PlainArms.{run-new}
+use Rattle.run_changes.proofs.OwnStops.{does_allocated}
 use Rattle.plain_runs.proofs.Laws.{ran-does}
 use Rattle.plain_runs.proofs.ReadyLaws.{ready-within}
 use Rattle.plain_runs.proofs.allocate.Goals as goal
@@ -26,5 +27,5 @@ returns-clause-outcome c =
       found_alike _ _ _ _ _ q.0.2,
       c.evaluate_b-size.ensures,
       evaluated-alike _ _ _ _ _ q.1.2,
-    ) at c.new_at-outcome.ensures.change)
+    ) at (does_allocated _ _ c.new_at-outcome.ensures.change))
     c.stop_at.ensures.outcome c.stop_at.ensures.progress

@@ -3,6 +3,7 @@ use Rattle.rules.proofs.Runs.StatementArms.{assign-children}
 use Rattle.rules.proofs.Runs.SharedExpressions.{target-expression, target-place, evaluated-alike, found_alike}
 use Rattle.rules.proofs.Runs.PlainArms.{run-assign}
 use Rattle.run_changes.proofs.CountedChanges.{counted-assigned}
+use Rattle.run_changes.proofs.OwnStops.{does_assigned}
 use Rattle.plain_runs.proofs.Laws.{ran-does}
 use Rattle.plain_runs.proofs.ReadyLaws.{ready-within}
 use Rattle.plain_runs.proofs.assign.Goals as goal
@@ -27,8 +28,8 @@ returns-clause-outcome c =
       found_alike _ _ _ _ _ q.0.2,
       c.evaluate_b-value.ensures,
       evaluated-alike _ _ _ _ _ q.1.2,
-    ) at c.store_at-outcome.ensures)
+    ) at (does_assigned _ _ c.store_at-outcome.ensures))
     c.stop_at.ensures.outcome c.stop_at.ensures.progress
 
 pub returns-clause-counts : goal.returns-clause-counts
-returns-clause-counts c = λ k h. counted-assigned h _ _ c.store_at-outcome.ensures.memory
+returns-clause-counts c = λ k h. counted-assigned h _ _ (does_assigned _ _ c.store_at-outcome.ensures).memory

@@ -2,6 +2,7 @@ use Rattle.rules.specs.Kinds.{source}
 use Rattle.rules.proofs.Runs.StatementArms.{free-child}
 use Rattle.rules.proofs.Runs.SharedExpressions.{target-expression, evaluated-alike}
 use Rattle.rules.proofs.Runs.PlainArms.{run-free}
+use Rattle.run_changes.proofs.OwnStops.{does_freed}
 use Rattle.plain_runs.proofs.Laws.{ran-does}
 use Rattle.plain_runs.proofs.ReadyLaws.{ready-within}
 use Rattle.plain_runs.proofs.release.Goals as goal
@@ -16,5 +17,5 @@ returns-clause-outcome c =
     let r = c.requires in
     ran-does c.args.n _ c.args.progress.now _ (run-free _ _ r.0.is _ _ _ r.1)
     (rw (c.evaluate_a-value.ensures, evaluated-alike _ _ _ _ _ (free-child source _ _ r.0.is r.1).2) at
-    c.free_at-outcome.ensures.change)
+    (does_freed _ c.free_at-outcome.ensures.change))
     c.stop_at.ensures.outcome c.stop_at.ensures.progress
