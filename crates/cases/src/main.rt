@@ -9,13 +9,13 @@ use number_division::{divide, divide_nearest};
 use rules::{Block, Counts, ExecutionMemory, MEMORY_LENGTH, Pointer, Stop, Use, Value};
 use std::io;
 
-fn print_stop(rt: &impl Print, stop: Stop) -> io::Result<()> {
-    let number = u32::from(stop);
+fn print_stop<E: Into<u32>>(rt: &impl Print, stop: E) -> io::Result<()> {
+    let number = stop.into();
     print!(rt; " {number}")
 }
 
 // 0, or the number of the ending.
-fn print_ending(rt: &impl Print, outcome: Result<(), Stop>) -> io::Result<()> {
+fn print_ending<E: Into<u32>>(rt: &impl Print, outcome: Result<(), E>) -> io::Result<()> {
     match outcome {
         Ok(()) => print!(rt; " 0"),
         Err(stop) => print_stop(rt, stop),
@@ -84,13 +84,16 @@ fn print_block(rt: &impl Print, mem: &ExecutionMemory, name: u16) -> io::Result<
     }
 }
 
-// The ending of statement 42 where the let's variable takes a new block of no cells.
+// The ending of statement 42 where the let's variable takes a new block of no cells, answered by its number.
 fn print_empty(rt: &impl Print, mem: &mut ExecutionMemory, counts: &mut Counts) -> io::Result<()>
     requires { Counted (memory_of mem.old) counts.old }
 {
     let place = Pointer { name: 3, offset: 0 };
     let size = Value::Integer(0);
-    print_ending(rt, run_allocation::new_at(mem, counts, Ok(place), Ok(size)))
+    print_ending(
+        rt,
+        run_allocation::new_at::<u32>(mem, counts, Ok(place), Ok(size)),
+    )
 }
 
 fn print_p8(rt: &impl Print) -> io::Result<()> {
