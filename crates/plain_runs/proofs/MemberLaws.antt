@@ -4,7 +4,7 @@ use native.Mathlib.Decide.{ℕ_discrete}
 use native.Mathlib.Omega.{arith}
 use mathlib.Core.List.{List, []}
 use mathlib.Core.Path.{◌≡◌, refl, sym, ap, ◌∙◌, subst}
-use Rattle.std.specs.Prelude.{Option, Some, None, Ok, Err, true}
+use Rattle.std.specs.Prelude.{Option, Some, None, Result, Ok, Err, true}
 use Rattle.rules.specs.Records.{kind_of, mark_of, child_a, child_b, child_c}
 use Rattle.rules.specs.Memory.{Memory, stopped, fixed, Made, make_block, end_block}
 use Rattle.rules.specs.Trees.{Statement}
@@ -25,7 +25,7 @@ use Rattle.memory_freeing.specs.LetBlocks.{LetBlock}
 use Rattle.memory_freeing.proofs.LetBlockLaws.{let-kept}
 use Rattle.run_endings.specs.Ending.{Ended}
 use Rattle.run_children.specs.Children.{first_of, rest_of}
-use Rattle.run_children.proofs.Sequences.{first-is, first-self, rest-is, rest-nothing}
+use Rattle.run_children.proofs.Sequences.{first-is, first-self, first_alone, rest-is, rest-nothing}
 use Rattle.run_changes.specs.Changing.{Does}
 use Rattle.run_changes.proofs.ChangeLaws.{becomes-is, becomes-then, made_by, unmade-by}
 use Rattle.plain_runs.specs.Running.{Ready, enclosed, EndsSo, Ran}
@@ -76,6 +76,12 @@ module _ {t : List ℕ} {n : ℕ} {ρ : Variables} {entry : List ℕ} {fuel : �
               answer = g.answer ∙ u.answer;
               memory = becomes-is u.memory.view (becomes-then u.memory g.memory);
             }
+
+    -- where nothing follows, its outcome is that of all
+    pub left-ends : {next : Option ℕ} → next ≡ rest_of t m → next ≡ None → (r : Result Unit Stop)
+        → Ran (run (statement_at t x) ρ (memory_of l) f) r p l l₁
+        → Ran (run (statement_at t n) ρ (memory_of entry) fuel) r p entry l₁
+    left-ends j z r w = leading _ _ (rw (i, first_alone t m (sym j ∙ z)) at w)
 
     pub left-stops : {c : Stop} → Ran (run (statement_at t x) ρ (memory_of l) f) (Err c) p l l₁
         → Ran (run (statement_at t n) ρ (memory_of entry) fuel) (Err c) p entry l₁

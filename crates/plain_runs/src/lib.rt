@@ -49,7 +49,9 @@ fn test_predicate(
     value::test(evaluation_predicates::evaluate_predicate(table, a, variables, temporaries, mem))
 }
 
-// Place A takes expression B.
+// Place A takes expression B. Not inlined, nor are 42 and 48: `run` has the rest in it, and each part of a statement
+// that it runs would save what these need too.
+#[inline(never)]
 fn assign(
     table: &Table,
     n: usize,
@@ -72,6 +74,7 @@ fn assign(
 }
 
 // Place A takes a new block of B cells.
+#[inline(never)]
 fn allocate(
     table: &Table,
     n: usize,
@@ -119,6 +122,7 @@ fn release(
 }
 
 // Predicate A is asserted.
+#[inline(never)]
 fn assert(
     table: &Table,
     n: usize,
@@ -138,7 +142,7 @@ fn assert(
 }
 
 // Runs statement n. Of a sequence A runs, and B where A finished; as B may be one again, they are a loop. Only an A
-// that is a sequence is run by a call of its own.
+// that is a sequence is run by a call of its own. Where nothing follows, how that part comes out is the whole's outcome.
 #[cycle(run)]
 pub fn run(
     table: &Table,
@@ -156,17 +160,24 @@ pub fn run(
         mem.old mem.new }
     ensures counts { Counted (memory_of mem.new) counts.new }
 {
-    let mut next = Some(n);
-    while let Some(at) = next {
+    let mut at = n;
+    loop {
         let first = run_children::first_of(table, at);
-        next = run_children::rest_of(table, at);
         if table::kind(&table[..], first) == 44 {
             run(table, first, variables, temporaries, mem, counts, progress)?;
+            let Some(then) = run_children::rest_of(table, at) else {
+                return Ok(());
+            };
+            at = then;
         } else {
-            run_single(table, first, variables, temporaries, mem, counts, progress)?;
+            let outcome = run_single(table, first, variables, temporaries, mem, counts, progress);
+            let Some(then) = run_children::rest_of(table, at) else {
+                return outcome;
+            };
+            outcome?;
+            at = then;
         }
     }
-    Ok(())
 }
 
 // Runs statement n, which is no sequence.

@@ -1,6 +1,6 @@
 -- What is left of a statement as it runs; the members ask of one another what stands in the table.
-use Rattle.std.proofs.Common.{◌≡◌, ◌≢◌, ℕ, List, ◌<◌, refl, ◌∙◌, length, set, arith, rules}
-use Rattle.std.specs.Prelude.{Ok, Err, true, false}
+use Rattle.std.proofs.Common.{◌≡◌, ◌≢◌, ℕ, List, ◌<◌, refl, sym, ◌∙◌, subst, length, set, arith, rules}
+use Rattle.std.specs.Prelude.{Some, Ok, Err, true, false}
 use Rattle.rules.specs.Records.{kind_of, mark_of, child_a}
 use Rattle.rules.specs.Nodes.{statement_at}
 use Rattle.rules.specs.Memory.{Memory, stopped, end_block}
@@ -17,11 +17,12 @@ use Rattle.run_variables.proofs.VariableLaws.{variables-set}
 use Rattle.plain_runs.specs.Running.{enclosed}
 use Rattle.plain_runs.proofs.Laws.{ends-is, ends-from, ends-finished, ends-into, ends-then, ends-stopped}
 use Rattle.plain_runs.proofs.Laws.{ran-does, ran-exits}
-use Rattle.plain_runs.proofs.MemberLaws.{left_ready, left-goes, left-stops, branch_by, turn_by, turn-out}
-use Rattle.plain_runs.proofs.MemberLaws.{turn-goes, turn-stops, turn-spends, let-made, let-unmade, does-unmade}
-use Rattle.plain_runs.proofs.MemberLaws.{inside-block}
+use Rattle.plain_runs.proofs.MemberLaws.{left_ready, left-goes, left-ends, left-stops, branch_by}
+use Rattle.plain_runs.proofs.MemberLaws.{turn_by, turn-out, turn-goes, turn-stops, turn-spends, let-made, let-unmade}
+use Rattle.plain_runs.proofs.MemberLaws.{does-unmade, inside-block}
 use Rattle.plain_runs.proofs.ReadyLaws.{ready-within, branch-parts, ready-then, ready-else, while-parts}
 use Rattle.plain_runs.proofs.ReadyLaws.{ready-turn, ready-inside, ready-first, first-up-to, first-below, rest-below}
+use Rattle.plain_runs.proofs.ReadyLaws.{left_size}
 use Rattle.plain_runs.proofs.+run.Goals as goal
 
 pub branch-test_a-requires : goal.branch-test_a-requires
@@ -152,67 +153,83 @@ repeat-returns-clause-outcome t c =
     (does-stop Stop.NoFuel i.mem) c.stop_at-2.ensures.outcome c.stop_at-2.ensures.progress)
 
 pub run-first_of-first-requires : goal.run-first_of-first-requires
-run-first_of-first-requires t c = ready-within (left_ready c.loop-next.invariant.left c.in-Some.is).0
-
-pub run-rest_of-next-requires : goal.run-rest_of-next-requires
-run-rest_of-next-requires t c = ready-within (left_ready c.loop-next.invariant.left c.in-Some.is).0
+run-first_of-first-requires t c = ready-within (left_ready c.loop-mem.invariant.left refl).0
 
 pub run-kind-requires : goal.run-kind-requires
 run-kind-requires t c =
-    rw c.first_of-first.ensures (ready-within (ready-first (left_ready c.loop-next.invariant.left c.in-Some.is).0))
+    rw c.first_of-first.ensures (ready-within (ready-first (left_ready c.loop-mem.invariant.left refl).0))
 
 pub run-run-requires : goal.run-run-requires
 run-run-requires t c =
-    let i = c.loop-next.invariant in
-    let r = left_ready i.left c.in-Some.is in
+    let i = c.loop-mem.invariant in
+    let r = left_ready i.left refl in
     let T = c.args.table.now in
-    let m = c.in-Some.at in
+    let m = c.loop-mem.at in
     let q : kind_of T (first_of T m) ≡ 44 = cc in
     rw c.first_of-first.ensures
     (omega (arith, first-below r.0 (sequence-first T m q), r.1), (ready-first r.0, i.counted))
 
-pub run-run_single-requires : goal.run-run_single-requires
-run-run_single-requires t c =
-    let i = c.loop-next.invariant in
-    let r = left_ready i.left c.in-Some.is in
+pub run-rest_of-requires : goal.run-rest_of-requires
+run-rest_of-requires t c = ready-within (left_ready c.loop-mem.invariant.left refl).0
+
+pub run-loop-mem-smaller-then-kind-eq44 : goal.run-loop-mem-smaller-then-kind-eq44
+run-loop-mem-smaller-then-kind-eq44 t c =
+    subst (λ x. left_size x < left_size (Some c.loop-mem.at)) (sym c.rest_of.ensures ∙ c.in-Some.is)
+    (rest-below (left_ready c.loop-mem.invariant.left refl).0)
+
+pub run-loop-mem-preserved-then-kind-eq44 : goal.run-loop-mem-preserved-then-kind-eq44
+run-loop-mem-preserved-then-kind-eq44 t c = record {
+  left = left-goes c.loop-mem.invariant.left refl c.first_of-first.ensures c.run.new.progress
+      c.in_ok-run.ensures.outcome (sym c.in-Some.is ∙ c.rest_of.ensures);
+  counted = c.run.ensures.counts;
+}
+
+pub run-returns-in_default-clause-outcome : goal.run-returns-in_default-clause-outcome
+run-returns-in_default-clause-outcome t c =
+    left-ends c.loop-mem.invariant.left refl c.first_of-first.ensures c.run.new.progress c.rest_of.ensures
+    (search rules) (Ok tt) c.in_ok-run.ensures.outcome
+
+pub run-returns-in_err-run-clause-outcome : goal.run-returns-in_err-run-clause-outcome
+run-returns-in_err-run-clause-outcome t c =
+    ran-exits _ c.from_residual.ensures.1
+    (left-stops c.loop-mem.invariant.left refl c.first_of-first.ensures c.run.new.progress
+    c.in_err-run.ensures.outcome)
+
+pub run-run_single-outcome-requires : goal.run-run_single-outcome-requires
+run-run_single-outcome-requires t c =
+    let i = c.loop-mem.invariant in
+    let r = left_ready i.left refl in
     let d : kind_of c.args.table.now c.first_of-first.result ≢ 44 = λ e. c.if-kind-eq44.false (c.kind.ensures ∙ e) in (
       rw c.first_of-first.ensures (omega (arith, first-up-to r.0, r.1)),
       (rw c.first_of-first.ensures (ready-first r.0), d, i.counted),
     )
 
-pub run-loop-next-smaller-in-Continue-1 : goal.run-loop-next-smaller-in-Continue-1
-run-loop-next-smaller-in-Continue-1 t c =
-    rw (c.rest_of-next.ensures, c.in-Some.is) (rest-below (left_ready c.loop-next.invariant.left c.in-Some.is).0)
+pub run-rest_of-requires-else-kind-eq44 : goal.run-rest_of-requires-else-kind-eq44
+run-rest_of-requires-else-kind-eq44 t c = ready-within (left_ready c.loop-mem.invariant.left refl).0
 
-pub run-loop-next-smaller : goal.run-loop-next-smaller
-run-loop-next-smaller t c =
-    rw (c.rest_of-next.ensures, c.in-Some.is) (rest-below (left_ready c.loop-next.invariant.left c.in-Some.is).0)
+pub run-returns-in_default-rest_of-clause-outcome : goal.run-returns-in_default-rest_of-clause-outcome
+run-returns-in_default-rest_of-clause-outcome t c =
+    left-ends c.loop-mem.invariant.left refl c.first_of-first.ensures c.run_single-outcome.new.progress
+    c.rest_of-else-kind-eq44.ensures (search rules) _ c.run_single-outcome.ensures.outcome
 
-pub run-loop-next-preserved-in-Continue-1 : goal.run-loop-next-preserved-in-Continue-1
-run-loop-next-preserved-in-Continue-1 t c = record {
-  left = left-goes c.loop-next.invariant.left c.in-Some.is c.first_of-first.ensures c.run.new.progress
-      c.in_ok-run.ensures.outcome c.rest_of-next.ensures;
-  counted = c.run.ensures.counts;
+pub run-loop-mem-smaller : goal.run-loop-mem-smaller
+run-loop-mem-smaller t c =
+    subst (λ x. left_size x < left_size (Some c.loop-mem.at))
+    (sym c.rest_of-else-kind-eq44.ensures ∙ c.in-Some-rest_of.is)
+    (rest-below (left_ready c.loop-mem.invariant.left refl).0)
+
+pub run-loop-mem-preserved : goal.run-loop-mem-preserved
+run-loop-mem-preserved t c = record {
+  left = left-goes c.loop-mem.invariant.left refl c.first_of-first.ensures c.run_single-outcome.new.progress
+      c.in_ok-outcome.ensures.outcome (sym c.in-Some-rest_of.is ∙ c.rest_of-else-kind-eq44.ensures);
+  counted = c.run_single-outcome.ensures.counts;
 }
 
-pub run-loop-next-preserved : goal.run-loop-next-preserved
-run-loop-next-preserved t c = record {
-  left = left-goes c.loop-next.invariant.left c.in-Some.is c.first_of-first.ensures c.run_single.new.progress
-      c.in_ok-run_single.ensures.outcome c.rest_of-next.ensures;
-  counted = c.run_single.ensures.counts;
-}
-
-pub run-returns-in_err-run-clause-outcome : goal.run-returns-in_err-run-clause-outcome
-run-returns-in_err-run-clause-outcome t c =
-    ran-exits _ c.from_residual.ensures.1
-    (left-stops c.loop-next.invariant.left c.in-Some.is c.first_of-first.ensures c.run.new.progress
-    c.in_err-run.ensures.outcome)
-
-pub run-returns-in_err-run_single-clause-outcome : goal.run-returns-in_err-run_single-clause-outcome
-run-returns-in_err-run_single-clause-outcome t c =
-    ran-exits _ c.from_residual-in_err-run_single.ensures.1
-    (left-stops c.loop-next.invariant.left c.in-Some.is c.first_of-first.ensures c.run_single.new.progress
-    c.in_err-run_single.ensures.outcome)
+pub run-returns-in_err-outcome-clause-outcome : goal.run-returns-in_err-outcome-clause-outcome
+run-returns-in_err-outcome-clause-outcome t c =
+    ran-exits _ c.from_residual-in_err-outcome.ensures.1
+    (left-stops c.loop-mem.invariant.left refl c.first_of-first.ensures c.run_single-outcome.new.progress
+    c.in_err-outcome.ensures.outcome)
 
 pub run_single-kind-requires : goal.run_single-kind-requires
 run_single-kind-requires t c = ready-within c.requires.0

@@ -1,6 +1,7 @@
 -- The measures, by the record number. In a run's loop what remains is at the record that the loop has come to; in a
 -- while's loop, at the while itself, by the fuel that is left.
 use Rattle.std.proofs.Common.{◌+◌, ◌*◌}
+use Rattle.std.specs.Prelude.{Some}
 use Rattle.rules.specs.Nodes.{statement_at}
 use Rattle.rules.specs.Plain as plain
 use Rattle.rules.specs.Layout.{memory_of}
@@ -28,14 +29,14 @@ decreases-run_inside l = l.n * 4
 abbrev pub decreases-run_single : goal.decreases-run_single
 decreases-run_single l = l.n * 4 + 2
 
-abbrev pub invariant-run-loop-next : goal.invariant-run-loop-next
-invariant-run-loop-next l = record {
-  left : Left l.table l.n (variables_of l.variables) l.fn.mem l.fn.progress.fuel l.next l.mem l.progress.fuel;
+abbrev pub invariant-run-loop-mem : goal.invariant-run-loop-mem
+invariant-run-loop-mem l = record {
+  left : Left l.table l.n (variables_of l.variables) l.fn.mem l.fn.progress.fuel (Some l.at) l.mem l.progress.fuel;
   counted : Counted (memory_of l.mem) l.counts;
 }
 
-abbrev pub decreases-run-loop-next : goal.decreases-run-loop-next
-decreases-run-loop-next l = left_size l.next
+abbrev pub decreases-run-loop-mem : goal.decreases-run-loop-mem
+decreases-run-loop-mem l = left_size (Some l.at)
 
 abbrev pub invariant-repeat-loop-progress : goal.invariant-repeat-loop-progress
 invariant-repeat-loop-progress l = record {
