@@ -5,7 +5,8 @@ use native.Mathlib.Omega.{arith}
 use mathlib.Core.List.{List}
 use mathlib.Core.Logic.{inl, inr}
 use mathlib.Core.Path.{◌≡◌, sym, ap, ◌∙◌, subst}
-use Rattle.std.specs.Prelude.{Option, Some, None, true, false, Ok, Err}
+use Rattle.std.specs.Prelude.{Option, Some, None, true, false, Ok, Err, IsErrAnd}
+use Rattle.std.proofs.lemmas.Result.{err_from_is_err_and}
 use Rattle.rules.specs.Records.{kind_of, mark_of, child_a, child_b, child_c}
 use Rattle.rules.specs.Memory.{Memory, fixed, Made, unmade, made_in, make_block, end_block}
 use Rattle.rules.specs.Flow.{Outcome, finished, into, next, decide, in_let}
@@ -183,6 +184,22 @@ module _ {t : List ℕ} {n : ℕ} {ρ : Variables} {entry : Lent} {fuel m : ℕ}
 
   pub stays : {c : Stopped} {y : Lent} → Runs t (first_of t m) ρ left (Err c) x y → Runs t n ρ fuel (Err c) entry y
   stays w = e.ends (first-stays ρ e.ready left w)
+
+  -- k being what it runs first
+  module _ {k : ℕ} (i : k ≡ first_of t m) {y : Lent} where
+    pub left-falls : {g : ℕ} {next then : Option ℕ} → next ≡ Some m → then ≡ rest_of t m
+        → Runs t k ρ left (Ok g) x y → height then < height next
+    left-falls s j w = rw (s, j) (goes-on (rw i at w)).1
+
+    pub left-goes : {g : ℕ} {then : Option ℕ} → then ≡ rest_of t m → Runs t k ρ left (Ok g) x y
+        → Remaining t n ρ entry fuel then y g
+    left-goes j w = rw j (goes-on (rw i at w)).0
+
+    pub left-stops : {c : Stopped} (r : Ended) → IsErrAnd r (λ z. z ≡ c) → Runs t k ρ left (Err c) x y
+        → Runs t n ρ fuel r entry y
+    left-stops r q w =
+        let p = err_from_is_err_and r q in
+        rw (p.1, p.2) (stays (rw i at w))
 
 -- a let, and its block, made in memory
 module _ {t : List ℕ} {n : ℕ} (ρ : Variables) (h : Ready t n) (x : Lent) (q : kind_of t n ≡ 47) (f : ℕ) where

@@ -2,7 +2,7 @@
 
 #![tactic(auto)]
 
-ghost use Rattle.std.specs.Prelude.{◌≢◌, ◌≡◌};
+ghost use Rattle.std.specs.Prelude.{◌≡◌};
 ghost use Rattle.rules.specs.Records.{kind_of};
 ghost use Rattle.rules.specs.Layout.{memory_of};
 ghost use Rattle.memory_freeing.specs.LetBlocks.{LetBlock};
@@ -17,7 +17,8 @@ use rules::{
 use run_endings::{Ended, Stopped};
 
 // Runs statement n. Of a sequence A runs, and B where A finished; as B may be one again, they are a loop. Only an A
-// that is a sequence is run by a call of its own.
+// that is a sequence is run by a call of its own. One match tells all kinds apart, so that from a statement that runs no
+// other the way to the next one is a jump.
 #[cycle(run)]
 pub fn run(
     table: &Table,
@@ -42,8 +43,8 @@ pub fn run(
     while let Some(at) = next {
         let first = run_children::first_of(table, at);
         next = run_children::rest_of(table, at);
-        left = if table::kind(&table[..], first) == 44 {
-            run(
+        left = match table::kind(&table[..], first) {
+            44 => run(
                 table,
                 first,
                 variables,
@@ -53,9 +54,8 @@ pub fn run(
                 owners,
                 counts,
                 left,
-            )?
-        } else {
-            run_single(
+            )?,
+            45 | 66 => branch(
                 table,
                 first,
                 variables,
@@ -65,79 +65,43 @@ pub fn run(
                 owners,
                 counts,
                 left,
-            )?
+            )?,
+            46 => repeat(
+                table,
+                first,
+                variables,
+                temporaries,
+                mem,
+                obs,
+                owners,
+                counts,
+                left,
+            )?,
+            47 => enclose(
+                table,
+                first,
+                variables,
+                temporaries,
+                mem,
+                obs,
+                owners,
+                counts,
+                left,
+            )?,
+            _ => watched_statements::step(
+                table,
+                first,
+                variables,
+                temporaries,
+                mem,
+                obs,
+                owners,
+                counts,
+                left,
+            )?,
         };
     }
     Ok(left)
-}
-
-// Runs statement n, which is no sequence.
-#[cycle(run)]
-fn run_single(
-    table: &Table,
-    n: usize,
-    variables: &Variables,
-    temporaries: &mut Temporaries,
-    mem: &mut ExecutionMemory,
-    obs: &mut ObservationMemory,
-    owners: &mut MarkOwners,
-    counts: &mut Counts,
-    fuel: u32,
-) -> Ended
-    requires { Ready table.now n
-        × (kind_of table.now n ≢ 44)
-        × Beside mem.old obs.old counts.old owners.old }
-    ensures outcome { Runs table.now n (variables_of variables.now) fuel result
-        (lent mem.old obs.old temporaries.old)
-        (lent mem.new obs.new temporaries.new) }
-    ensures beside { Beside mem.new obs.new counts.new owners.new }
-{
-    match table::kind(&table[..], n) {
-        45 | 66 => branch(
-            table,
-            n,
-            variables,
-            temporaries,
-            mem,
-            obs,
-            owners,
-            counts,
-            fuel,
-        ),
-        46 => repeat(
-            table,
-            n,
-            variables,
-            temporaries,
-            mem,
-            obs,
-            owners,
-            counts,
-            fuel,
-        ),
-        47 => enclose(
-            table,
-            n,
-            variables,
-            temporaries,
-            mem,
-            obs,
-            owners,
-            counts,
-            fuel,
-        ),
-        _ => watched_statements::step(
-            table,
-            n,
-            variables,
-            temporaries,
-            mem,
-            obs,
-            owners,
-            counts,
-            fuel,
-        ),
-    }
 }
 
 // B or C, by a condition or a temporary.

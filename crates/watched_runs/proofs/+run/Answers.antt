@@ -1,11 +1,12 @@
 -- The members ask of one another what stands in the table.
-use Rattle.std.proofs.Common.{◌≡◌, ◌≢◌, ℕ, List, ◌-◌, ◌<◌, ◌≤◌, sym, ap, ◌∙◌, length, set, arith, rules}
+use Rattle.std.proofs.Common.{◌≡◌, ℕ, List, ◌-◌, ◌<◌, ◌≤◌, sym, ap, ◌∙◌, length, set, arith, rules}
 use Rattle.std.proofs.lemmas.Result.{err_from_is_err_and}
 use Rattle.std.specs.Prelude.{Ok}
 use Rattle.rules.specs.Records.{kind_of, mark_of, child_a}
 use Rattle.rules.specs.Evaluation.{extend}
 use Rattle.evaluation.specs.State.{variables_of}
 use Rattle.run_changes.proofs.ChangeLaws.{let-block}
+use Rattle.run_children.specs.Children.{first_of}
 use Rattle.run_children.proofs.Sequences.{sequence-first}
 use Rattle.run_endings.specs.Ending.{Ended}
 use Rattle.run_variables.proofs.VariableLaws.{variables-set}
@@ -14,7 +15,7 @@ use Rattle.watched_statements.proofs.Laws.{fuel-left}
 use Rattle.watched_statements.proofs.ReadyLaws.{ready-within, branch-parts, ready-then, ready-else, while-parts}
 use Rattle.watched_statements.proofs.ReadyLaws.{ready-turn, ready-inside, ready-run-first}
 use Rattle.watched_statements.proofs.ReadyLaws.{run-first-within, run-first-smaller}
-use Rattle.watched_runs.proofs.MemberLaws.{goes-on, stays, branch-then, branch-else, branch-stops}
+use Rattle.watched_runs.proofs.MemberLaws.{left-falls, left-goes, left-stops, branch-then, branch-else, branch-stops}
 use Rattle.watched_runs.proofs.MemberLaws.{turn-goes, turn-stays, turn-ends, turn-fails, turn-out, let-made, let-unmade}
 use Rattle.watched_runs.proofs.MemberLaws.{inside-block, inside-ends, inside-stays}
 use Rattle.watched_runs.proofs.+run.Goals as goal
@@ -146,64 +147,135 @@ pub run-run-requires : goal.run-run-requires
 run-run-requires t c =
     let T = c.args.table.now in
     let e = rw c.in-Some.is at c.loop-next.invariant.remaining in
-    let k = sym (c.kind.ensures ∙ ap (kind_of T) c.first_of-first.ensures) ∙ c.if-kind-eq44.true in
+    let k : kind_of T (first_of T c.in-Some.at) ≡ 44 = cc in
     rw c.first_of-first.ensures (
       omega (arith, run-first-smaller e.ready (sequence-first T c.in-Some.at k), e.within),
       (ready-run-first e.ready, c.loop-next.invariant.beside),
     )
 
-pub run-run_single-requires : goal.run-run_single-requires
-run-run_single-requires t c =
+pub run-branch-table-requires : goal.run-branch-table-requires
+run-branch-table-requires t c =
     let e = rw c.in-Some.is at c.loop-next.invariant.remaining in
-    let d : kind_of c.args.table.now c.first_of-first.result ≢ 44 = λ k. c.if-kind-eq44.false (c.kind.ensures ∙ k) in
-    rw c.first_of-first.ensures (
-      omega (arith, run-first-within e.ready, e.within),
-      (ready-run-first e.ready, rw c.first_of-first.ensures at d, c.loop-next.invariant.beside),
+    let k = c.kind.ensures in (
+      omega (arith, run-first-within e.ready, e.within, c.first_of-first.ensures),
+      (rw c.first_of-first.ensures (ready-run-first e.ready), search rules, c.loop-next.invariant.beside),
     )
 
-pub run-returns-in_err-left-clause-outcome : goal.run-returns-in_err-left-clause-outcome
-run-returns-in_err-left-clause-outcome t c =
+pub run-repeat-requires : goal.run-repeat-requires
+run-repeat-requires t c =
     let e = rw c.in-Some.is at c.loop-next.invariant.remaining in
-    let p = err_from_is_err_and c.from_residual.result c.from_residual.ensures.1 in
-    rw (p.1, p.2) (stays e (rw c.first_of-first.ensures at c.in_err-left.ensures.outcome))
+    let k = c.kind.ensures in (
+      omega (arith, run-first-within e.ready, e.within, c.first_of-first.ensures),
+      (rw c.first_of-first.ensures (ready-run-first e.ready), search rules, c.loop-next.invariant.beside),
+    )
 
-pub run-returns-in_err-left-2-clause-outcome : goal.run-returns-in_err-left-2-clause-outcome
-run-returns-in_err-left-2-clause-outcome t c =
+pub run-enclose-requires : goal.run-enclose-requires
+run-enclose-requires t c =
     let e = rw c.in-Some.is at c.loop-next.invariant.remaining in
-    let p = err_from_is_err_and c.from_residual-in_err-left-2.result c.from_residual-in_err-left-2.ensures.1 in
-    rw (p.1, p.2) (stays e (rw c.first_of-first.ensures at c.in_err-left-2.ensures.outcome))
+    let k = c.kind.ensures in (
+      omega (arith, run-first-within e.ready, e.within, c.first_of-first.ensures),
+      (rw c.first_of-first.ensures (ready-run-first e.ready), search rules, c.loop-next.invariant.beside),
+    )
 
--- the measure falls, and the invariant holds of what follows
-pub run-loop-next-smaller-in_ok-left : goal.run-loop-next-smaller-in_ok-left
-run-loop-next-smaller-in_ok-left t c =
+pub run-step-requires : goal.run-step-requires
+run-step-requires t c =
     let e = rw c.in-Some.is at c.loop-next.invariant.remaining in
-    rw (c.rest_of-next.ensures, c.in-Some.is)
-    (goes-on e (rw c.first_of-first.ensures at c.in_ok-left.ensures.outcome)).1
+    let k = c.kind.ensures in (
+      rw c.first_of-first.ensures (ready-run-first e.ready),
+      ((λ z. omega arith), (λ z. grind arith), (λ z. omega arith), (λ z. omega arith), (λ z. grind arith)),
+      c.loop-next.invariant.beside,
+    )
 
-pub run-loop-next-preserved-in_ok-left : goal.run-loop-next-preserved-in_ok-left
-run-loop-next-preserved-in_ok-left t c =
+-- whatever its first part is, the measure falls where it finished, and the invariant holds of what follows
+pub run-loop-next-smaller-in_ok-left-in-44 : goal.run-loop-next-smaller-in_ok-left-in-44
+run-loop-next-smaller-in_ok-left-in-44 t c =
     let e = rw c.in-Some.is at c.loop-next.invariant.remaining in
-    rw c.rest_of-next.ensures (record {
-      remaining = (goes-on e (rw c.first_of-first.ensures at c.in_ok-left.ensures.outcome)).0;
+    left-falls e c.first_of-first.ensures c.in-Some.is c.rest_of-next.ensures c.in_ok-left-in-44.ensures.outcome
+
+pub run-loop-next-preserved-in_ok-left-in-44 : goal.run-loop-next-preserved-in_ok-left-in-44
+run-loop-next-preserved-in_ok-left-in-44 t c =
+    let e = rw c.in-Some.is at c.loop-next.invariant.remaining in
+    record {
+      remaining = left-goes e c.first_of-first.ensures c.rest_of-next.ensures c.in_ok-left-in-44.ensures.outcome;
       beside = c.run.ensures.beside;
-    })
+    }
+
+pub run-returns-in_err-left-in-44-clause-outcome : goal.run-returns-in_err-left-in-44-clause-outcome
+run-returns-in_err-left-in-44-clause-outcome t c =
+    let e = rw c.in-Some.is at c.loop-next.invariant.remaining in
+    left-stops e c.first_of-first.ensures _ c.from_residual.ensures.1 c.in_err-left-in-44.ensures.outcome
+
+pub run-loop-next-smaller-in_ok-left-in-45 : goal.run-loop-next-smaller-in_ok-left-in-45
+run-loop-next-smaller-in_ok-left-in-45 t c =
+    let e = rw c.in-Some.is at c.loop-next.invariant.remaining in
+    left-falls e c.first_of-first.ensures c.in-Some.is c.rest_of-next.ensures c.in_ok-left-in-45.ensures.outcome
+
+pub run-loop-next-preserved-in_ok-left-in-45 : goal.run-loop-next-preserved-in_ok-left-in-45
+run-loop-next-preserved-in_ok-left-in-45 t c =
+    let e = rw c.in-Some.is at c.loop-next.invariant.remaining in
+    record {
+      remaining = left-goes e c.first_of-first.ensures c.rest_of-next.ensures c.in_ok-left-in-45.ensures.outcome;
+      beside = c.branch-table.ensures.beside;
+    }
+
+pub run-returns-in_err-left-in-45-clause-outcome : goal.run-returns-in_err-left-in-45-clause-outcome
+run-returns-in_err-left-in-45-clause-outcome t c =
+    let e = rw c.in-Some.is at c.loop-next.invariant.remaining in
+    left-stops e c.first_of-first.ensures _ c.from_residual-in_err-left-in-45.ensures.1 c.in_err-left-in-45.ensures.outcome
+
+pub run-loop-next-smaller-in_ok-left-in-46 : goal.run-loop-next-smaller-in_ok-left-in-46
+run-loop-next-smaller-in_ok-left-in-46 t c =
+    let e = rw c.in-Some.is at c.loop-next.invariant.remaining in
+    left-falls e c.first_of-first.ensures c.in-Some.is c.rest_of-next.ensures c.in_ok-left-in-46.ensures.outcome
+
+pub run-loop-next-preserved-in_ok-left-in-46 : goal.run-loop-next-preserved-in_ok-left-in-46
+run-loop-next-preserved-in_ok-left-in-46 t c =
+    let e = rw c.in-Some.is at c.loop-next.invariant.remaining in
+    record {
+      remaining = left-goes e c.first_of-first.ensures c.rest_of-next.ensures c.in_ok-left-in-46.ensures.outcome;
+      beside = c.repeat.ensures.beside;
+    }
+
+pub run-returns-in_err-left-in-46-clause-outcome : goal.run-returns-in_err-left-in-46-clause-outcome
+run-returns-in_err-left-in-46-clause-outcome t c =
+    let e = rw c.in-Some.is at c.loop-next.invariant.remaining in
+    left-stops e c.first_of-first.ensures _ c.from_residual-in_err-left-in-46.ensures.1 c.in_err-left-in-46.ensures.outcome
+
+pub run-loop-next-smaller-in_ok-left-in-47 : goal.run-loop-next-smaller-in_ok-left-in-47
+run-loop-next-smaller-in_ok-left-in-47 t c =
+    let e = rw c.in-Some.is at c.loop-next.invariant.remaining in
+    left-falls e c.first_of-first.ensures c.in-Some.is c.rest_of-next.ensures c.in_ok-left-in-47.ensures.outcome
+
+pub run-loop-next-preserved-in_ok-left-in-47 : goal.run-loop-next-preserved-in_ok-left-in-47
+run-loop-next-preserved-in_ok-left-in-47 t c =
+    let e = rw c.in-Some.is at c.loop-next.invariant.remaining in
+    record {
+      remaining = left-goes e c.first_of-first.ensures c.rest_of-next.ensures c.in_ok-left-in-47.ensures.outcome;
+      beside = c.enclose.ensures.beside;
+    }
+
+pub run-returns-in_err-left-in-47-clause-outcome : goal.run-returns-in_err-left-in-47-clause-outcome
+run-returns-in_err-left-in-47-clause-outcome t c =
+    let e = rw c.in-Some.is at c.loop-next.invariant.remaining in
+    left-stops e c.first_of-first.ensures _ c.from_residual-in_err-left-in-47.ensures.1 c.in_err-left-in-47.ensures.outcome
 
 pub run-loop-next-smaller : goal.run-loop-next-smaller
 run-loop-next-smaller t c =
     let e = rw c.in-Some.is at c.loop-next.invariant.remaining in
-    rw (c.rest_of-next.ensures, c.in-Some.is)
-    (goes-on e (rw c.first_of-first.ensures at c.in_ok-left-2.ensures.outcome)).1
+    left-falls e c.first_of-first.ensures c.in-Some.is c.rest_of-next.ensures c.in_ok-left-in_default-kind.ensures.outcome
 
 pub run-loop-next-preserved : goal.run-loop-next-preserved
 run-loop-next-preserved t c =
     let e = rw c.in-Some.is at c.loop-next.invariant.remaining in
-    rw c.rest_of-next.ensures (record {
-      remaining = (goes-on e (rw c.first_of-first.ensures at c.in_ok-left-2.ensures.outcome)).0;
-      beside = c.run_single.ensures.beside;
-    })
+    record {
+      remaining = left-goes e c.first_of-first.ensures c.rest_of-next.ensures c.in_ok-left-in_default-kind.ensures.outcome;
+      beside = c.step.ensures.beside;
+    }
 
-pub run_single-kind-requires : goal.run_single-kind-requires
-run_single-kind-requires t c = ready-within c.requires.0
+pub run-returns-in_err-left-in_default-kind-clause-outcome : goal.run-returns-in_err-left-in_default-kind-clause-outcome
+run-returns-in_err-left-in_default-kind-clause-outcome t c =
+    let e = rw c.in-Some.is at c.loop-next.invariant.remaining in
+    left-stops e c.first_of-first.ensures _ c.from_residual-in_err-left-in_default-kind.ensures.1 c.in_err-left-in_default-kind.ensures.outcome
 
 -- of a let the child ran, its variable being block k
 child : (T : List ℕ) (n k b v : ℕ) (vs : List ℕ) (f : ℕ) {r : Ended} {x y : Lent} → length vs ≡ 64 → b ≡ child_a T n

@@ -21,9 +21,6 @@ decreases-run l = l.n * 4 + 3
 abbrev pub decreases-run_inside : goal.decreases-run_inside
 decreases-run_inside l = l.n * 4
 
-abbrev pub decreases-run_single : goal.decreases-run_single
-decreases-run_single l = l.n * 4 + 2
-
 abbrev pub invariant-run-loop-next : goal.invariant-run-loop-next
 invariant-run-loop-next l = record {
   remaining : Remaining l.table l.n (variables_of l.variables) (lent l.fn.mem l.fn.obs l.fn.temporaries) l.fuel l.next
