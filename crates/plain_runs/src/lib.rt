@@ -49,8 +49,8 @@ fn test_predicate(
     value::test(evaluation_predicates::evaluate_predicate(table, a, variables, temporaries, mem))
 }
 
-// Place A takes expression B. Not inlined, nor are 42 and 48: `run` has the rest in it, and each part of a statement
-// that it runs would save what these need too.
+// Place A takes expression B. Not inlined, nor is 42: `run` has the rest in it, and each part of a statement that it
+// runs would save what these need too.
 #[inline(never)]
 fn assign(
     table: &Table,
@@ -122,7 +122,6 @@ fn release(
 }
 
 // Predicate A is asserted.
-#[inline(never)]
 fn assert(
     table: &Table,
     n: usize,
