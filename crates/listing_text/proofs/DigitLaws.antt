@@ -11,9 +11,9 @@ use lib.IntN.{ℤ, pos, negsuc, nat_abs}
 use lib.Signed.{lt_z}
 use lib.ListN.{length, length-append}
 use mir.Syntax.{w64}
-use mir.Val.{Fits}
+use mir.Val.{Fits, SFits}
 use borrow.Author.Tests.{ltb-true, lt-ltb, le-ltb}
-use Rattle.std.specs.Fmt.{decimal}
+use Rattle.std.specs.Fmt.{decimal, signed_decimal}
 use Rattle.std.proofs.lemmas.Fmt.{decimal_from_appends, length-decimal-le}
 use Rattle.rules.specs.Listing.{decimal_digits, natural, integer}
 
@@ -66,6 +66,10 @@ natural_decimal n h =
 
 pub natural-printed : (n : ℕ) → Fits w64 n → {text : List ℕ} → text ≡ decimal n → natural n ≡ text
 natural-printed n h e = natural_decimal n h.fits ∙ sym e
+
+pub integer-printed : (z : ℤ) → SFits w64 z → {text : List ℕ} → text ≡ signed_decimal z → integer z ≡ text
+integer-printed (pos n) h e = natural_decimal n (omega (arith, h.sfits)) ∙ sym e
+integer-printed (negsuc n) h e = ap (λ (w : List ℕ). 45 ∷ w) (natural_decimal (suc n) (omega (arith, h.sfits))) ∙ sym e
 
 -- a signed number is its magnitude, behind a sign where it is negative
 pub integer-negative : (z : ℤ) (n : ℕ) → lt_z z (pos 0) ≡ true → n ≡ nat_abs z → integer z ≡ (45 ∷ []) ++ natural n
